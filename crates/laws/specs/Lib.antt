@@ -1,0 +1,13 @@
+pub mod Choice
+pub mod Refusals
+pub mod Cards
+pub mod Law2
+pub mod Auction
+pub mod Law44
+pub mod Law61
+pub mod Law68
+pub mod Law64
+pub mod Law77
+pub mod Law78
+pub mod Record
+pub mod Tally

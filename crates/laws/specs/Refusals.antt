@@ -1,0 +1,96 @@
+-- The numbers of the refusals, each named once, with the Law that is not met where one is.
+-- Assumes nothing.
+use Prim.Native.Nat.{ℕ}
+
+-- what is answered to a question: a refusal by its number, or a value
+pub data Answer (A : Type 0) : Type 0 where
+  refused : ℕ → Answer A
+  answered : A → Answer A
+
+-- no refusal
+abbrev pub accepted : ℕ
+accepted = 0
+
+-- a lent buffer is too short: the answer's, place 0, or the list's, place 1
+abbrev pub shortBuffer : ℕ
+shortBuffer = 1
+
+-- the record ends before a field is whole
+abbrev pub recordEnds : ℕ
+recordEnds = 2
+
+-- board 0, place 0, or table 0, place 1; a fresh tally of a board outside 1 to 127
+abbrev pub noSuchBoard : ℕ
+noSuchBoard = 3
+
+-- Law 1: a seat without thirteen cards; its place is the seat
+abbrev pub notThirteen : ℕ
+notThirteen = 4
+
+-- a code that is no call
+abbrev pub noCall : ℕ
+noCall = 5
+
+-- Law 27: a bid that is not above the last
+abbrev pub insufficientBid : ℕ
+insufficientBid = 6
+
+-- Law 36: a double or a redouble that is not allowed
+abbrev pub inadmissibleDouble : ℕ
+inadmissibleDouble = 7
+
+-- Law 39: a call after the end of the auction
+abbrev pub callAfterEnd : ℕ
+callAfterEnd = 8
+
+-- Law 22: the calls stop before the end of the auction
+abbrev pub auctionUnfinished : ℕ
+auctionUnfinished = 9
+
+-- a play count over 52, or over 0 on a board that was passed out
+abbrev pub playCount : ℕ
+playCount = 10
+
+-- a code that is no card
+abbrev pub noCard : ℕ
+noCard = 11
+
+-- Law 44: a card that is not in the hand of the seat at turn
+abbrev pub cardNotHeld : ℕ
+cardNotHeld = 12
+
+-- a contract without a claim, and fewer than 52 cards
+abbrev pub playUnfinished : ℕ
+playUnfinished = 13
+
+-- Law 68: a claim at another point than the end of a trick, or on a board that was passed out
+abbrev pub noClaimPoint : ℕ
+noClaimPoint = 14
+
+-- Law 68: a claim of more tricks than are left
+abbrev pub claimTooMany : ℕ
+claimTooMany = 15
+
+-- a padding bit is 1, or a byte follows
+abbrev pub notPadding : ℕ
+notPadding = 16
+
+-- a tally that is not as described
+abbrev pub malformedTally : ℕ
+malformedTally = 17
+
+-- tallies of two boards merged
+abbrev pub twoBoards : ℕ
+twoBoards = 18
+
+-- more than 128 results
+abbrev pub tooManyResults : ℕ
+tooManyResults = 19
+
+-- a score that is not valid
+abbrev pub invalidScore : ℕ
+invalidScore = 20
+
+-- a score that the tally does not have
+abbrev pub scoreNotInTally : ℕ
+scoreNotInTally = 21

@@ -1,0 +1,1 @@
+// The Laws as definitions: see specs/. The crate has no function.
