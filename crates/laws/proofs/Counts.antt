@@ -6,7 +6,8 @@ use mathlib.Core.Bool.{Bool, true, false}
 use mathlib.Core.List.{List, [], _∷_, _++_}
 use borrow.Author.Tests.{eqb-true, eqb-false}
 use lib.Dec.{eqb}
-use lib.ListN.{length}
+use lib.ListN.{length, getD, drop}
+use lib.Seq.{drop-cons}
 use Rattle.laws.specs.Choice.{if_then_else_, howMany, some, someBelow}
 use Rattle.laws.proofs.Tests.{by-test, not-both}
 
@@ -23,6 +24,11 @@ module _ {A : Type 0} (test : A → Bool) where
       by-test (test x)
       (λ (q : test x ≡ true). rw q (omega (arith, many-le l)))
       (λ (q : test x ≡ false). rw q (omega (arith, many-le l)))
+
+  -- counted from a place on: that place, and the places after it
+  pub many-drop : (d : A) (l : List A) (i : ℕ) → i < length l → howMany test (drop i l) ≡ (if test (getD l i d) then 1 else 0) + howMany test (drop (suc i) l)
+  unfolding howMany
+  many-drop d l i h = rw (drop-cons l i d h)
 
 -- a number up to n that passes the test, where n does not, is below n
 under : (test : ℕ → Bool) (n k : ℕ) → k < suc n → test n ≡ false → test k ≡ true → k < n
