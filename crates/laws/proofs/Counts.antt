@@ -1,15 +1,15 @@
--- Laws of `howMany`, `some` and `someBelow`, over any test. Assumes nothing.
+-- Laws of `howMany` and `someBelow`, over any test; and a test over a whole table. Assumes nothing.
 use Prim.Native.Nat.{ℕ, zero, suc, _≤_, _<_, _+_}
 use native.Mathlib.Omega.{arith}
 use mathlib.Core.Path.{_≡_, refl}
-use mathlib.Core.Bool.{Bool, true, false}
+use mathlib.Core.Bool.{Bool, true, false, _&&_}
 use mathlib.Core.List.{List, [], _∷_, _++_}
 use borrow.Author.Tests.{eqb-true, eqb-false}
 use lib.Dec.{eqb}
 use lib.ListN.{length, getD, drop}
 use lib.Seq.{drop-cons}
 use Rattle.laws.specs.Choice.{if_then_else_, howMany, some, someBelow}
-use Rattle.laws.proofs.Tests.{by-test, not-both}
+use Rattle.laws.proofs.Tests.{by-test, not-both, and-left, and-right}
 
 module _ {A : Type 0} (test : A → Bool) where
   pub many-append : (l m : List A) → howMany test (l ++ m) ≡ howMany test l + howMany test m
@@ -54,3 +54,15 @@ module _ (test : ℕ → Bool) where
       by-test (test n)
       (λ (q : test n ≡ true). rw q)
       (λ (q : test n ≡ false). rw q (some-below n k (under test n k h q e) e))
+
+-- whether every number below n passes a test: computed over a whole table, it gives the rule at each entry
+abbrev pub everyBelow : ℕ → (ℕ → Bool) → Bool
+everyBelow zero test = true
+everyBelow (suc n) test = test n && everyBelow n test
+
+pub every-below : (n : ℕ) (test : ℕ → Bool) → everyBelow n test ≡ true → (k : ℕ) → k < n → test k ≡ true
+every-below zero test e k h = absurd (omega arith)
+every-below (suc n) test e k h =
+    by-test (eqb k n)
+    (λ (q : eqb k n ≡ true). rw (eqb-true k n q) (and-left (test n) (everyBelow n test) e))
+    (λ (q : eqb k n ≡ false). every-below n test (and-right (test n) (everyBelow n test) e) k (omega (arith, eqb-false k n q)))

@@ -1,3 +1,6 @@
 pub mod Tests
 pub mod Scores
+pub mod Integers
 pub mod Counts
+pub mod Scale
+pub mod Score

@@ -4,12 +4,12 @@ use native.Mathlib.Nat.{lt-trans}
 use native.Mathlib.Omega.{arith}
 use mathlib.Core.Path.{_≡_, refl, ap}
 use mathlib.Core.Bool.{true, false}
-use borrow.Author.Tests.{lt-ltb, le-ltb, ltb-true, ltb-false, leb-true, leb-false, eqb-true, eqb-false, eq-eqb, ne-eqb}
+use borrow.Author.Tests.{lt-ltb, le-ltb, ltb-true, ltb-false, leb-true, leb-false, le-leb, eqb-true, eqb-false, eq-eqb, ne-eqb}
 use lib.Dec.{ltb, eqb}
 use lib.IntN.{ℤ, pos, negsuc}
 use lib.Signed.{ltZ, leZ}
 use Rattle.laws.specs.Law78.{sameScore}
-use Rattle.laws.proofs.Tests.{by-test}
+use Rattle.laws.proofs.Tests.{by-test, not-both}
 
 -- ---- the same score
 pub same-true : (a b : ℤ) → sameScore a b ≡ true → a ≡ b
@@ -59,6 +59,12 @@ not-le-below (pos a) (pos b) e = lt-ltb b a (leb-false a b e)
 not-le-below (pos a) (negsuc b) e = refl
 not-le-below (negsuc a) (pos b) e = cc
 not-le-below (negsuc a) (negsuc b) e = lt-ltb a b (leb-false b a e)
+
+pub below-at-most : (a b : ℤ) → leZ a b ≡ false → leZ b a ≡ true
+below-at-most (pos a) (pos b) e = le-leb b a (omega (arith, leb-false a b e))
+below-at-most (pos a) (negsuc b) e = refl
+below-at-most (negsuc a) (pos b) e = not-both true refl e
+below-at-most (negsuc a) (negsuc b) e = le-leb a b (omega (arith, leb-false b a e))
 
 -- ---- a is below b, with all that the tests say of the two
 pub record Below (a b : ℤ) : Type 0 where

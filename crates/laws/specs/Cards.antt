@@ -10,13 +10,37 @@ use lib.Dec.{eqb}
 use lib.ListN.{getD}
 use Rattle.laws.specs.Choice.{if_then_else_, howMany}
 
--- the suit of a card
-abbrev pub suitOf : ℕ → ℕ
-suitOf card = card / 13
+abbrev pub clubs : ℕ
+clubs = 0
+
+abbrev pub diamonds : ℕ
+diamonds = 1
+
+abbrev pub hearts : ℕ
+hearts = 2
+
+abbrev pub spades : ℕ
+spades = 3
 
 -- notrump, as a strain beside the four suits
 abbrev pub notrump : ℕ
 notrump = 4
+
+abbrev pub north : ℕ
+north = 0
+
+abbrev pub east : ℕ
+east = 1
+
+abbrev pub south : ℕ
+south = 2
+
+abbrev pub west : ℕ
+west = 3
+
+-- the suit of a card
+abbrev pub suitOf : ℕ → ℕ
+suitOf card = card / 13
 
 -- what stands for a seat where there is none
 abbrev pub noSeat : ℕ
@@ -52,7 +76,7 @@ hasThirteen seat deal = eqb (cardsDealt seat deal) 13
 
 -- the seats in the order North, East, South, West
 abbrev pub seats : List ℕ
-seats = 0 ∷ 1 ∷ 2 ∷ 3 ∷ []
+seats = north ∷ east ∷ south ∷ west ∷ []
 
 -- the first of some seats that has not thirteen cards; nobody where each has
 unfoldable pub firstShort : List ℕ → List ℕ → ℕ

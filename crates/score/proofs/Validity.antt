@@ -2,6 +2,7 @@
 use Prim.Native.Nat.{ℕ, zero, suc, _≤_, _<_, _-_, _/_, _%_, _^_}
 use mathlib.Core.Path.{_≡_, refl, sym, _∙_}
 use mathlib.Core.Bool.{true, false}
+use native.Mathlib.Nat.{div-le-self}
 use native.Mathlib.Omega.{arith}
 use borrow.Author.Tests.{lt-leb, le-leb, ltb-true, ltb-false, leb-true, ne-eqb}
 use lib.Dec.{leb, eqb, eqb·suc-zero}
@@ -32,14 +33,14 @@ unfolding validScore
 by-ten (pos n) l h = rw (le-leb n 7600 (ltb-false 7600 n h))
 by-ten (negsuc n) l h = rw (le-leb (suc n) 7600 (omega (arith, ltb-false 7599 n l))) (neg-zero (suc n % 10) (omega arith))
 
--- the quotient that the remainder by 10 goes with fits
-pub ten-fits : (z : ℤ) → SFits w16 z → SFits w16 (quotZ z (pos 10))
-ten-fits (pos n) f = record { sfits = omega (arith, f .sfits) }
-ten-fits (negsuc n) f = record { sfits = neg-mag (suc n / 10) (omega (arith, f .sfits)) }
-  where
-    neg-mag : (r : ℕ) → r ≤ 32768 → mag (negℤ (pos r)) < 2 ^ 15
-    neg-mag zero h = omega arith
-    neg-mag (suc r) h = omega arith
+-- a quotient by a positive number is no larger than what is divided, so it fits
+neg-mag : (r : ℕ) {n : ℕ} → r ≤ suc n → mag (negℤ (pos r)) ≤ n
+neg-mag zero h = omega arith
+neg-mag (suc r) h = omega arith
+
+pub quot-fits : (z : ℤ) (d : ℕ) → SFits w16 z → SFits w16 (quotZ z (pos d))
+quot-fits (pos n) d f = record { sfits = omega (arith, f .sfits, div-le-self n d) }
+quot-fits (negsuc n) d f = record { sfits = omega (arith, f .sfits, neg-mag (suc n / d) (div-le-self (suc n) d)) }
 
 -- ---- the size of a valid score
 pub valid-size : (z : ℤ) → validScore z ≡ true → natAbs z ≤ 7600

@@ -1,8 +1,11 @@
 // Valid scores, IMPs by the scale of Law 78B, and the two scoring units with their sums.
 ghost use mathlib.Core.Path.{_≡_};
+ghost use mathlib.Core.Bool.{true};
+ghost use lib.IntN.{pos, _-ℤ_};
+ghost use lib.Signed.{leZ};
 ghost use Rattle.laws.specs.Law77.{validScore};
 ghost use Rattle.laws.specs.Law78.{impsForSize, imps};
-ghost use Rattle.score.specs.Units.{impAnswer};
+ghost use Rattle.score.specs.Units.{impAnswer, impSum, matchpointSum};
 
 // A number of matchpoints. No sum takes one of each unit.
 pub struct Matchpoints(pub u32);
@@ -80,4 +83,62 @@ fn ends_reached(size: u16) -> u8
         i += 1;
     }
     n
+}
+
+// How far a valid score lies above another.
+fn difference(high: i16, low: i16) -> u16
+    requires { ⌜ (validScore high ≡ true) × (validScore low ≡ true) × (leZ low high ≡ true) ⌝ }
+    ensures { λ r. ⌜ pos r ≡ high -ℤ low ⌝ }
+{
+    (high - low) as u16
+}
+
+// The IMPs of two scores, first less second; 20 where either is not valid.
+pub fn imps_of(first: i16, second: i16) -> ImpAnswer
+    ensures { λ r. ⌜ r ≡ impAnswer (imps first second) ⌝ }
+{
+    if !valid(first) {
+        return ImpAnswer::Refused(20);
+    }
+    if !valid(second) {
+        return ImpAnswer::Refused(20);
+    }
+    if second <= first {
+        let gained = ends_reached(difference(first, second));
+        return ImpAnswer::Scored(Imps(gained as i32));
+    }
+    let lost = ends_reached(difference(second, first));
+    ImpAnswer::Scored(Imps(-(lost as i32)))
+}
+
+// Two integers added, as a number of IMPs.
+fn total_imps(a: i32, b: i32) -> ImpSum
+    ensures { λ r. ⌜ r ≡ impSum a b ⌝ }
+{
+    let sum = a as i64 + b as i64;
+    if sum < -2147483648 {
+        return ImpSum::ImpsDoNotFit;
+    }
+    if 2147483647 < sum {
+        return ImpSum::ImpsDoNotFit;
+    }
+    ImpSum::ImpTotal(Imps(sum as i32))
+}
+
+// The sum of two numbers of IMPs, exact, or that it does not fit.
+pub fn add_imps(a: Imps, b: Imps) -> ImpSum
+    ensures { λ r. ⌜ r ≡ impSum (a .0) (b .0) ⌝ }
+{
+    total_imps(a.0, b.0)
+}
+
+// The sum of two numbers of matchpoints, exact, or that it does not fit.
+pub fn add_matchpoints(a: Matchpoints, b: Matchpoints) -> MatchpointSum
+    ensures { λ r. ⌜ r ≡ matchpointSum (a .0) (b .0) ⌝ }
+{
+    let sum = a.0 as u64 + b.0 as u64;
+    if 4294967295 < sum {
+        return MatchpointSum::MatchpointsDoNotFit;
+    }
+    MatchpointSum::MatchpointTotal(Matchpoints(sum as u32))
 }

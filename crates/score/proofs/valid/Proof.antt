@@ -4,7 +4,7 @@ use native.Mathlib.Omega.{arith}
 use mir.Syntax.{w16}
 use mir.Val.{toZ, ofZ}
 use mir.Facts.{toZ-ofZ}
-use Rattle.score.proofs.Validity.{too-low, too-high, by-ten, ten-fits}
+use Rattle.score.proofs.Validity.{too-low, too-high, by-ten, quot-fits}
 use Rattle.score.proofs.valid.Statement.{statement}
 use Rattle.score.proofs.valid.Tie as tie
 
@@ -19,7 +19,7 @@ returns-2 : tie.Need-returns-2
 returns-2 c = too-high (c .before .before .args .score) (rw (whole (c .before .before)) at (c .if2 .taken))
 
 rem-result : tie.Need-rem-result
-rem-result c = (omega arith, rw (whole (c .before .before)) (ten-fits (c .before .before .args .score) (c .before .before .fits .score)))
+rem-result c = (omega arith, rw (whole (c .before .before)) (quot-fits (c .before .before .args .score) _ (c .before .before .fits .score)))
 
 returns-3 : tie.Need-returns-3
 returns-3 c =
