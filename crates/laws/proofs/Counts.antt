@@ -85,3 +85,9 @@ every-below (suc n) test e k h =
     by-test (eqb k n)
     (λ (q : eqb k n ≡ true). rw (eqb-true k n q) (and-left (test n) (everyBelow n test) e))
     (λ (q : eqb k n ≡ false). every-below n test (and-right (test n) (everyBelow n test) e) k (omega (arith, eqb-false k n q)))
+
+-- within a list, what stands at a place does not go by the default
+pub any-default : {A : Type 0} (l : List A) (i : ℕ) (d e : A) → i < length l → getD l i d ≡ getD l i e
+any-default [] i d e h = absurd (omega arith)
+any-default (x ∷ l) zero d e h = refl
+any-default (x ∷ l) (suc i) d e h = any-default l i d e (omega arith)

@@ -9,5 +9,6 @@ pub mod Law68
 pub mod Law64
 pub mod Law77
 pub mod Law78
+pub mod CardRefusal
 pub mod Record
 pub mod Tally

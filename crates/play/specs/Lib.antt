@@ -1,0 +1,2 @@
+pub mod Trick
+pub mod Position
