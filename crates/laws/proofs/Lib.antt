@@ -2,5 +2,6 @@ pub mod Tests
 pub mod Scores
 pub mod Integers
 pub mod Counts
+pub mod Padded
 pub mod Scale
 pub mod Score

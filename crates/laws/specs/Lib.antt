@@ -1,4 +1,5 @@
 pub mod Choice
+pub mod Padded
 pub mod Refusals
 pub mod Cards
 pub mod Law2

@@ -1,2 +1,3 @@
 pub mod Trick
 pub mod Position
+pub mod History
