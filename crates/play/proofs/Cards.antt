@@ -4,13 +4,13 @@ use mathlib.Core.Path.{_≡_, refl, sym, ap, _∙_}
 use mathlib.Core.Bool.{Bool, true, false, not, _&&_}
 use mathlib.Core.List.{List, [], _∷_}
 use native.Mathlib.Omega.{arith}
-use borrow.Author.Tests.{leb-false, eqb-true, not-true}
+use borrow.Author.Tests.{leb-false, eqb-true, ne-eqb, not-true}
 use lib.Dec.{eqb, leb}
 use lib.ListN.{length, take, length-take}
 use Rattle.laws.specs.Choice.{if_then_else_, some}
 use Rattle.laws.specs.Refusals.{accepted, noCard, cardNotHeld}
 use Rattle.laws.specs.Cards.{dealtTo}
-use Rattle.laws.specs.Law44.{cardsPlayed, cardsInTrick, trickUnderWay, toPlay, isPlayed, holds, playable}
+use Rattle.laws.specs.Law44.{cardsPlayed, tricksComplete, cardsInTrick, leader, trickUnderWay, toPlay, isPlayed, holds, playable}
 use Rattle.laws.specs.CardRefusal.{cardRefusal}
 use Rattle.laws.proofs.Tests.{by-test, not-both, or-left, or-right, and-left, and-right}
 
@@ -26,6 +26,18 @@ in-trick-more c g h = omega arith
 pub in-trick-last : (c : ℕ) (g : List ℕ) → 3 ≤ cardsInTrick g → cardsInTrick (c ∷ g) ≡ 0
 unfolding cardsInTrick cardsPlayed
 in-trick-last c g h = omega arith
+
+pub tricks-same : (c : ℕ) (g : List ℕ) → cardsInTrick g < 3 → tricksComplete (c ∷ g) ≡ tricksComplete g
+unfolding tricksComplete cardsInTrick cardsPlayed
+tricks-same c g h = omega arith
+
+pub tricks-more : (c : ℕ) (g : List ℕ) → 3 ≤ cardsInTrick g → tricksComplete (c ∷ g) ≡ suc (tricksComplete g)
+unfolding tricksComplete cardsInTrick cardsPlayed
+tricks-more c g h = omega arith
+
+pub leader-same : (trump opening c : ℕ) (g : List ℕ) → cardsInTrick g < 3 → leader trump opening (c ∷ g) ≡ leader trump opening g
+unfolding leader
+leader-same trump opening c g h = rw (in-trick-more c g h, ne-eqb (suc (cardsInTrick g)) 0 (λ e. omega arith))
 
 pub trick-more : (c : ℕ) (g : List ℕ) → cardsInTrick g < 3 → trickUnderWay (c ∷ g) ≡ c ∷ trickUnderWay g
 unfolding trickUnderWay

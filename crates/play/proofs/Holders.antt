@@ -69,18 +69,18 @@ first : (deal : List ℕ) (trump opening : ℕ) → startOf deal trump opening .
 unfolding startOf trickOf leader cardsInTrick cardsPlayed trickUnderWay
 first deal trump opening = rw (none-led, none-wins trump, none-by trump opening)
 
+-- a step with a card
+stepped : (p : Play) (c : ℕ) → c < 52 → step p c .trick ≡ afterCard (p .trick) c
+unfolding step
+stepped p c h = rw (lt-leb 52 c h)
+
+pub put : (p : Play) (c : ℕ) → c < 52 → step p c .holders ≡ putPlayed (p .holders) c (turnOf (p .trick))
+unfolding step
+put p c h = rw (lt-leb 52 c h)
+
 module _ (deal : List ℕ) (trump opening : ℕ) (all : length deal ≡ 52) where
   abbrev at : List ℕ → Play
   at g = positionOf deal trump opening g
-
-  -- a step with a card
-  stepped : (p : Play) (c : ℕ) → c < 52 → step p c .trick ≡ afterCard (p .trick) c
-  unfolding step
-  stepped p c h = rw (lt-leb 52 c h)
-
-  put : (p : Play) (c : ℕ) → c < 52 → step p c .holders ≡ putPlayed (p .holders) c (turnOf (p .trick))
-  unfolding step
-  put p c h = rw (lt-leb 52 c h)
 
   pub trick-law : (g : List ℕ) → AllPlayed deal trump opening g → at g .trick ≡ trickOf trump opening g
   unfolding positionOf AllPlayed

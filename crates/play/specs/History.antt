@@ -45,3 +45,8 @@ placeOf deal trump opening (c ∷ g) card = if eqb c card then 4 + toPlay trump 
 -- a revoke as its byte
 abbrev pub byteOf : Revoke → ℕ
 byteOf r = revokeByte (r .trick) (r .seat) (r .suit)
+
+-- how many cards of the history a seat played
+unfoldable pub playsOf : ℕ → ℕ → ℕ → List ℕ → ℕ
+playsOf trump opening seat [] = 0
+playsOf trump opening seat (c ∷ g) = (if eqb (toPlay trump opening g) seat then 1 else 0) + playsOf trump opening seat g

@@ -1,0 +1,138 @@
+-- Each seat holds what it was dealt less the cards it has played, so no more than 52 cards are played, and a seat that has played to twelve tricks
+-- cannot revoke. Assumes nothing.
+use Prim.Native.Nat.{ℕ, zero, suc, _≤_, _<_, _+_, _-_, _/_, _%_}
+use mathlib.Core.Path.{_≡_, refl, sym, ap, _∙_}
+use mathlib.Core.Bool.{Bool, true, false, not, _&&_}
+use mathlib.Core.List.{List, [], _∷_}
+use native.Mathlib.Omega.{arith}
+use borrow.Author.Tests.{eqb-true, eqb-false, eq-eqb, ne-eqb, ltb-true, ltb-false, lt-ltb, le-ltb, not-true}
+use lib.Dec.{eqb, ltb, leb}
+use lib.ListN.{length, getD, set}
+use Rattle.laws.specs.Choice.{if_then_else_, howMany, someBelow}
+use Rattle.laws.specs.Cards.{noSeat, clockwise, suitOf, dealtTo, cardsDealt}
+use Rattle.laws.specs.Law44.{cardsPlayed, tricksComplete, cardsInTrick, leader, winner, trickUnderWay, suitLed, isOf, toPlay, holds, playable}
+use Rattle.laws.specs.Law61.{holdsSuit, isRevoke}
+use Rattle.laws.specs.CardRefusal.{cardRefusal}
+use Rattle.laws.proofs.Tests.{by-test, not-both, and-left, and-right}
+use Rattle.laws.proofs.Counts.{many-le, below-some}
+use Rattle.laws.proofs.Stores.{many-set, two-places}
+use Rattle.play.specs.declared.Play.{Play}
+use Rattle.play.specs.Trick.{turnOf}
+use Rattle.play.specs.Position.{putPlayed, startOf}
+use Rattle.play.specs.History.{positionOf, AllPlayed, playsOf}
+use Rattle.play.proofs.Cards.{Fair, fair, fewer-than-four, tricks-same, tricks-more, leader-same, in-trick-more, in-trick-last}
+use Rattle.play.proofs.Holders.{put, turn-is, turn-seat, holders-52, holds-law}
+
+-- ---- how many plays a seat has made: one to each complete trick, and one more where its turn in this trick is past
+-- how far clockwise a seat is from the leader
+abbrev behind : ℕ → ℕ → ℕ
+behind seat lead = (seat + 4 - lead % 4) % 4
+
+one-of : (seat lead k : ℕ) → seat < 4 → k < 4
+    → (if eqb (clockwise lead k) seat then 1 else 0) + (if ltb (behind seat lead) k then 1 else 0) ≡ (if ltb (behind seat lead) (suc k) then 1 else 0)
+unfolding clockwise
+one-of seat lead k hs hk =
+    by-test (eqb ((lead + k) % 4) seat)
+    (λ (q : eqb ((lead + k) % 4) seat ≡ true).
+    let e = eqb-true ((lead + k) % 4) seat q in
+    rw (q, le-ltb (behind seat lead) k (omega arith), lt-ltb (behind seat lead) (suc k) (omega arith)))
+    (λ (q : eqb ((lead + k) % 4) seat ≡ false).
+    let n = eqb-false ((lead + k) % 4) seat q in
+    rw q (by-test (ltb (behind seat lead) k)
+    (λ (r : ltb (behind seat lead) k ≡ true). rw (r, lt-ltb (behind seat lead) (suc k) (omega (arith, ltb-true (behind seat lead) k r))))
+    (λ (r : ltb (behind seat lead) k ≡ false). rw (r, le-ltb (behind seat lead) (suc k) (omega (arith, ltb-false (behind seat lead) k r))))))
+
+none-yet : (b : ℕ) → 0 ≡ tricksComplete [] + (if ltb b (cardsInTrick []) then 1 else 0)
+unfolding tricksComplete cardsInTrick cardsPlayed
+none-yet b = rw (le-ltb b 0 (omega arith))
+
+pub plays-law : (trump opening seat : ℕ) (g : List ℕ) → seat < 4
+    → playsOf trump opening seat g ≡ tricksComplete g + (if ltb (behind seat (leader trump opening g)) (cardsInTrick g) then 1 else 0)
+unfolding playsOf toPlay
+plays-law trump opening seat [] h = none-yet (behind seat (leader trump opening []))
+plays-law trump opening seat (c ∷ g) h =
+    let more = one-of seat (leader trump opening g) (cardsInTrick g) h (fewer-than-four g) in
+    by-test (ltb (cardsInTrick g) 3)
+    (λ (q : ltb (cardsInTrick g) 3 ≡ true).
+    let k = ltb-true (cardsInTrick g) 3 q in
+    rw (tricks-same c g k, leader-same trump opening c g k, in-trick-more c g k) (omega (arith, plays-law trump opening seat g h)))
+    (λ (q : ltb (cardsInTrick g) 3 ≡ false).
+    let k = ltb-false (cardsInTrick g) 3 q in
+    let all = rw (lt-ltb (behind seat (leader trump opening g)) (suc (cardsInTrick g)) (omega arith)) at more in
+    rw (tricks-more c g k, in-trick-last c g k, le-ltb (behind seat (leader trump opening (c ∷ g))) 0 (omega arith)) (omega (arith, plays-law trump opening seat g h)))
+
+-- ---- what the places count after a play: a test that passes for no played card loses the seat that played
+module _ (deal : List ℕ) (trump opening : ℕ) (all : length deal ≡ 52) where
+  abbrev holders : List ℕ → List ℕ
+  holders g = positionOf deal trump opening g .holders
+
+  -- the card stood at its place with the seat at turn
+  stood : (c : ℕ) (g : List ℕ) → Fair trump opening deal g c → AllPlayed deal trump opening g → getD (holders g) c noSeat ≡ toPlay trump opening g
+  unfolding holds
+  stood c g f w =
+      let seat = toPlay trump opening g in
+      let yes : holds deal g seat c ≡ true = rw (eq-eqb (dealtTo deal c) seat (f .held), f .unplayed) in
+      eqb-true (getD (holders g) c noSeat) seat (holds-law deal trump opening all g w seat c (turn-seat trump opening g) ∙ yes)
+
+  counted : (test : ℕ → Bool) (c : ℕ) (g : List ℕ) → AllPlayed deal trump opening (c ∷ g) → ((k : ℕ) → 4 ≤ k → test k ≡ false)
+      → howMany test (holders (c ∷ g)) + (if test (toPlay trump opening g) then 1 else 0) ≡ howMany test (holders g)
+  unfolding AllPlayed positionOf putPlayed
+  counted test c g w none =
+      let f = fair trump opening deal g c (w .0) in
+      let p = positionOf deal trump opening g in
+      let v = 4 + turnOf (p .trick) % 4 in
+      let place : c < length (p .holders) = omega (arith, f .code, holders-52 deal trump opening all g (w .1)) in
+      let changed = rw (stood c g f (w .1), none v (omega arith)) at (many-set test noSeat (p .holders) c v place) in
+      omega (arith, changed, ap (howMany test) (put p c (f .code)))
+
+  -- a seat holds what it was dealt less the cards it has played
+  pub thirteen-less : (seat : ℕ) (g : List ℕ) → seat < 4 → AllPlayed deal trump opening g
+      → cardsDealt seat (holders g) + playsOf trump opening seat g ≡ cardsDealt seat deal
+  unfolding cardsDealt playsOf positionOf startOf AllPlayed
+  thirteen-less seat [] h w = omega arith
+  thirteen-less seat (c ∷ g) h w =
+      omega
+      (arith, thirteen-less seat g h (w .1), counted (λ holder. eqb holder seat) c g w (λ k n. ne-eqb k seat (λ e. omega arith)))
+
+  -- so at most 52 cards are played
+  left : (g : List ℕ) → AllPlayed deal trump opening g → howMany (λ holder. ltb holder 4) (holders g) + cardsPlayed g ≡ howMany (λ holder. ltb holder 4) deal
+  unfolding cardsPlayed positionOf startOf AllPlayed
+  left [] w = omega arith
+  left (c ∷ g) w =
+      let more = rw (lt-ltb (toPlay trump opening g) 4 (turn-seat trump opening g)) at (counted (λ holder. ltb holder 4) c g w (λ k n. le-ltb k 4 n)) in
+      omega (arith, left g (w .1))
+
+  pub at-most-52 : (g : List ℕ) → AllPlayed deal trump opening g → cardsPlayed g ≤ 52
+  at-most-52 g w = omega (arith, left g w, many-le (λ holder. ltb holder 4) deal)
+
+  -- ---- a seat that revokes holds two cards, so it has played to fewer than twelve tricks
+  module _ (dealt : (seat : ℕ) → seat < 4 → cardsDealt seat deal ≡ 13) where
+    -- the seat at turn has played to each complete trick
+    turn-plays : (g : List ℕ) → playsOf trump opening (toPlay trump opening g) g ≡ tricksComplete g
+    unfolding toPlay clockwise
+    turn-plays g =
+        let seat = toPlay trump opening g in
+        let k = fewer-than-four g in
+        let past : ltb (behind seat (leader trump opening g)) (cardsInTrick g) ≡ false = le-ltb (behind seat (leader trump opening g)) (cardsInTrick g) (omega arith) in
+        let all = rw past at (plays-law trump opening seat g (turn-seat trump opening g)) in
+        omega arith
+
+    pub none-on-thirteen : (c : ℕ) (g : List ℕ) → AllPlayed deal trump opening (c ∷ g) → isRevoke trump opening deal g c ≡ true → tricksComplete g < 12
+    unfolding AllPlayed isRevoke holdsSuit cardsDealt
+    none-on-thirteen c g w r =
+        let seat = toPlay trump opening g in
+        let suit = suitLed (trickUnderWay g) in
+        let has : ℕ → Bool = λ (card : ℕ). isOf suit card && holds deal g seat card in
+        let rest = and-right (not (eqb (cardsInTrick g) 0)) (not (isOf suit c) && someBelow 52 has) r in
+        let other = not-true (isOf suit c) (and-left (not (isOf suit c)) (someBelow 52 has) rest) in
+        let d = below-some has 52 (and-right (not (isOf suit c)) (someBelow 52 has) rest) in
+        let n = holders-52 deal trump opening all g (w .1) in
+        let f = fair trump opening deal g c (w .0) in
+        let mine : ℕ → Bool = λ (holder : ℕ). eqb holder seat in
+        let at-c : mine (getD (holders g) c noSeat) ≡ true = eq-eqb (getD (holders g) c noSeat) seat (stood c g f (w .1)) in
+        let at-d : mine (getD (holders g) (d .0) noSeat) ≡ true =
+        holds-law deal trump opening all g (w .1) seat (d .0) (turn-seat trump opening g) ∙ and-right (isOf suit (d .0)) (holds deal g seat (d .0)) (d .2) in
+        let differ : d .0 ≡ c → ⊥ =
+        λ e. not-both (isOf suit c) (rw e at (and-left (isOf suit (d .0)) (holds deal g seat (d .0)) (d .2))) other in
+        let two = two-places mine noSeat 4 (ne-eqb 4 seat (λ e. omega (arith, turn-seat trump opening g))) (holders g) c (d .0) (omega (arith, f .code)) (omega (arith, d .1)) differ at-c at-d in
+        omega (arith, two, thirteen-less seat g (turn-seat trump opening g) (w .1), turn-plays g, dealt seat (turn-seat trump opening g))
