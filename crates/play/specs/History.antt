@@ -5,13 +5,17 @@ use Prim.Native.Nat.{ℕ, _+_}
 use mathlib.Core.Path.{_≡_}
 use mathlib.Core.List.{List, [], _∷_, map}
 use lib.Dec.{eqb}
+use lib.ListN.{length}
 use Rattle.laws.specs.Choice.{if_then_else_}
 use Rattle.laws.specs.Cards.{dealtTo}
 use Rattle.laws.specs.Refusals.{accepted}
-use Rattle.laws.specs.Law44.{cardsInTrick, trickUnderWay, suitLed, winningCard, leader, winner, toPlay}
-use Rattle.laws.specs.Law61.{Revoke}
+use Rattle.laws.specs.Padded.{padded}
+use Rattle.laws.specs.Law44.{tricksComplete, cardsInTrick, trickUnderWay, suitLed, winningCard, leader, winner, toPlay, winners, tricksWon}
+use Rattle.laws.specs.Law61.{Revoke, revokes}
 use Rattle.laws.specs.CardRefusal.{cardRefusal}
 use Rattle.play.specs.declared.Trick.{Trick}
+use Rattle.play.specs.declared.Tricks.{Tricks}
+use Rattle.play.specs.declared.Revokes.{Revokes}
 use Rattle.play.specs.declared.Play.{Play}
 use Rattle.play.specs.Position.{revokeByte, startOf, step}
 
@@ -50,3 +54,15 @@ byteOf r = revokeByte (r .trick) (r .seat) (r .suit)
 unfoldable pub playsOf : ℕ → ℕ → ℕ → List ℕ → ℕ
 playsOf trump opening seat [] = 0
 playsOf trump opening seat (c ∷ g) = (if eqb (toPlay trump opening g) seat then 1 else 0) + playsOf trump opening seat g
+
+-- the complete tricks as the Laws have them: how many, those of each side, and the winners in order
+unfoldable pub tricksOf : ℕ → ℕ → List ℕ → Tricks
+tricksOf trump opening g =
+    let ws = winners trump opening g in
+    record { count = tricksComplete g; won = tricksWon 0 ws ∷ tricksWon 1 ws ∷ []; winners = padded 0 13 ws }
+
+-- the revokes as the Laws have them, a byte each in order of play
+unfoldable pub revokesOf : List ℕ → ℕ → ℕ → List ℕ → Revokes
+revokesOf deal trump opening g =
+    let rs = revokes trump opening deal g in
+    record { count = length rs; list = padded 0 36 (map byteOf rs) }
