@@ -4,5 +4,6 @@ pub mod Integers
 pub mod Counts
 pub mod Padded
 pub mod Stores
+pub mod Revokes
 pub mod Scale
 pub mod Score

@@ -12,7 +12,7 @@ use Rattle.laws.specs.Choice.{if_then_else_}
 use Rattle.laws.specs.Padded.{padded}
 use Rattle.laws.specs.Cards.{cardsDealt}
 use Rattle.laws.specs.Law44.{cardsPlayed, tricksComplete, cardsInTrick, trickUnderWay, suitLed, toPlay, isOf}
-use Rattle.laws.specs.Law61.{Revoke, isRevoke, holdsSuit, revokes}
+use Rattle.laws.specs.Law61.{Revoke, isRevoke, revokeAt, revokes}
 use Rattle.laws.proofs.Tests.{by-test, and-left}
 use Rattle.laws.proofs.Padded.{padded-none, padded-more}
 use Rattle.play.specs.declared.Play.{Play}
@@ -25,12 +25,8 @@ use Rattle.play.proofs.Holders.{trick-law, turn-is, revoke-law}
 use Rattle.play.proofs.Thirteen.{at-most-52, none-on-thirteen}
 use Rattle.play.proofs.Complete.{tricks-law, few}
 
--- the revoke at a card, as it is listed
-abbrev entry : ℕ → ℕ → List ℕ → Revoke
-entry trump opening g = record { trick = tricksComplete g + 1; seat = toPlay trump opening g; suit = suitLed (trickUnderWay g) }
-
 module _ (trump opening : ℕ) (deal : List ℕ) where
-  list-more : (c : ℕ) (g : List ℕ) → isRevoke trump opening deal g c ≡ true → revokes trump opening deal (c ∷ g) ≡ revokes trump opening deal g ++ (entry trump opening g ∷ [])
+  list-more : (c : ℕ) (g : List ℕ) → isRevoke trump opening deal g c ≡ true → revokes trump opening deal (c ∷ g) ≡ revokes trump opening deal g ++ (revokeAt trump opening g ∷ [])
   unfolding revokes
   list-more c g r = rw r
 
@@ -117,8 +113,8 @@ module _ (deal : List ℕ) (trump opening : ℕ) (all : length deal ≡ 52) (dea
   at-most-36 g w = few-revokes g w .by-all
 
   -- the byte that a revoke at the next card gets is that of the Laws' revoke
-  byte-law : (c : ℕ) (g : List ℕ) → AllPlayed deal trump opening (c ∷ g) → byteNext (positionOf deal trump opening g) ≡ byteOf (entry trump opening g)
-  unfolding AllPlayed trickOf tricksOf
+  byte-law : (c : ℕ) (g : List ℕ) → AllPlayed deal trump opening (c ∷ g) → byteNext (positionOf deal trump opening g) ≡ byteOf (revokeAt trump opening g)
+  unfolding AllPlayed trickOf tricksOf revokeAt
   byte-law c g w =
       rw (
         turn-is deal trump opening all g (w .1),
@@ -140,6 +136,6 @@ module _ (deal : List ℕ) (trump opening : ℕ) (all : length deal ≡ 52) (dea
       let more = ap length (list-more trump opening deal c g q) ∙ length-append rs _ in
       let room : length rs < 36 = omega (arith, more, at-most-36 (c ∷ g) w) in
       rw (revoke-law deal trump opening all g (w .1) c, q, revokes-law g (w .1), byte-law c g w, list-more trump opening deal c g q)
-      (one-revoke rs (entry trump opening g) room))
+      (one-revoke rs (revokeAt trump opening g) room))
       (λ (q : isRevoke trump opening deal g c ≡ false).
       rw (revoke-law deal trump opening all g (w .1) c, q, revokes-law g (w .1), list-same trump opening deal c g q))
