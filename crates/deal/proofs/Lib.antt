@@ -1,0 +1,5 @@
+pub mod Words
+pub mod Suits
+pub mod Built
+pub mod Thirteen
+pub mod Sides

@@ -1,0 +1,92 @@
+-- `deal::word` meets its contract. The loop goes down the places: `bits` is the word of those from `i` up to `to`.
+-- The measure is `i`. Assumes nothing.
+use Prim.Native.Nat.{ℕ, _-_, _≤_, _<_, _^_}
+use mathlib.Core.Path.{_≡_, sym, ap, _∙_}
+use native.Mathlib.Omega.{arith}
+use native.Mathlib.Nat.{add-zero}
+use mathlib.Core.Bool.{true, false}
+use borrow.Author.Needs.{needs}
+use borrow.Author.Tests.{eq-eqb, ne-eqb}
+use lib.ListN.{length, take, drop}
+use Rattle.deal.specs.Hands.{wordOf}
+use Rattle.deal.proofs.Words.{word-none, room, goes-down}
+use Rattle.deal.proofs.word.Statement.{statement}
+use Rattle.deal.proofs.word.Tie as tie
+
+abbrev Inv-loop : tie.InvT-loop
+Inv-loop seat from to holders bits₀ i₀ bits i = (from ≤ i) × (i ≤ to) × (bits ≡ wordOf seat (take (to - i) (drop i holders)))
+
+abbrev μ-loop : tie.MeasureT-loop
+μ-loop seat from to holders bits₀ i₀ bits i = i
+
+long : (c : tie.Start Inv-loop μ-loop) → length (c .args .t1) ≡ 52
+long c = search needs
+
+loop-holds : tie.Need-loop-holds Inv-loop μ-loop
+loop-holds c = let a = c .args in (omega arith, omega arith, sym (word-none (a .seat) (a .to) (a .to) (a .t1) (omega arith)))
+
+sub-i : tie.Need-sub-i Inv-loop μ-loop
+sub-i c = omega arith
+
+-- in a turn there is room for one bit more
+room-in : (c : tie.In-loop Inv-loop μ-loop) → c .before .loop .bits < 2 ^ 51
+room-in c =
+    let l = c .before .loop in
+    room _ _ _ _ _ (long (c .before .before)) (omega arith) (l .inv .1) (c .before .before .pre .1) (l .inv .2)
+
+mul-bits : tie.Need-mul-bits Inv-loop μ-loop
+mul-bits c = omega (arith, room-in c)
+
+array-read-if1 : tie.Need-array-read-if1 Inv-loop μ-loop
+array-read-if1 c = omega arith
+
+add-bits : tie.Need-add-bits Inv-loop μ-loop
+add-bits c = omega (arith, room-in (c .before))
+
+loop-less : tie.Need-loop-less Inv-loop μ-loop
+loop-less c = omega arith
+
+loop-again : tie.Need-loop-again Inv-loop μ-loop
+loop-again c =
+    let t = c .before in
+    let l = t .before .loop in (
+      omega arith,
+      omega arith,
+      goes-down _ _ _ _ _ (long (t .before .before)) (omega arith) (l .inv .1) (t .before .before .pre .1) (l .inv .2) true (eq-eqb _ _ (c .if1 .taken)),
+    )
+
+loop-less-2 : tie.Need-loop-less-2 Inv-loop μ-loop
+loop-less-2 c = omega arith
+
+loop-again-2 : tie.Need-loop-again-2 Inv-loop μ-loop
+loop-again-2 c =
+    let t = c .before in
+    let l = t .before .loop in (
+      omega arith,
+      omega arith,
+      sym (add-zero _)
+          ∙ goes-down _ _ _ _ _ (long (t .before .before)) (omega arith) (l .inv .1) (t .before .before .pre .1) (l .inv .2) false (ne-eqb _ _ (c .if1 .left)),
+    )
+
+returns : tie.Need-returns Inv-loop μ-loop
+returns c =
+    let a = c .before .before .args in
+    let at-from : c .before .loop .i ≡ a .from = omega arith in
+    c .before .loop .inv .2 ∙ ap (λ (k : ℕ). wordOf (a .seat) (take (a .to - k) (drop k (a .t1)))) at-from
+
+pub word-spec : {M : Type 1} → statement M
+word-spec =
+    tie.close
+    (tie.spec
+    Inv-loop
+    μ-loop
+    loop-holds
+    sub-i
+    mul-bits
+    array-read-if1
+    add-bits
+    loop-less
+    loop-again
+    loop-less-2
+    loop-again-2
+    returns)

@@ -1,0 +1,126 @@
+// The deal: a seat's hand as a 52-bit word of the holders, thirteen cards each, suits still held, and Law 2.
+// The holder of a card is any number: seats are 0 to 3, and a card with another holder is in nobody's hand.
+ghost use mathlib.Core.Path.{_≡_};
+ghost use Prim.Native.Nat.{_-_, _^_, _≤_, _<_};
+ghost use lib.ListN.{take, drop};
+ghost use Rattle.laws.specs.Cards.{cardsDealt, shortSeat};
+ghost use Rattle.laws.specs.Law2;
+ghost use Rattle.deal.specs.Hands.{wordOf, wordsOf, suitCount, holdsOne};
+
+// The places from `from` up to `to` that a seat holds, as bits.
+fn word(holders: [u8; 52], seat: u8, from: usize, to: usize) -> u64
+    requires { ⌜ (from ≤ to) × (to ≤ 52) ⌝ }
+    ensures { λ r. ⌜ r ≡ wordOf seat (take (to - from) (drop from holders)) ⌝ }
+{
+    let mut bits: u64 = 0;
+    let mut i = to;
+    while from < i {
+        i -= 1;
+        bits = bits * 2;
+        if holders[i] == seat {
+            bits += 1;
+        }
+    }
+    bits
+}
+
+// The hand of a seat: a bit for each of the 52 cards.
+pub fn hand(holders: [u8; 52], seat: u8) -> u64
+    ensures { λ r. ⌜ r ≡ wordOf seat holders ⌝ }
+{
+    word(holders, seat, 0, 52)
+}
+
+// How many cards a seat holds.
+pub fn cards_held(holders: [u8; 52], seat: u8) -> u32
+    ensures { λ r. ⌜ r ≡ cardsDealt seat holders ⌝ }
+{
+    u64::count_ones(hand(holders, seat))
+}
+
+// How many cards of a suit a seat holds.
+pub fn suit_held(holders: [u8; 52], seat: u8, suit: u8) -> u32
+    ensures { λ r. ⌜ r ≡ suitCount seat suit holders ⌝ }
+{
+    if 3 < suit {
+        return 0;
+    }
+    let first = 13 * (suit as usize);
+    u64::count_ones(word(holders, seat, first, first + 13))
+}
+
+// Whether a seat holds a card of a suit.
+pub fn holds_suit(holders: [u8; 52], seat: u8, suit: u8) -> bool
+    ensures { λ r. ⌜ r ≡ holdsOne holders seat suit ⌝ }
+{
+    suit_held(holders, seat, suit) != 0
+}
+
+// The bit of a card.
+fn bit_of(card: usize) -> u64
+    requires { ⌜ card < 52 ⌝ }
+    ensures { λ r. ⌜ r ≡ 2 ^ card ⌝ }
+{
+    1u64 << card
+}
+
+// The hands of the four seats, in one pass over the cards.
+fn hands(holders: [u8; 52]) -> [u64; 4]
+    ensures { λ r. ⌜ r ≡ wordsOf holders ⌝ }
+{
+    let mut words = [0u64; 4];
+    let mut i: usize = 0;
+    while i < 52 {
+        let holder = holders[i] as usize;
+        let bit = bit_of(i);
+        i += 1;
+        if holder < 4 {
+            words[holder] = words[holder] + bit;
+        }
+    }
+    words
+}
+
+// The first seat without thirteen cards, in the order North, East, South, West; 4 where each has thirteen.
+pub fn short_seat(holders: [u8; 52]) -> u8
+    ensures { λ r. ⌜ r ≡ shortSeat holders ⌝ }
+{
+    let words = hands(holders);
+    let mut seat: usize = 0;
+    while seat < 4 {
+        if u64::count_ones(words[seat]) != 13 {
+            return seat as u8;
+        }
+        seat += 1;
+    }
+    4
+}
+
+// The vulnerable sides of boards 1 to 16: 0 neither, 1 North-South, 2 East-West, 3 both.
+const SIDES: [u8; 16] = [0, 1, 2, 3, 1, 2, 3, 0, 2, 3, 0, 1, 3, 0, 1, 2];
+
+// How many boards stand before a board.
+fn boards_before(board: u8) -> u8
+    ensures { λ r. ⌜ r ≡ board - 1 ⌝ }
+{
+    if board == 0 { 0 } else { board - 1 }
+}
+
+// The dealer of a board.
+pub fn dealer(board: u8) -> u8
+    ensures { λ r. ⌜ r ≡ Law2.dealer board ⌝ }
+{
+    boards_before(board) % 4
+}
+
+// Whether the side of a seat is vulnerable on a board.
+pub fn vulnerable(board: u8, seat: u8) -> bool
+    ensures { λ r. ⌜ r ≡ Law2.vulnerable board seat ⌝ }
+{
+    let at = (boards_before(board) % 16) as usize;
+    let sides = SIDES[at];
+    if seat % 2 == 0 {
+        return sides % 2 == 1;
+    }
+    sides / 2 == 1
+}
