@@ -35,6 +35,17 @@ unfolding latestBid bidByOwnSide
 own-side d s [] = refl
 own-side d s (c ∷ h) = refl
 
+-- a call by its kind: a pass, a double, a bid, or none of these
+by-kind : {A : Type 0} (c : ℕ) → (c ≡ pass → A) → (c ≡ double → A)
+    → (eqb c pass ≡ false → eqb c double ≡ false → isBid c ≡ true → A)
+    → (eqb c pass ≡ false → eqb c double ≡ false → isBid c ≡ false → A) → A
+by-kind c passed doubled bid other =
+    by-test (eqb c pass)
+    (λ (q : eqb c pass ≡ true). passed (eqb-true c pass q))
+    (λ (q : eqb c pass ≡ false). by-test (eqb c double)
+    (λ (r : eqb c double ≡ true). doubled (eqb-true c double r))
+    (λ (r : eqb c double ≡ false). by-test (isBid c) (bid q r) (other q r)))
+
 module _ (d : ℕ) where
   -- a bid stands that is not doubled: the latest call but passes is a bid, and the position has its bidder
   bid-stands : (test : ℕ → Bool) (h : List ℕ) → (stands (positionOf d h) 0 && test (positionOf d h .bidder)) ≡ latestBid d test (beforePasses h)
@@ -42,13 +53,7 @@ module _ (d : ℕ) where
   bid-stands test [] = refl
   bid-stands test (c ∷ h) =
       let more = bid-stands test h in
-      by-test (eqb c pass)
-      (λ (q : eqb c pass ≡ true). rw (eqb-true c pass q) more)
-      (λ (q : eqb c pass ≡ false). by-test (eqb c double)
-      (λ (r : eqb c double ≡ true). rw (eqb-true c double r) (simp and-false))
-      (λ (r : eqb c double ≡ false). by-test (isBid c)
-      (λ (s : isBid c ≡ true). simp (q, r, s, turn-is d h))
-      (λ (s : isBid c ≡ false). simp (q, r, s))))
+      by-kind c (λ p. rw p more) (λ p. rw p (simp and-false)) (λ q r s. simp (q, r, s, turn-is d h)) (λ q r s. simp (q, r, s))
 
   -- a bid stands that is doubled: the latest call but passes is a double of it
   double-stands : (s : ℕ) (h : List ℕ) → (stands (positionOf d h) 1 && sameSide (positionOf d h .bidder) s) ≡ doubledOwnBid d s (beforePasses h)
@@ -56,13 +61,11 @@ module _ (d : ℕ) where
   double-stands s [] = refl
   double-stands s (c ∷ h) =
       let more = double-stands s h in
-      by-test (eqb c pass)
-      (λ (q : eqb c pass ≡ true). rw (eqb-true c pass q) more)
-      (λ (q : eqb c pass ≡ false). by-test (eqb c double)
-      (λ (r : eqb c double ≡ true). rw (eqb-true c double r) (simp and-true (bid-stands (λ b. sameSide b s) h ∙ own-side d s (beforePasses h))))
-      (λ (r : eqb c double ≡ false). by-test (isBid c)
-      (λ (t : isBid c ≡ true). simp (q, r, t))
-      (λ (t : isBid c ≡ false). simp (q, r, t))))
+      by-kind c
+      (λ p. rw p more)
+      (λ p. rw p (simp and-true (bid-stands (λ b. sameSide b s) h ∙ own-side d s (beforePasses h))))
+      (λ q r t. simp (q, r, t))
+      (λ q r t. simp (q, r, t))
 
   -- Law 19A
   pub double-is : (h : List ℕ) → mayDoubleOf (positionOf d h) ≡ mayDouble d h

@@ -4,7 +4,7 @@ ghost use mathlib.Core.List.{[]};
 ghost use Prim.Native.Nat.{_+_, _-_, min};
 ghost use Rattle.laws.specs.Cards.{clockwise};
 ghost use Rattle.auction.specs.Position.{stands, afterCall, positionOf};
-ghost use Rattle.auction.specs.Asked.{overOf, passedOutOf, mayDoubleOf, mayRedoubleOf, contractOf, verdictOf};
+ghost use Rattle.auction.specs.Asked.{overOf, passedOutOf, mayDoubleOf, mayRedoubleOf, contractOf, verdictOf, numberOf};
 
 // The seat that stands for nobody.
 const NOBODY: u8 = 4;
@@ -35,6 +35,21 @@ pub enum Verdict {
     AfterEnd,
     Insufficient,
     Inadmissible,
+}
+
+impl Verdict {
+    // The number of a verdict among the refusals; 0 for what is allowed.
+    pub fn number(self) -> u8
+        ensures { λ r. ⌜ r ≡ numberOf self ⌝ }
+    {
+        match self {
+            Verdict::Allowed => 0,
+            Verdict::NotACall => 5,
+            Verdict::AfterEnd => 8,
+            Verdict::Insufficient => 6,
+            Verdict::Inadmissible => 7,
+        }
+    }
 }
 
 // The last bid with its doubling, and its declarer. Without a bid it is level 1, strain 0, declarer nobody.
