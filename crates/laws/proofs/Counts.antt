@@ -1,13 +1,12 @@
 -- Laws of `howMany`, `some` and `someBelow`, over any test. Assumes nothing.
 use Prim.Native.Nat.{ℕ, zero, suc, _≤_, _<_, _+_}
-use native.Mathlib.Nat.{zero-add}
 use native.Mathlib.Omega.{arith}
 use mathlib.Core.Path.{_≡_, refl}
 use mathlib.Core.Bool.{Bool, true, false}
 use mathlib.Core.List.{List, [], _∷_, _++_}
 use borrow.Author.Tests.{eqb-true, eqb-false}
 use lib.Dec.{eqb}
-use lib.ListN.{length, getD}
+use lib.ListN.{length}
 use Rattle.laws.specs.Choice.{if_then_else_, howMany, some, someBelow}
 use Rattle.laws.proofs.Tests.{by-test, not-both}
 
@@ -24,24 +23,6 @@ module _ {A : Type 0} (test : A → Bool) where
       by-test (test x)
       (λ (q : test x ≡ true). rw q (omega (arith, many-le l)))
       (λ (q : test x ≡ false). rw q (omega (arith, many-le l)))
-
--- a count that is not 0 is a member that passes, and such a member a count that is not 0
-module _ {A : Type 0} (test : A → Bool) (d : A) where
-  pub many-place : (l : List A) → 0 < howMany test l → (i : ℕ) × (i < length l) × (test (getD l i d) ≡ true)
-  unfolding howMany
-  many-place [] h = absurd (omega arith)
-  many-place (x ∷ l) h = by-front (many-place l) (test x) refl
-    where
-      by-front : (0 < howMany test l → (i : ℕ) × (i < length l) × (test (getD l i d) ≡ true)) → (b : Bool) → test x ≡ b
-          → (i : ℕ) × (i < length (x ∷ l)) × (test (getD (x ∷ l) i d) ≡ true)
-      by-front more true e = (0, omega arith, e)
-      by-front more false e = let r = more (rw (e, zero-add) at h) in (suc (r .0), omega arith, r .2)
-
-  pub place-many : (l : List A) (i : ℕ) → i < length l → test (getD l i d) ≡ true → 0 < howMany test l
-  unfolding howMany
-  place-many [] i h e = absurd (omega arith)
-  place-many (x ∷ l) zero h e = rw e (omega arith)
-  place-many (x ∷ l) (suc i) h e = omega (arith, place-many l i (omega arith) e)
 
 -- a number up to n that passes the test, where n does not, is below n
 under : (test : ℕ → Bool) (n k : ℕ) → k < suc n → test n ≡ false → test k ≡ true → k < n

@@ -2,3 +2,4 @@ pub mod Tests
 pub mod Scores
 pub mod Counts
 pub mod CallRefusals
+pub mod Contracts
