@@ -12,6 +12,7 @@ use Rattle.auction.specs.Position.{stands, opening, afterCall, positionO
 use Rattle.auction.specs.Asked.{mayDoubleOf, mayRedoubleOf}
 use Rattle.auction.proofs.History.{turn-is}
 
+-- a conjunction with false is false, and with true the rest of it
 and-false : (b : Bool) → (b && false) ≡ false
 and-false true = refl
 and-false false = refl
@@ -25,6 +26,7 @@ latestBid : ℕ → (ℕ → Bool) → List ℕ → Bool
 latestBid d test [] = false
 latestBid d test (c ∷ h) = isBid c && test (toCall d h)
 
+-- by a seat of the other side, and of one's own
 opponents : (d s : ℕ) (h : List ℕ) → latestBid d (λ b. not (sameSide b s)) h ≡ bidByOpponents d s h
 unfolding latestBid bidByOpponents
 opponents d s [] = refl

@@ -1,7 +1,7 @@
 -- What each field of a position says of its history: for every dealer and every history. Assumes nothing.
 use Prim.Native.Nat.{ℕ, _≤_, min}
 use mathlib.Core.Path.{_≡_, refl, sym, ap, ap₂, _∙_}
-use mathlib.Core.Bool.{true, false}
+use mathlib.Core.Bool.{Bool, true, false, not}
 use mathlib.Core.List.{List, [], _∷_}
 use native.Mathlib.Omega.{arith}
 use borrow.Author.Tests.{leb-true, leb-false, lt-leb, le-leb}
@@ -13,27 +13,42 @@ use Rattle.laws.proofs.Tests.{by-test}
 use Rattle.auction.specs.Position.{opening, afterCall, positionOf}
 use Rattle.auction.specs.Asked.{overOf, passedOutOf}
 
+-- a choice by the test's opposite
+pub turned : {A : Type 0} (b : Bool) (x y : A) → (if b then x else y) ≡ (if not b then y else x)
+turned true x y = refl
+turned false x y = refl
+
+-- the opposite of the opposite
+twice-not : (b : Bool) → b ≡ not (not b)
+twice-not true = refl
+twice-not false = refl
+
 module _ (d : ℕ) where
+  -- whose turn it is
   pub turn-is : (h : List ℕ) → positionOf d h .turn ≡ toCall d h
   unfolding positionOf opening afterCall toCall clockwise
   turn-is [] = omega arith
   turn-is (c ∷ h) = omega (arith, turn-is h)
 
+  -- the last bid
   pub last-is : (h : List ℕ) → positionOf d h .last ≡ lastBid h
   unfolding positionOf opening afterCall lastBid
   last-is [] = refl
   last-is (c ∷ h) = ap (λ (x : ℕ). if isBid c then c else x) (last-is h)
 
+  -- who made the last bid
   pub bidder-is : (h : List ℕ) → positionOf d h .bidder ≡ lastBidder d h
   unfolding positionOf opening afterCall lastBidder
   bidder-is [] = refl
   bidder-is (c ∷ h) = ap₂ (λ (x y : ℕ). if isBid c then x else y) (turn-is h) (bidder-is h)
 
+  -- the doubling of the last bid
   pub doubling-is : (h : List ℕ) → positionOf d h .doubling ≡ doubling h
   unfolding positionOf opening afterCall doubling
   doubling-is [] = refl
   doubling-is (c ∷ h) = ap (λ (x : ℕ). if isBid c then 0 else if eqb c double then 1 else if eqb c redouble then 2 else x) (doubling-is h)
 
+  -- the passes in a row, up to four
   pub passes-is : (h : List ℕ) → positionOf d h .passes ≡ min 4 (passesInARow h)
   unfolding positionOf opening afterCall passesInARow
   passes-is [] = refl
@@ -54,10 +69,9 @@ module _ (d : ℕ) where
   unfolding overOf isOver hasBid
   over-is h =
       simp (last-is h, passes-is h, up-to-four 3 (passesInARow h) (omega arith), up-to-four 4 (passesInARow h) (omega arith))
-      (by-test (eqb (lastBid h) 0) (λ (q : eqb (lastBid h) 0 ≡ true). rw q) (λ (q : eqb (lastBid h) 0 ≡ false). rw q))
+      (turned (eqb (lastBid h) 0) (leb 4 (passesInARow h)) (leb 3 (passesInARow h)))
 
+  -- Law 22B: there is no bid
   pub passed-out-is : (h : List ℕ) → passedOutOf (positionOf d h) ≡ passedOut h
   unfolding passedOutOf passedOut hasBid
-  passed-out-is h =
-      rw (last-is h)
-      (by-test (eqb (lastBid h) 0) (λ (q : eqb (lastBid h) 0 ≡ true). rw q) (λ (q : eqb (lastBid h) 0 ≡ false). rw q))
+  passed-out-is h = rw (last-is h) (twice-not (eqb (lastBid h) 0))

@@ -15,8 +15,8 @@ unfoldable pub firstPlace : ℕ → ℕ → ℕ
 firstPlace seat bid = sideOf seat * 5 + strainOf bid
 
 -- the seat at a place where nobody stands, and no change where somebody does
-unfoldable pub claimed : List ℕ → ℕ → ℕ → List ℕ
-claimed first place seat = if eqb (getD first place 0) noSeat then set first place seat else first
+unfoldable pub entered : List ℕ → ℕ → ℕ → List ℕ
+entered first place seat = if eqb (getD first place 0) noSeat then set first place seat else first
 
 -- the last bid stands, with that doubling
 unfoldable pub stands : Auction → ℕ → Bool
@@ -45,7 +45,7 @@ afterCall a c =
       doubling = if isBid c then 0 else if eqb c double then 1 else if eqb c redouble then 2 else a .doubling;
       standing = if eqb c pass then a .standing else if eqb c double then stands a 0 else isBid c;
       passes = if eqb c pass then min 4 (a .passes + 1) else 0;
-      first = if isBid c then claimed (a .first) (firstPlace (a .turn) c) (a .turn) else a .first;
+      first = if isBid c then entered (a .first) (firstPlace (a .turn) c) (a .turn) else a .first;
     }
 
 -- after a history, the latest call first

@@ -4,7 +4,7 @@ ghost use mathlib.Core.List.{[]};
 ghost use Prim.Native.Nat.{_+_, _-_, min};
 ghost use Rattle.laws.specs.Cards.{clockwise};
 ghost use Rattle.auction.specs.Position.{stands, afterCall, positionOf};
-ghost use Rattle.auction.specs.Asked.{overOf, passedOutOf, mayDoubleOf, mayRedoubleOf, contractOf, verdictOf, numberOf};
+ghost use Rattle.auction.specs.Asked.{overOf, passedOutOf, mayDoubleOf, mayRedoubleOf, contractOf, verdictOf, numberOf, refusalOf};
 
 // The seat that stands for nobody.
 const NOBODY: u8 = 4;
@@ -214,6 +214,13 @@ impl Auction {
                 }
             }
         }
+    }
+
+    // The number that a code is refused with; 0 where it is allowed.
+    pub fn refusal(self, code: u8) -> u8
+        ensures { λ r. ⌜ r ≡ refusalOf self code ⌝ }
+    {
+        self.verdict(code).number()
     }
 
     // The contract.

@@ -52,7 +52,7 @@ fn show(dealer: u8, calls: &[u8]) {
     let mut i = 0;
     while i < calls.len() {
         let code = calls[i];
-        let why = a.verdict(code).number();
+        let why = a.refusal(code);
         if why != 0 {
             refused(why, i);
             return;

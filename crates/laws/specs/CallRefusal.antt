@@ -1,7 +1,7 @@
 -- The number that a call is refused with after a history of calls: its code first, then the end of the auction, then Laws 18 and 19.
 -- Assumes nothing.
 use Prim.Native.Nat.{ℕ}
-use mathlib.Core.Bool.{Bool}
+use mathlib.Core.Bool.{Bool, not}
 use mathlib.Core.List.{List}
 use lib.Dec.{leb}
 use Rattle.laws.specs.Choice.{if_then_else_}
@@ -15,9 +15,8 @@ isCall c = leb c 37
 -- the number, 0 for a call that is allowed; of the calls that are not, a bid is insufficient, and else it is a double or a redouble
 unfoldable pub callRefusal : ℕ → List ℕ → ℕ → ℕ
 callRefusal dealer h c =
-    if isCall c
-    then if isOver h then callAfterEnd
+    if not (isCall c) then noCall
+    else if isOver h then callAfterEnd
     else if allowed dealer h c then accepted
     else if isBid c then insufficientBid
     else inadmissibleDouble
-    else noCall
