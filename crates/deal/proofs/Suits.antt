@@ -1,5 +1,4 @@
--- A suit's count: it is not 0 exactly when the seat holds a card of the suit, and it counts thirteen bits of the hand.
--- Assumes nothing.
+-- A suit's count is not 0 exactly when the seat holds a card of the suit. Assumes nothing.
 use mathlib.Core.Path.{_≡_, sym, ap, _∙_}
 use mathlib.Core.Bool.{true, false, not, _&&_}
 use mathlib.Core.List.{List}
@@ -14,7 +13,8 @@ use Rattle.laws.specs.Choice.{howMany}
 use Rattle.laws.specs.Cards.{noSeat, dealtTo, cardsDealt}
 use Rattle.laws.specs.Law44.{isOf}
 use Rattle.laws.proofs.Tests.{same-test, and-left, and-right, and-both}
-use Rattle.laws.proofs.Counts.{many-place, place-many, below-some, some-below}
+use Rattle.laws.proofs.Counts.{below-some, some-below}
+use Rattle.laws.proofs.Counts.{many-place, place-many}
 use Rattle.deal.specs.Hands.{wordOf, suitPlaces, suitCount, holdsOne}
 use Rattle.deal.proofs.Words.{ones-word}
 

@@ -31,29 +31,51 @@ front : (l : List ℕ) (k : ℕ) → k < 4 → firstShort l (drop k seats) ≡ (
 unfolding firstShort
 front l k h = ap (firstShort l) (drop-cons seats k 0 h) ∙ rw (seat-at k h)
 
+module _ (l : List ℕ) where
+  -- seats below k that have thirteen are passed
+  passed : (k : ℕ) → k ≤ 4 → ((j : ℕ) → j < k → cardsDealt j l ≡ 13) → shortSeat l ≡ firstShort l (drop k seats)
+  passed zero h all = refl
+  passed (suc k) h all =
+      passed k (omega arith) (λ j low. all j (omega arith))
+      ∙ front l k (omega arith)
+      ∙ rw (eq-eqb (cardsDealt k l) 13 (all k (omega arith)))
+
+  -- where each has thirteen, no seat is short
+  pub each-thirteen : ((j : ℕ) → j < 4 → cardsDealt j l ≡ 13) → shortSeat l ≡ noSeat
+  unfolding firstShort
+  each-thirteen all = passed 4 (omega arith) all
+
+  -- none of the seats from k on is short: k has thirteen, and none of the later ones is short
+  none-from : (k : ℕ) → k < 4 → firstShort l (drop k seats) ≡ noSeat → (cardsDealt k l ≡ 13) × (firstShort l (drop (suc k) seats) ≡ noSeat)
+  none-from k h e =
+      by-test (hasThirteen k l)
+      (λ (q : hasThirteen k l ≡ true). (eqb-true (cardsDealt k l) 13 q, rw (front l k h, q) at e))
+      (λ (q : hasThirteen k l ≡ false). absurd (let z : k ≡ 4 = rw (front l k h, q) at e in omega arith))
+
+  none-after : shortSeat l ≡ noSeat → (k : ℕ) → k ≤ 4 → firstShort l (drop k seats) ≡ noSeat
+  none-after e zero h = e
+  none-after e (suc k) h = none-from k (omega arith) (none-after e k (omega arith)) .1
+
+  -- where no seat is short, each has thirteen
+  pub thirteen-each : shortSeat l ≡ noSeat → (k : ℕ) → k < 4 → cardsDealt k l ≡ 13
+  thirteen-each e k h = none-from k h (none-after e k (omega arith)) .0
+
 -- the words of a deal's seats
 module _ (words l : List ℕ) (e : words ≡ wordsOf l) where
   -- the set bits of a seat's word are its cards
   counted : (k : ℕ) → k < 4 → ones (getD words k 0) ≡ cardsDealt k l
   counted k h = rw e (ap ones (at-seat l k h) ∙ ones-word k l)
 
-  -- seats below k that have thirteen are passed
-  passed : (k : ℕ) → k ≤ 4 → ((j : ℕ) → j < k → ones (getD words j 0) ≡ 13) → shortSeat l ≡ firstShort l (drop k seats)
-  passed zero h all = refl
-  passed (suc k) h all =
-      passed k (omega arith) (λ j low. all j (omega arith))
-      ∙ front l k (omega arith)
-      ∙ rw (eq-eqb (cardsDealt k l) 13 (sym (counted k (omega arith)) ∙ all k (omega arith)))
-
   pub first-off : (k : ℕ) → k < 4 → ((j : ℕ) → j < k → ones (getD words j 0) ≡ 13) → (ones (getD words k 0) ≡ 13 → ⊥) → k ≡ shortSeat l
   first-off k h all off =
-      sym (passed k (omega arith) all ∙ front l k h ∙ rw (ne-eqb (cardsDealt k l) 13 (λ q. off (counted k h ∙ q))))
+      sym (passed l k (omega arith) (λ j low. sym (counted j (omega arith)) ∙ all j low)
+      ∙ front l k h
+      ∙ rw (ne-eqb (cardsDealt k l) 13 (λ q. off (counted k h ∙ q))))
 
   pub none-off : (k : ℕ) → k ≡ 4 → ((j : ℕ) → j < k → ones (getD words j 0) ≡ 13) → 4 ≡ shortSeat l
-  unfolding firstShort
-  none-off k h all = sym (passed k (omega arith) all ∙ rw h)
+  none-off k h all = sym (each-thirteen l (λ j low. sym (counted j low) ∙ all j (omega arith)))
 
--- a holder is one of the four seats, or none: who has four times thirteen of 52 cards has them all
+-- a holder is one of the four seats, or no seat: the counts add up to the cards
 parted : (l : List ℕ) → cardsDealt 0 l + cardsDealt 1 l + cardsDealt 2 l + cardsDealt 3 l + howMany (leb 4) l ≡ length l
 unfolding cardsDealt howMany
 parted [] = refl
@@ -68,20 +90,11 @@ parted (suc (suc (suc (suc x))) ∷ l) =
     no-seat : (s : ℕ) → s < 4 → eqb (suc (suc (suc (suc x)))) s ≡ false
     no-seat s h = ne-eqb (suc (suc (suc (suc x)))) s (λ e. omega arith)
 
--- no seat is short: each has thirteen
-each : (l : List ℕ) (k : ℕ) → k < 4 → firstShort l (drop k seats) ≡ noSeat → (cardsDealt k l ≡ 13) × (firstShort l (drop (suc k) seats) ≡ noSeat)
-each l k h e =
-    by-test (hasThirteen k l)
-    (λ (q : hasThirteen k l ≡ true). (eqb-true (cardsDealt k l) 13 q, rw (front l k h, q) at e))
-    (λ (q : hasThirteen k l ≡ false). absurd (let z : k ≡ 4 = rw (front l k h, q) at e in omega arith))
-
 -- thirteen each of 52 cards: every card has a seat for a holder
 pub all-held : (l : List ℕ) → length l ≡ 52 → shortSeat l ≡ noSeat → (card : ℕ) → card < 52 → dealtTo l card < 4
 all-held l long e card h =
-    let a = each l 0 (omega arith) e in
-    let b = each l 1 (omega arith) (a .1) in
-    let c = each l 2 (omega arith) (b .1) in
-    let d = each l 3 (omega arith) (c .1) in
+    let each = thirteen-each l e in
     by-test (leb 4 (dealtTo l card))
-    (λ (q : leb 4 (dealtTo l card) ≡ true). absurd (omega (arith, parted l, place-many (leb 4) noSeat l card (omega arith) q)))
+    (λ (q : leb 4 (dealtTo l card) ≡ true).
+    absurd (omega (arith, parted l, each 0 (omega arith), each 1 (omega arith), each 2 (omega arith), each 3 (omega arith), place-many (leb 4) noSeat l card (omega arith) q)))
     (λ (q : leb 4 (dealtTo l card) ≡ false). leb-false 4 (dealtTo l card) q)

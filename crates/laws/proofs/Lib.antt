@@ -7,3 +7,5 @@ pub mod Stores
 pub mod Revokes
 pub mod Scale
 pub mod Score
+pub mod CallRefusals
+pub mod Contracts

@@ -4,6 +4,7 @@ pub mod Refusals
 pub mod Cards
 pub mod Law2
 pub mod Auction
+pub mod CallRefusal
 pub mod Law44
 pub mod Law61
 pub mod Law68

@@ -1,0 +1,83 @@
+-- Law 19 on a position: a double or a redouble is allowed by it exactly when the Law on the history allows it. Assumes nothing.
+use Prim.Native.Nat.{ℕ}
+use mathlib.Core.Path.{_≡_, refl, ap, _∙_}
+use mathlib.Core.Bool.{Bool, true, false, not, _&&_}
+use mathlib.Core.List.{List, [], _∷_}
+use borrow.Author.Tests.{eqb-true}
+use lib.Dec.{eqb}
+use Rattle.laws.specs.Cards.{sameSide}
+use Rattle.laws.specs.Auction.{pass, double, isBid, toCall, beforePasses, bidByOpponents, bidByOwnSide, doubledOwnBid, mayDouble, mayRedouble}
+use Rattle.laws.proofs.Tests.{by-test}
+use Rattle.auction.specs.Position.{stands, opening, afterCall, positionOf}
+use Rattle.auction.specs.Asked.{mayDoubleOf, mayRedoubleOf}
+use Rattle.auction.proofs.History.{turn-is}
+
+-- a conjunction with false is false, and with true the rest of it
+and-false : (b : Bool) → (b && false) ≡ false
+and-false true = refl
+and-false false = refl
+
+and-true : (b : Bool) → (b && true) ≡ b
+and-true true = refl
+and-true false = refl
+
+-- the latest call is a bid, by a seat that passes a test
+latestBid : ℕ → (ℕ → Bool) → List ℕ → Bool
+latestBid d test [] = false
+latestBid d test (c ∷ h) = isBid c && test (toCall d h)
+
+-- by a seat of the other side, and of one's own
+opponents : (d s : ℕ) (h : List ℕ) → latestBid d (λ b. not (sameSide b s)) h ≡ bidByOpponents d s h
+unfolding latestBid bidByOpponents
+opponents d s [] = refl
+opponents d s (c ∷ h) = refl
+
+own-side : (d s : ℕ) (h : List ℕ) → latestBid d (λ b. sameSide b s) h ≡ bidByOwnSide d s h
+unfolding latestBid bidByOwnSide
+own-side d s [] = refl
+own-side d s (c ∷ h) = refl
+
+-- a call by its kind: a pass, a double, a bid, or none of these
+by-kind : {A : Type 0} (c : ℕ) → (c ≡ pass → A) → (c ≡ double → A)
+    → (eqb c pass ≡ false → eqb c double ≡ false → isBid c ≡ true → A)
+    → (eqb c pass ≡ false → eqb c double ≡ false → isBid c ≡ false → A) → A
+by-kind c passed doubled bid other =
+    by-test (eqb c pass)
+    (λ (q : eqb c pass ≡ true). passed (eqb-true c pass q))
+    (λ (q : eqb c pass ≡ false). by-test (eqb c double)
+    (λ (r : eqb c double ≡ true). doubled (eqb-true c double r))
+    (λ (r : eqb c double ≡ false). by-test (isBid c) (bid q r) (other q r)))
+
+module _ (d : ℕ) where
+  -- a bid stands that is not doubled: the latest call but passes is a bid, and the position has its bidder
+  bid-stands : (test : ℕ → Bool) (h : List ℕ) → (stands (positionOf d h) 0 && test (positionOf d h .bidder)) ≡ latestBid d test (beforePasses h)
+  unfolding stands positionOf opening afterCall beforePasses latestBid
+  bid-stands test [] = refl
+  bid-stands test (c ∷ h) =
+      let more = bid-stands test h in
+      by-kind c (λ p. rw p more) (λ p. rw p (simp and-false)) (λ q r s. simp (q, r, s, turn-is d h)) (λ q r s. simp (q, r, s))
+
+  -- a bid stands that is doubled: the latest call but passes is a double of it
+  double-stands : (s : ℕ) (h : List ℕ) → (stands (positionOf d h) 1 && sameSide (positionOf d h .bidder) s) ≡ doubledOwnBid d s (beforePasses h)
+  unfolding stands positionOf opening afterCall beforePasses doubledOwnBid
+  double-stands s [] = refl
+  double-stands s (c ∷ h) =
+      let more = double-stands s h in
+      by-kind c
+      (λ p. rw p more)
+      (λ p. rw p (simp and-true (bid-stands (λ b. sameSide b s) h ∙ own-side d s (beforePasses h))))
+      (λ q r t. simp (q, r, t))
+      (λ q r t. simp (q, r, t))
+
+  -- Law 19A
+  pub double-is : (h : List ℕ) → mayDoubleOf (positionOf d h) ≡ mayDouble d h
+  unfolding mayDoubleOf mayDouble
+  double-is h =
+      bid-stands (λ b. not (sameSide b (positionOf d h .turn))) h
+      ∙ opponents d (positionOf d h .turn) (beforePasses h)
+      ∙ ap (λ (s : ℕ). bidByOpponents d s (beforePasses h)) (turn-is d h)
+
+  -- Law 19B
+  pub redouble-is : (h : List ℕ) → mayRedoubleOf (positionOf d h) ≡ mayRedouble d h
+  unfolding mayRedoubleOf mayRedouble
+  redouble-is h = double-stands (positionOf d h .turn) h ∙ ap (λ (s : ℕ). doubledOwnBid d s (beforePasses h)) (turn-is d h)

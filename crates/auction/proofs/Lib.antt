@@ -1,0 +1,5 @@
+pub mod Steps
+pub mod History
+pub mod Doubles
+pub mod First
+pub mod Laws

@@ -1,0 +1,16 @@
+-- `next_seat` meets its contract. Assumes nothing.
+use native.Mathlib.Omega.{arith}
+use borrow.Author.Needs.{needs}
+use Rattle.laws.specs.Cards.{clockwise}
+use Rattle.auction.proofs.next_seat.Statement.{statement}
+use Rattle.auction.proofs.next_seat.Tie as tie
+
+add-result : tie.Need-add-result
+add-result c = search needs
+
+returns : tie.Need-returns
+unfolding clockwise
+returns c = omega arith
+
+pub next-seat-spec : {M : Type 1} → statement M
+next-seat-spec = tie.close (tie.spec add-result returns)

@@ -1,0 +1,54 @@
+-- The position of an auction: before the first call, after one more, and after a history of calls. It holds no history.
+-- Assumes nothing.
+use Prim.Native.Nat.{ℕ, _+_, _*_, _%_, min}
+use mathlib.Core.Bool.{Bool, false, _&&_}
+use mathlib.Core.List.{List, [], _∷_}
+use lib.Dec.{eqb}
+use lib.ListN.{getD, set, replicate}
+use Rattle.laws.specs.Choice.{if_then_else_}
+use Rattle.laws.specs.Cards.{noSeat, clockwise, sideOf}
+use Rattle.laws.specs.Auction.{pass, double, redouble, isBid, strainOf}
+use Rattle.auction.specs.declared.Auction.{Auction}
+
+-- the place of a seat's side and a bid's strain among the first bidders
+unfoldable pub firstPlace : ℕ → ℕ → ℕ
+firstPlace seat bid = sideOf seat * 5 + strainOf bid
+
+-- the seat at a place where nobody stands, and no change where somebody does
+unfoldable pub entered : List ℕ → ℕ → ℕ → List ℕ
+entered first place seat = if eqb (getD first place 0) noSeat then set first place seat else first
+
+-- the last bid stands, with that doubling
+unfoldable pub stands : Auction → ℕ → Bool
+stands a doubling = a .standing && eqb (a .doubling) doubling
+
+-- before the first call; a dealer's number counts modulo 4
+unfoldable pub opening : ℕ → Auction
+opening dealer =
+    record {
+      turn = dealer % 4;
+      last = 0;
+      bidder = noSeat;
+      doubling = 0;
+      standing = false;
+      passes = 0;
+      first = replicate 10 noSeat;
+    }
+
+-- after a call: the passes in a row count up to four, and what is no call takes a turn, and no bid stands after it
+unfoldable pub afterCall : Auction → ℕ → Auction
+afterCall a c =
+    record {
+      turn = clockwise (a .turn) 1;
+      last = if isBid c then c else a .last;
+      bidder = if isBid c then a .turn else a .bidder;
+      doubling = if isBid c then 0 else if eqb c double then 1 else if eqb c redouble then 2 else a .doubling;
+      standing = if eqb c pass then a .standing else if eqb c double then stands a 0 else isBid c;
+      passes = if eqb c pass then min 4 (a .passes + 1) else 0;
+      first = if isBid c then entered (a .first) (firstPlace (a .turn) c) (a .turn) else a .first;
+    }
+
+-- after a history, the latest call first
+unfoldable pub positionOf : ℕ → List ℕ → Auction
+positionOf dealer [] = opening dealer
+positionOf dealer (c ∷ h) = afterCall (positionOf dealer h) c

@@ -1,0 +1,241 @@
+// The auction, a call at a time: a position that steps and returns itself, and holds no history.
+ghost use mathlib.Core.Path.{_≡_};
+ghost use mathlib.Core.List.{[]};
+ghost use Prim.Native.Nat.{_+_, _-_, min};
+ghost use Rattle.laws.specs.Cards.{clockwise};
+ghost use Rattle.auction.specs.Position.{stands, afterCall, positionOf};
+ghost use Rattle.auction.specs.Asked.{overOf, passedOutOf, mayDoubleOf, mayRedoubleOf, contractOf, verdictOf, numberOf, refusalOf};
+
+// The seat that stands for nobody.
+const NOBODY: u8 = 4;
+
+// The highest call, seven notrump.
+const HIGHEST: u8 = 37;
+
+pub struct Auction {
+    // Whose turn it is.
+    turn: u8,
+    // The last bid, 0 before the first, and who made it.
+    last: u8,
+    bidder: u8,
+    // The doubling of the last bid: 0, 1 doubled, 2 redoubled.
+    doubling: u8,
+    // Whether only passes stand since the last bid, or since a double of it that had only passes before it.
+    standing: bool,
+    // The passes in a row, up to four.
+    passes: u8,
+    // At 5 × side + strain, the first player of the side to have bid the strain.
+    first: [u8; 10],
+}
+
+// What is said of a code: it is allowed, or what is wrong with it.
+pub enum Verdict {
+    Allowed,
+    NotACall,
+    AfterEnd,
+    Insufficient,
+    Inadmissible,
+}
+
+impl Verdict {
+    // The number of a verdict among the refusals; 0 for what is allowed.
+    pub fn number(self) -> u8
+        ensures { λ r. ⌜ r ≡ numberOf self ⌝ }
+    {
+        match self {
+            Verdict::Allowed => 0,
+            Verdict::NotACall => 5,
+            Verdict::AfterEnd => 8,
+            Verdict::Insufficient => 6,
+            Verdict::Inadmissible => 7,
+        }
+    }
+}
+
+// The last bid with its doubling, and its declarer. Without a bid it is level 1, strain 0, declarer nobody.
+pub struct Contract {
+    pub level: u8,
+    pub strain: u8,
+    pub doubling: u8,
+    pub declarer: u8,
+}
+
+// The seat to the left.
+fn next_seat(seat: u8) -> u8
+    ensures { λ r. ⌜ r ≡ clockwise seat 1 ⌝ }
+{
+    (seat % 4 + 1) % 4
+}
+
+// One pass more; four are as good as any more.
+fn one_more(passes: u8) -> u8
+    ensures { λ r. ⌜ r ≡ min 4 (passes + 1) ⌝ }
+{
+    if passes < 4 { passes + 1 } else { 4 }
+}
+
+// How far a bid is above one club.
+fn above_club(bid: u8) -> u8
+    ensures { λ r. ⌜ r ≡ bid - 3 ⌝ }
+{
+    if bid < 3 { 0 } else { bid - 3 }
+}
+
+impl Auction {
+    // The position before the first call.
+    pub fn new(dealer: u8) -> Self
+        ensures { λ r. ⌜ r ≡ positionOf dealer [] ⌝ }
+    {
+        Auction {
+            turn: dealer % 4,
+            last: 0,
+            bidder: NOBODY,
+            doubling: 0,
+            standing: false,
+            passes: 0,
+            first: [NOBODY; 10],
+        }
+    }
+
+    // Whether the last bid stands, with that doubling.
+    fn stands(self, doubling: u8) -> bool
+        ensures { λ r. ⌜ r ≡ stands self doubling ⌝ }
+    {
+        if self.standing {
+            return self.doubling == doubling;
+        }
+        false
+    }
+
+    // The position after a call. What is no call takes a turn, and no bid stands after it.
+    pub fn call(mut self, code: u8) -> Self
+        ensures { λ r. ⌜ r ≡ afterCall self code ⌝ }
+    {
+        let turn = self.turn;
+        let undoubled = self.stands(0);
+        self.turn = next_seat(turn);
+        if code == 0 {
+            self.passes = one_more(self.passes);
+            return self;
+        }
+        self.passes = 0;
+        self.standing = false;
+        if code == 1 {
+            self.standing = undoubled;
+            self.doubling = 1;
+            return self;
+        }
+        if code == 2 {
+            self.doubling = 2;
+            return self;
+        }
+        if HIGHEST < code {
+            return self;
+        }
+        self.standing = true;
+        self.last = code;
+        self.bidder = turn;
+        self.doubling = 0;
+        let at = ((turn % 2) * 5 + (code - 3) % 5) as usize;
+        if self.first[at] == NOBODY {
+            self.first[at] = turn;
+        }
+        self
+    }
+
+    // Whether the auction is over.
+    pub fn is_over(self) -> bool
+        ensures { λ r. ⌜ r ≡ overOf self ⌝ }
+    {
+        if self.last == 0 {
+            return self.passes >= 4;
+        }
+        self.passes >= 3
+    }
+
+    // Whether there is no bid: an auction that is over without one is passed out.
+    pub fn is_passed_out(self) -> bool
+        ensures { λ r. ⌜ r ≡ passedOutOf self ⌝ }
+    {
+        self.last == 0
+    }
+
+    // Whether the seat at turn may double.
+    fn may_double(self) -> bool
+        ensures { λ r. ⌜ r ≡ mayDoubleOf self ⌝ }
+    {
+        if self.stands(0) {
+            return self.bidder % 2 != self.turn % 2;
+        }
+        false
+    }
+
+    // Whether the seat at turn may redouble.
+    fn may_redouble(self) -> bool
+        ensures { λ r. ⌜ r ≡ mayRedoubleOf self ⌝ }
+    {
+        if self.stands(1) {
+            return self.bidder % 2 == self.turn % 2;
+        }
+        false
+    }
+
+    // The verdict on a code, called by the seat at turn.
+    pub fn verdict(self, code: u8) -> Verdict
+        ensures { λ r. ⌜ r ≡ verdictOf self code ⌝ }
+    {
+        if HIGHEST < code {
+            return Verdict::NotACall;
+        }
+        if self.is_over() {
+            return Verdict::AfterEnd;
+        }
+        match code {
+            0 => Verdict::Allowed,
+            1 => {
+                if self.may_double() {
+                    Verdict::Allowed
+                } else {
+                    Verdict::Inadmissible
+                }
+            }
+            2 => {
+                if self.may_redouble() {
+                    Verdict::Allowed
+                } else {
+                    Verdict::Inadmissible
+                }
+            }
+            _ => {
+                if self.last < code {
+                    Verdict::Allowed
+                } else {
+                    Verdict::Insufficient
+                }
+            }
+        }
+    }
+
+    // The number that a code is refused with; 0 where it is allowed.
+    pub fn refusal(self, code: u8) -> u8
+        ensures { λ r. ⌜ r ≡ refusalOf self code ⌝ }
+    {
+        self.verdict(code).number()
+    }
+
+    // The contract.
+    pub fn contract(self) -> Contract
+        ensures { λ r. ⌜ r ≡ contractOf self ⌝ }
+    {
+        let above = above_club(self.last);
+        let strain = above % 5;
+        let at = ((self.bidder % 2) * 5 + strain) as usize;
+        let declarer = self.first[at];
+        Contract {
+            level: above / 5 + 1,
+            strain,
+            doubling: self.doubling,
+            declarer,
+        }
+    }
+}

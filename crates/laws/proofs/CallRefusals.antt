@@ -1,0 +1,56 @@
+-- A call is refused with no number exactly when it is allowed; a number is at most 8. Assumes nothing.
+use Prim.Native.Nat.{ℕ, _≤_, _<_}
+use native.Mathlib.Omega.{arith}
+use mathlib.Core.Path.{_≡_}
+use mathlib.Core.Logic.{_↔_}
+use mathlib.Core.Bool.{true, false}
+use mathlib.Core.List.{List}
+use borrow.Author.Tests.{leb-false, le-leb, ne-eqb}
+use Rattle.laws.specs.Refusals.{accepted}
+use Rattle.laws.specs.Auction.{isBid, isOver, allowed}
+use Rattle.laws.specs.CallRefusal.{isCall, callRefusal}
+use Rattle.laws.proofs.Tests.{by-test, not-both}
+
+module _ (d : ℕ) (h : List ℕ) (c : ℕ) where
+  -- no Law allows what is no call
+  pub no-call : isCall c ≡ false → allowed d h c ≡ false
+  unfolding allowed
+  no-call q =
+      let above : 37 < c = leb-false c 37 q in
+      simp (q, le-leb 3 c (omega arith), ne-eqb c 0 (λ e. omega arith), ne-eqb c 1 (λ e. omega arith), ne-eqb c 2 (λ e. omega arith))
+      (by-test (isOver h) (λ (r : isOver h ≡ true). rw r) (λ (r : isOver h ≡ false). rw r))
+
+  -- nor a call after the end
+  pub after-end : isOver h ≡ true → allowed d h c ≡ false
+  unfolding allowed
+  after-end q = rw q
+
+  allowed-accepted : allowed d h c ≡ true → callRefusal d h c ≡ accepted
+  unfolding callRefusal
+  allowed-accepted e =
+      by-test (isCall c)
+      (λ (q : isCall c ≡ true). by-test (isOver h)
+      (λ (r : isOver h ≡ true). not-both (allowed d h c) e (after-end r))
+      (λ (r : isOver h ≡ false). rw (q, r, e)))
+      (λ (q : isCall c ≡ false). not-both (allowed d h c) e (no-call q))
+
+  -- what is not allowed has a number from 5 to 8
+  pub refused : allowed d h c ≡ false → (5 ≤ callRefusal d h c) × (callRefusal d h c ≤ 8)
+  unfolding callRefusal
+  refused e =
+      by-test (isCall c)
+      (λ (q : isCall c ≡ true). by-test (isOver h)
+      (λ (r : isOver h ≡ true). rw (q, r) (omega arith))
+      (λ (r : isOver h ≡ false). by-test (isBid c)
+      (λ (s : isBid c ≡ true). rw (s, q, r, e) (omega arith))
+      (λ (s : isBid c ≡ false). rw (s, q, r, e) (omega arith))))
+      (λ (q : isCall c ≡ false). rw q (omega arith))
+
+  accepted-allowed : callRefusal d h c ≡ accepted → allowed d h c ≡ true
+  accepted-allowed e =
+      by-test (allowed d h c)
+      (λ (q : allowed d h c ≡ true). q)
+      (λ (q : allowed d h c ≡ false). absurd (omega (arith, refused q .0)))
+
+  pub accepted-is : (callRefusal d h c ≡ accepted) ↔ (allowed d h c ≡ true)
+  accepted-is = (accepted-allowed, allowed-accepted)
