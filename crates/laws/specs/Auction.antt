@@ -146,3 +146,11 @@ contract dealer h =
       doubling = doubling h;
       declarer = declarer dealer h;
     }
+
+-- the strain of the contract, as the play's trump, after the calls h
+unfoldable pub trumpAfter : List ℕ → ℕ
+trumpAfter h = strainOf (lastBid h)
+
+-- Law 41A: the seat after declarer leads first
+unfoldable pub openingAfter : ℕ → List ℕ → ℕ
+openingAfter d h = clockwise (declarer d h) 1

@@ -13,4 +13,8 @@ pub mod Law77
 pub mod Law78
 pub mod CardRefusal
 pub mod Record
+pub mod Reading
+pub mod Judge
+pub mod Judgement
+pub mod Lawful
 pub mod Tally

@@ -1,0 +1,109 @@
+-- The judge: the order of checks, section by section as document 01's table has them, on the fields read and the histories of calls and cards.
+-- Assumes nothing.
+use Prim.Native.Nat.{ℕ, _+_, _*_}
+use mathlib.Core.Bool.{Bool, not, _&&_, _||_}
+use mathlib.Core.List.{List, [], _∷_, reverse}
+use lib.Dec.{ltb, eqb}
+use Rattle.laws.specs.Choice.{if_then_else_}
+use Rattle.laws.specs.Refusals.{shortBuffer, noSuchBoard, notThirteen, auctionUnfinished, playCount, playUnfinished, noClaimPoint, claimTooMany}
+use Rattle.laws.specs.Cards.{noSeat, shortSeat}
+use Rattle.laws.specs.Law2.{dealer}
+use Rattle.laws.specs.Auction.{callPlace, isOver, passedOut, trumpAfter, openingAfter}
+use Rattle.laws.specs.CallRefusal.{callRefusal}
+use Rattle.laws.specs.Law44.{cardsPlayed, allPlayed}
+use Rattle.laws.specs.CardRefusal.{cardRefusal}
+use Rattle.laws.specs.Law68.{Claim, none, agreed, atClaimPoint, claimable}
+use Rattle.laws.specs.Record.{Parts}
+use Rattle.laws.specs.Reading.{Reading, Reader, onward, _>>=_, _>>_, give, read, refuse, readRow, readEach, ending}
+use Rattle.laws.specs.Reading.{Reading.refused as stopped, Reading.found as read-to}
+
+-- board and table
+pub record Heading : Type 0 where
+  pub board : ℕ
+  pub table : ℕ
+
+unfoldable pub readHeading : Reader Heading
+readHeading = do
+  board ← read 7
+  table ← read 9
+  refuse noSuchBoard 0 (eqb board 0)
+  refuse noSuchBoard 1 (eqb table 0)
+  give (record { board = board; table = table })
+
+-- the deal
+unfoldable pub readDeal : Reader (List ℕ)
+readDeal = do
+  deal ← readRow 2 52
+  refuse notThirteen (shortSeat deal) (not (eqb (shortSeat deal) noSeat))
+  give deal
+
+-- the calls, latest first; d is the dealer
+unfoldable pub readCalls : ℕ → Reader (List ℕ)
+readCalls d = do
+  count ← read 9
+  h ← readEach 6 callPlace (callRefusal d) count []
+  refuse auctionUnfinished count (not (isOver h))
+  give h
+
+-- the play count and the cards, latest first, after the calls h
+unfoldable pub readCards : ℕ → List ℕ → List ℕ → Reader (List ℕ)
+readCards d deal h = do
+  count ← read 6
+  refuse playCount count (ltb 52 count || (passedOut h && ltb 0 count))
+  readEach 6 cardsPlayed (cardRefusal (trumpAfter h) (openingAfter d h) deal) count []
+
+-- no claim
+unfoldable pub readNoClaim : List ℕ → List ℕ → Reader Claim
+readNoClaim h g = do
+  refuse playUnfinished (cardsPlayed g) (not (passedOut h) && not (allPlayed g))
+  give none
+
+-- a marked claim
+unfoldable pub readMarkedClaim : List ℕ → List ℕ → Reader Claim
+readMarkedClaim h g = do
+  refuse noClaimPoint (cardsPlayed g) (passedOut h || not (atClaimPoint g))
+  tricks ← read 4
+  refuse claimTooMany tricks (not (claimable g tricks))
+  give (agreed tricks)
+
+-- the claim's mark, and the claim
+unfoldable pub readClaim : List ℕ → List ℕ → Reader Claim
+readClaim h g = do
+  mark ← read 1
+  if eqb mark 0 then readNoClaim h g else readMarkedClaim h g
+
+-- the whole record, and nothing after it but padding
+unfoldable pub readRecord : Reader Parts
+readRecord = do
+  top ← readHeading
+  deal ← readDeal
+  h ← readCalls (dealer (top .board))
+  g ← readCards (dealer (top .board)) deal h
+  claim ← readClaim h g
+  ending
+  give (record { board = top .board; table = top .table; deal = deal; calls = reverse h; cards = reverse g; claim = claim })
+
+-- the two lent buffers come before the record; `answer` and `list` are their lengths
+unfoldable pub readLent : ℕ → ℕ → Reader Parts
+readLent answer list = do
+  refuse shortBuffer 0 (ltb answer 7)
+  refuse shortBuffer 1 (ltb list 36)
+  readRecord
+
+-- a refusal with its number and place, or the parts of an accepted record
+pub data Outcome : Type 0 where
+  refused : ℕ → ℕ → Outcome
+  accepted : Parts → Outcome
+
+abbrev pub outcome : Reading Parts → Outcome
+outcome (stopped n place) = refused n place
+outcome (read-to p at) = accepted p
+
+-- what the judge says of the bytes, given buffers of these lengths
+unfoldable pub judgeOf : List ℕ → ℕ → ℕ → Outcome
+judgeOf bytes answer list = outcome (readLent answer list bytes 0)
+
+-- the number returned: 0, or refusal × 1024 + place
+abbrev pub numberOf : Outcome → ℕ
+numberOf (refused n place) = n * 1024 + place
+numberOf (accepted p) = 0
