@@ -3,7 +3,7 @@ use Prim.Native.Nat.{ℕ, zero, suc, _≤_, _<_}
 use native.Mathlib.Omega.{arith}
 use mathlib.Core.Path.{_≡_, refl, ap}
 use mathlib.Core.List.{List, [], _∷_, _++_}
-use lib.ListN.{length, set, replicate}
+use lib.ListN.{length, set, take, replicate}
 use Rattle.laws.specs.Padded.{padded}
 
 module _ {A : Type 0} (z : A) where
@@ -17,3 +17,10 @@ module _ {A : Type 0} (z : A) where
   padded-more zero l x h = absurd (omega arith)
   padded-more (suc n) [] x h = refl
   padded-more (suc n) (y ∷ l) x h = ap (λ (m : List A). y ∷ m) (padded-more n l x (omega arith))
+
+  -- the members again, as many as there are
+  pub padded-back : (n : ℕ) (l : List A) → length l ≤ n → take (length l) (padded z n l) ≡ l
+  unfolding padded
+  padded-back n [] h = refl
+  padded-back zero (x ∷ l) h = absurd (omega arith)
+  padded-back (suc n) (x ∷ l) h = ap (λ (m : List A). x ∷ m) (padded-back n l (omega arith))

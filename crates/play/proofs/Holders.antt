@@ -21,7 +21,7 @@ use Rattle.play.specs.declared.Trick.{Trick}
 use Rattle.play.specs.declared.Play.{Play}
 use Rattle.play.specs.declared.CardVerdict.the-variants.{Playable, NotHeld}
 use Rattle.play.specs.Trick.{turnOf, afterCard}
-use Rattle.play.specs.Position.{putPlayed, startOf, revokesWith, verdictOf, verdictNumber, step}
+use Rattle.play.specs.Position.{putPlayed, startOf, revokeBy, revokesWith, verdictOf, verdictNumber, step}
 use Rattle.play.specs.History.{positionOf, AllPlayed, trickOf, placeOf}
 use Rattle.play.proofs.Cards.{Fair, fair}
 use Rattle.play.proofs.UnderWay.{trick-step, none-led, none-wins, none-by}
@@ -131,7 +131,7 @@ module _ (deal : List ℕ) (trump opening : ℕ) (all : length deal ≡ 52) wher
 
   -- the test of a revoke is the Law's
   pub revoke-law : (g : List ℕ) → AllPlayed deal trump opening g → (card : ℕ) → revokesWith (at g) card ≡ isRevoke trump opening deal g card
-  unfolding revokesWith isRevoke trickOf holdsOne holdsSuit
+  unfolding revokeBy isRevoke trickOf holdsOne holdsSuit
   revoke-law g w card =
       let seat = toPlay trump opening g in
       let suit = suitLed (trickUnderWay g) in

@@ -59,11 +59,13 @@ noRevokes = record { count = 0; list = replicate 36 0 }
 unfoldable pub startOf : List ℕ → ℕ → ℕ → Play
 startOf holders trump opening = record { holders = holders; trick = freshTrick trump opening; tricks = noTricks; revokes = noRevokes }
 
--- the card would be a revoke: another suit was led, and the seat at turn holds a card of it
-unfoldable pub revokesWith : Play → ℕ → Bool
-revokesWith p card =
-    not (eqb (p .trick .cards) 0)
-    && (not (eqb (suitOf card) (p .trick .led)) && holdsOne (p .holders) (turnOf (p .trick)) (p .trick .led))
+-- the card would be a revoke: another suit was led, and by the holders the seat at turn has a card of it
+unfoldable pub revokeBy : List ℕ → Trick → ℕ → Bool
+revokeBy holders t card = not (eqb (t .cards) 0) && (not (eqb (suitOf card) (t .led)) && holdsOne holders (turnOf t) (t .led))
+
+-- the same by the position's holders
+abbrev pub revokesWith : Play → ℕ → Bool
+revokesWith p card = revokeBy (p .holders) (p .trick) card
 
 -- the byte of a revoke at the next card
 abbrev pub byteNext : Play → ℕ

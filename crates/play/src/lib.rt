@@ -11,7 +11,7 @@ ghost use Rattle.play.specs.Position.{
   withRevoke,
   revokeByte,
   startOf,
-  revokesWith,
+  revokeBy,
   verdictOf,
   step,
   byteNext,
@@ -199,6 +199,19 @@ impl Revokes {
     }
 }
 
+// Whether a card would be a revoke, by the holders of the cards before it leaves its hand.
+pub fn is_revoke(holders: [u8; 52], t: Trick, card: u8) -> bool
+    ensures { λ r. ⌜ r ≡ revokeBy holders t card ⌝ }
+{
+    if t.cards == 0 {
+        return false;
+    }
+    if card / 13 == t.led {
+        return false;
+    }
+    holds_suit(holders, t.turn(), t.led)
+}
+
 impl Play {
     // The position before the first card, which `opening` leads.
     pub fn new(holders: [u8; 52], trump: u8, opening: u8) -> Self
@@ -238,21 +251,6 @@ impl Play {
         CardVerdict::NotHeld
     }
 
-    // Whether a card would be a revoke, by the hand before the card leaves it.
-    pub fn is_revoke(self, card: u8) -> bool
-        ensures { λ r. ⌜ r ≡ revokesWith self card ⌝ }
-    {
-        let t = self.trick;
-        if t.cards == 0 {
-            return false;
-        }
-        if card / 13 == t.led {
-            return false;
-        }
-        let holders = self.holders;
-        holds_suit(holders, t.turn(), t.led)
-    }
-
     // The byte of a revoke at the next card.
     fn next_byte(self) -> u8
         ensures { λ r. ⌜ r ≡ byteNext self ⌝ }
@@ -273,10 +271,10 @@ impl Play {
         let held = self.holders;
         let tricks = self.tricks;
         let revokes = self.revokes;
-        let revokes = revokes.after(self.is_revoke(card), self.next_byte());
+        let holders = with_played(held, card, t.turn());
+        let revokes = revokes.after(is_revoke(held, t, card), self.next_byte());
         let next = t.with_card(card);
         let tricks = tricks.after(3 <= t.cards, next.leader);
-        let holders = with_played(held, card, t.turn());
         self.holders = holders;
         self.trick = next;
         self.tricks = tricks;

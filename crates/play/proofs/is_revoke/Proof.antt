@@ -1,16 +1,16 @@
--- `play::Play::is_revoke` meets its contract. Assumes nothing.
+-- `play::is_revoke` meets its contract. Assumes nothing.
 use borrow.Author.Tests.{eq-eqb, ne-eqb}
-use Rattle.play.specs.Position.{revokesWith}
+use Rattle.play.specs.Position.{revokeBy}
 use borrow.Author.Needs.{needs}
-use Rattle.play.proofs.Play.is_revoke.Statement.{statement}
-use Rattle.play.proofs.Play.is_revoke.Tie as tie
+use Rattle.play.proofs.is_revoke.Statement.{statement}
+use Rattle.play.proofs.is_revoke.Tie as tie
 
 returns : tie.Need-returns
-unfolding revokesWith
+unfolding revokeBy
 returns c = simp (eq-eqb _ _ (c .if1 .taken))
 
 returns-2 : tie.Need-returns-2
-unfolding revokesWith
+unfolding revokeBy
 returns-2 c = simp (ne-eqb _ _ (c .before .before .if1 .left), eq-eqb _ _ (c .if2 .taken))
 
 turn-requires : tie.Need-turn-requires
@@ -20,8 +20,8 @@ holds-suit-requires : tie.Need-holds-suit-requires
 holds-suit-requires c κs = search needs
 
 returns-3 : tie.Need-returns-3
-unfolding revokesWith
-returns-3 c = simp (ne-eqb _ _ (c .before .before .before .before .before .if1 .left), ne-eqb _ _ (c .before .before .before .if2 .left), c .holds-suit .ensures, c .before .turn .ensures)
+unfolding revokeBy
+returns-3 c = simp (ne-eqb _ _ (c .before .before .before .before .if1 .left), ne-eqb _ _ (c .before .before .if2 .left), c .holds-suit .ensures, c .before .turn .ensures)
 
 pub is-revoke-spec : {M : Type 1} → statement M
 is-revoke-spec = tie.close (tie.spec returns returns-2 turn-requires holds-suit-requires returns-3)

@@ -1,0 +1,77 @@
+-- The count of Law 64 from the last revoke to the first, a revoke at a time. Assumes nothing.
+use Prim.Native.Nat.{ℕ, zero, suc, _≤_, _<_, _+_, _-_, _%_, min}
+use mathlib.Core.Path.{_≡_, refl, sym, ap, _∙_}
+use mathlib.Core.Bool.{Bool, true, false, _||_}
+use mathlib.Core.List.{List, [], _∷_}
+use native.Mathlib.Omega.{arith}
+use lib.Dec.{eqb}
+use lib.ListN.{length, getD, take, drop, length-take, length-drop}
+use Rattle.laws.specs.Choice.{if_then_else_}
+use Rattle.laws.specs.Cards.{noSeat, clockwise, partnerOf, sideOf}
+use Rattle.laws.specs.Law44.{tricksWon}
+use Rattle.laws.specs.Law61.{Revoke}
+use Rattle.laws.specs.Law64.{repeated, entitlement, wonFrom, Due, dues, total}
+use Rattle.laws.specs.Law68.{claimedTricks}
+use Rattle.laws.proofs.Tests.{by-test}
+use Rattle.laws.proofs.Counts.{many-le}
+use Rattle.play.specs.declared.Tricks.{Tricks}
+use Rattle.play.specs.declared.Revokes.{Revokes}
+use Rattle.transfer.specs.Inputs.{revokeOf, revokesIn, winnersIn, claimedBy, earlier, totalFrom}
+use Rattle.transfer.proofs.Lists.{next-revoke, revokes-end}
+
+at-most-two : (dummy : ℕ) (ws : List ℕ) (before : List Revoke) (r : Revoke) → entitlement dummy ws before r ≤ 2
+unfolding entitlement
+at-most-two dummy ws before r =
+    by-test (eqb (r .seat) dummy || (eqb (r .trick) 12 || repeated before r))
+    (λ (q : (eqb (r .seat) dummy || (eqb (r .trick) 12 || repeated before r)) ≡ true). rw q (omega arith))
+    (λ (q : (eqb (r .seat) dummy || (eqb (r .trick) 12 || repeated before r)) ≡ false). rw q (by-test (eqb (getD ws (r .trick - 1) noSeat) (r .seat))
+    (λ (s : eqb (getD ws (r .trick - 1) noSeat) (r .seat) ≡ true). rw s (omega arith))
+    (λ (s : eqb (getD ws (r .trick - 1) noSeat) (r .seat) ≡ false). rw s (omega arith))))
+
+pub due-bound : (due dummy : ℕ) (ws : List ℕ) (before : List Revoke) (r : Revoke) → due ≡ entitlement dummy ws before r → due ≤ 2
+due-bound due dummy ws before r e = rw e (at-most-two dummy ws before r)
+
+module _ (rs : Revokes) (ts : Tricks) (declarer claim left : ℕ) (all : length (rs .list) ≡ 36) where
+  pub total-end : (i : ℕ) → min (rs .count) 36 ≤ i → totalFrom i rs ts declarer claim left ≡ 0
+  unfolding totalFrom dues total
+  total-end i h = rw (revokes-end rs all i h)
+
+  -- revoke i: what it entitles to is added, up to what its side won from there on
+  pub total-at : (i : ℕ) → i < min (rs .count) 36
+      → totalFrom i rs ts declarer claim left
+      ≡ min (totalFrom (suc i) rs ts declarer claim left + entitlement (partnerOf declarer) (winnersIn ts) (earlier i (rs .list)) (revokeOf (getD (rs .list) i 0)))
+      (wonFrom (winnersIn ts) (claimedBy declarer claim left) (sideOf (revokeOf (getD (rs .list) i 0) .seat)) (revokeOf (getD (rs .list) i 0) .trick))
+  unfolding totalFrom dues total earlier
+  total-at i h = rw (next-revoke rs all i h)
+
+  -- the same for the revoke before a place: s and w are what was counted so far and what is to be had
+  pub total-before : (i due won sum : ℕ) → 0 < i → i ≤ min (rs .count) 36
+      → sum ≡ totalFrom i rs ts declarer claim left
+      → due ≡ entitlement (partnerOf declarer) (winnersIn ts) (earlier (i - 1) (rs .list)) (revokeOf (getD (rs .list) (i - 1) 0))
+      → won
+      ≡ wonFrom (winnersIn ts) (claimedBy declarer claim left) (sideOf (revokeOf (getD (rs .list) (i - 1) 0) .seat)) (revokeOf (getD (rs .list) (i - 1) 0) .trick)
+      → min (sum + due) won ≡ totalFrom (i - 1) rs ts declarer claim left
+  total-before zero due won sum h k es ed ew = absurd (omega arith)
+  total-before (suc j) due won sum h k es ed ew =
+      let e : suc j - 1 ≡ j = omega arith in
+      let fd = rw e at ed in
+      let fw = rw e at ew in
+      rw (e, es, fd, fw) (sym (total-at j (omega arith)))
+
+-- ---- bounds
+pub won-bound : (ts : Tricks) → length (ts .winners) ≡ 13 → (side k : ℕ) → tricksWon side (drop k (winnersIn ts)) ≤ 13
+unfolding tricksWon winnersIn
+won-bound ts n side k =
+    let l = take (ts .count) (ts .winners) in
+    omega (arith, many-le (λ seat. eqb (sideOf seat) side) (drop k l), length-drop k l, length-take (ts .count) (ts .winners))
+
+pub claimed-bound : (declarer claim left side : ℕ) → claimedBy declarer claim left side ≤ claim + left
+unfolding claimedBy claimedTricks
+claimed-bound declarer claim left side =
+    by-test (eqb side (sideOf declarer))
+    (λ (q : eqb side (sideOf declarer) ≡ true). rw q (omega arith))
+    (λ (q : eqb side (sideOf declarer) ≡ false). rw q (omega arith))
+
+pub dummy-is : (declarer : ℕ) → (declarer % 4 + 2) % 4 ≡ partnerOf declarer
+unfolding clockwise
+dummy-is declarer = omega arith

@@ -1,0 +1,129 @@
+-- The listed revokes and the winners, a place at a time. Assumes nothing.
+use Prim.Native.Nat.{ℕ, zero, suc, _≤_, _<_, _+_, _-_, _/_, _%_, min}
+use mathlib.Core.Path.{_≡_, refl, sym, ap, _∙_}
+use mathlib.Core.Bool.{Bool, true, false, _&&_, _||_}
+use mathlib.Core.List.{List, [], _∷_, map}
+use native.Mathlib.Omega.{arith}
+use native.Mathlib.Numerals.{add-one}
+use borrow.Author.Tests.{eqb-true, eq-eqb}
+use lib.Dec.{eqb}
+use lib.ListN.{length, getD, take, drop, length-take, List·getD-eq-default}
+use lib.Seq.{drop-cons, getD-take}
+use Rattle.laws.specs.Choice.{if_then_else_, some, howMany}
+use Rattle.laws.specs.Cards.{noSeat}
+use Rattle.laws.specs.Law44.{tricksWon}
+use Rattle.laws.specs.Law61.{Revoke}
+use Rattle.laws.specs.Law64.{repeated, sideRevoked}
+use Rattle.laws.proofs.Tests.{same-test, and-left, and-right, and-both}
+use Rattle.laws.proofs.Counts.{any-default}
+use Rattle.play.specs.declared.Tricks.{Tricks}
+use Rattle.play.specs.declared.Revokes.{Revokes}
+use Rattle.transfer.specs.Inputs.{revokeOf, revokesIn, winnersIn, earlier}
+
+-- ---- the first n of a list, from a place on
+from-place : (l : List ℕ) (n i : ℕ) → i < length l → i < n → drop i (take n l) ≡ getD l i 0 ∷ drop (suc i) (take n l)
+from-place l n i h k = drop-cons (take n l) i 0 (rw (length-take n l) (omega arith)) ∙ ap (λ (x : ℕ). x ∷ drop (suc i) (take n l)) (getD-take n l i 0 k)
+
+past-end : {A : Type 0} (l : List A) (i : ℕ) → length l ≤ i → drop i l ≡ []
+past-end [] zero h = refl
+past-end [] (suc i) h = refl
+past-end (x ∷ l) zero h = absurd (omega arith)
+past-end (x ∷ l) (suc i) h = past-end l i (omega arith)
+
+drop-map : {A B : Type 0} (f : A → B) (i : ℕ) (l : List A) → drop i (map f l) ≡ map f (drop i l)
+drop-map f zero l = refl
+drop-map f (suc i) [] = refl
+drop-map f (suc i) (x ∷ l) = drop-map f i l
+
+module _ (rs : Revokes) (all : length (rs .list) ≡ 36) where
+  pub next-revoke : (i : ℕ) → i < min (rs .count) 36 → drop i (revokesIn rs) ≡ revokeOf (getD (rs .list) i 0) ∷ drop (suc i) (revokesIn rs)
+  unfolding revokesIn
+  next-revoke i h =
+      let l = take (rs .count) (rs .list) in
+      drop-map revokeOf i l ∙ ap (map revokeOf) (from-place (rs .list) (rs .count) i (omega arith) (omega arith))
+      ∙ ap (λ (m : List Revoke). revokeOf (getD (rs .list) i 0) ∷ m) (sym (drop-map revokeOf (suc i) l))
+
+  pub revokes-end : (i : ℕ) → min (rs .count) 36 ≤ i → drop i (revokesIn rs) ≡ []
+  unfolding revokesIn
+  revokes-end i h =
+      drop-map revokeOf i (take (rs .count) (rs .list)) ∙ ap (map revokeOf) (past-end (take (rs .count) (rs .list)) i (rw (length-take (rs .count) (rs .list)) (omega arith)))
+
+module _ (ts : Tricks) (all : length (ts .winners) ≡ 13) where
+  pub next-winner : (i : ℕ) → i < min (ts .count) 13 → drop i (winnersIn ts) ≡ getD (ts .winners) i 0 ∷ drop (suc i) (winnersIn ts)
+  unfolding winnersIn
+  next-winner i h = from-place (ts .winners) (ts .count) i (omega arith) (omega arith)
+
+  pub winners-end : (i : ℕ) → min (ts .count) 13 ≤ i → drop i (winnersIn ts) ≡ []
+  unfolding winnersIn
+  winners-end i h = past-end (take (ts .count) (ts .winners)) i (rw (length-take (ts .count) (ts .winners)) (omega arith))
+
+-- ---- a revoke before: the same seat and suit, by the low four bits
+pub same-low : (a b : ℕ) → (eqb (a / 4 % 4) (b / 4 % 4) && eqb (a % 4) (b % 4)) ≡ eqb (a % 16) (b % 16)
+same-low a b =
+    same-test (eqb (a / 4 % 4) (b / 4 % 4) && eqb (a % 4) (b % 4)) (eqb (a % 16) (b % 16))
+    (λ (e : (eqb (a / 4 % 4) (b / 4 % 4) && eqb (a % 4) (b % 4)) ≡ true).
+    let seat = eqb-true (a / 4 % 4) (b / 4 % 4) (and-left (eqb (a / 4 % 4) (b / 4 % 4)) (eqb (a % 4) (b % 4)) e) in
+    let suit = eqb-true (a % 4) (b % 4) (and-right (eqb (a / 4 % 4) (b / 4 % 4)) (eqb (a % 4) (b % 4)) e) in
+    eq-eqb (a % 16) (b % 16) (omega arith))
+    (λ (e : eqb (a % 16) (b % 16) ≡ true).
+    let low = eqb-true (a % 16) (b % 16) e in
+    and-both (eqb (a / 4 % 4) (b / 4 % 4)) (eqb (a % 4) (b % 4)) (eq-eqb (a / 4 % 4) (b / 4 % 4) (omega arith)) (eq-eqb (a % 4) (b % 4) (omega arith)))
+
+pub none-before : (byte : ℕ) (l : List ℕ) → repeated (earlier 0 l) (revokeOf byte) ≡ false
+unfolding repeated some earlier
+none-before byte l = refl
+
+pub one-before : (byte j : ℕ) (l : List ℕ) → repeated (earlier (suc j) l) (revokeOf byte) ≡ (eqb (getD l j 0 % 16) (byte % 16) || repeated (earlier j l) (revokeOf byte))
+unfolding repeated some earlier
+one-before byte j l = rw (same-low (getD l j 0) byte)
+
+-- ---- a side's revokes and tricks from a place on
+pub side-none : (side : ℕ) → sideRevoked side [] ≡ false
+unfolding sideRevoked some
+side-none side = refl
+
+pub side-next : (side byte : ℕ) (rest : List Revoke) → sideRevoked side (revokeOf byte ∷ rest) ≡ (eqb (byte / 4 % 2) side || sideRevoked side rest)
+unfolding sideRevoked some
+side-next side byte rest = let e : byte / 4 % 4 % 2 ≡ byte / 4 % 2 = omega arith in rw e
+
+pub won-none : (side : ℕ) → tricksWon side [] ≡ 0
+unfolding tricksWon howMany
+won-none side = refl
+
+pub won-next : (side seat : ℕ) (rest : List ℕ) → tricksWon side (seat ∷ rest) ≡ (if eqb (seat % 2) side then 1 else 0) + tricksWon side rest
+unfolding tricksWon howMany
+won-next side seat rest = refl
+
+-- the place before a place that is not the first
+pub place-before : (byte j : ℕ) (l : List ℕ) → 0 < j
+    → repeated (earlier j l) (revokeOf byte) ≡ (eqb (getD l (j - 1) 0 % 16) (byte % 16) || repeated (earlier (j - 1) l) (revokeOf byte))
+place-before byte zero l h = absurd (omega arith)
+place-before byte (suc j) l h = let e : suc j - 1 ≡ j = omega arith in rw e (one-before byte j l)
+
+-- ---- the same at a place of the arrays
+module _ (rs : Revokes) (all : length (rs .list) ≡ 36) where
+  pub side-at : (side i : ℕ) → i < min (rs .count) 36
+      → sideRevoked side (drop i (revokesIn rs)) ≡ (eqb (getD (rs .list) i 0 / 4 % 2) side || sideRevoked side (drop (i + 1) (revokesIn rs)))
+  side-at side i h =
+      ap (sideRevoked side) (next-revoke rs all i h) ∙ side-next side (getD (rs .list) i 0) (drop (suc i) (revokesIn rs)) ∙ rw add-one
+
+  pub side-end : (side i : ℕ) → min (rs .count) 36 ≤ i → sideRevoked side (drop i (revokesIn rs)) ≡ false
+  side-end side i h = ap (sideRevoked side) (revokes-end rs all i h) ∙ side-none side
+
+module _ (ts : Tricks) (all : length (ts .winners) ≡ 13) where
+  pub won-at : (side i : ℕ) → i < min (ts .count) 13
+      → tricksWon side (drop i (winnersIn ts)) ≡ (if eqb (getD (ts .winners) i 0 % 2) side then 1 else 0) + tricksWon side (drop (i + 1) (winnersIn ts))
+  won-at side i h =
+      ap (tricksWon side) (next-winner ts all i h) ∙ won-next side (getD (ts .winners) i 0) (drop (suc i) (winnersIn ts)) ∙ rw add-one
+
+  pub won-end : (side i : ℕ) → min (ts .count) 13 ≤ i → tricksWon side (drop i (winnersIn ts)) ≡ 0
+  won-end side i h = ap (tricksWon side) (winners-end ts all i h) ∙ won-none side
+
+  -- the winner at a place, or nobody
+  pub winner-at : (i : ℕ) → i < min (ts .count) 13 → getD (ts .winners) i 0 ≡ getD (winnersIn ts) i noSeat
+  unfolding winnersIn
+  winner-at i h = any-default (ts .winners) i 0 noSeat (omega arith) ∙ sym (getD-take (ts .count) (ts .winners) i noSeat (omega arith))
+
+  pub no-winner : (i : ℕ) → min (ts .count) 13 ≤ i → noSeat ≡ getD (winnersIn ts) i noSeat
+  unfolding winnersIn
+  no-winner i h = sym (List·getD-eq-default (take (ts .count) (ts .winners)) noSeat (rw (length-take (ts .count) (ts .winners)) (omega arith)))
