@@ -9,3 +9,5 @@ pub mod Scale
 pub mod Score
 pub mod CallRefusals
 pub mod Contracts
+pub mod Bits
+pub mod Bytes
