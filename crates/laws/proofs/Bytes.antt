@@ -11,12 +11,9 @@ use lib.Pow.{mod-pow-add}
 use lib.Pow as P
 use lib.Seq.{ext-getD}
 use Rattle.laws.specs.Reading.{bitAt, numberAt}
+use Rattle.laws.specs.Bytes.{Bytes}
 use Rattle.laws.specs.Record.{bytesOf}
 use Rattle.laws.proofs.Bits.{number-add, number-within}
-
--- bytes are below 256
-abbrev pub Bytes : List ℕ → Type 0
-Bytes bytes = (i : ℕ) → getD bytes i 0 < 256
 
 module _ (bytes : List ℕ) (q : ℕ) where
   bit-in : (j : ℕ) → j < 8 → bitAt bytes (8 * q + j) ≡ getD bytes q 0 / 2 ^ (7 - j) % 2

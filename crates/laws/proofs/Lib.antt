@@ -11,3 +11,13 @@ pub mod CallRefusals
 pub mod Contracts
 pub mod Bits
 pub mod Bytes
+pub mod Written
+pub mod Spelled
+pub mod Readings
+pub mod Histories
+pub mod Exact
+pub mod CardRefusals
+pub mod Sections
+pub mod Claims
+pub mod LawfulParts
+pub mod Accepts
