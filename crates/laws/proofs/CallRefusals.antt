@@ -5,7 +5,7 @@ use mathlib.Core.Path.{_≡_}
 use mathlib.Core.Logic.{_↔_}
 use mathlib.Core.Bool.{true, false}
 use mathlib.Core.List.{List}
-use borrow.Author.Tests.{leb-false, le-leb, ne-eqb}
+use borrow.Author.Tests.{leb-true, leb-false, le-leb, ne-eqb}
 use Rattle.laws.specs.Refusals.{accepted}
 use Rattle.laws.specs.Auction.{isBid, isOver, allowed}
 use Rattle.laws.specs.CallRefusal.{isCall, callRefusal}
@@ -54,3 +54,10 @@ module _ (d : ℕ) (h : List ℕ) (c : ℕ) where
 
   pub accepted-is : (callRefusal d h c ≡ accepted) ↔ (allowed d h c ≡ true)
   accepted-is = (accepted-allowed, allowed-accepted)
+
+-- what is allowed is a call, and fits six bits
+pub allowed-lt : (d : ℕ) (h : List ℕ) (c : ℕ) → allowed d h c ≡ true → c < 64
+allowed-lt d h c e =
+    by-test (isCall c)
+    (λ (q : isCall c ≡ true). let l : c ≤ 37 = leb-true c 37 q in omega arith)
+    (λ (q : isCall c ≡ false). not-both (allowed d h c) e (no-call d h c q))

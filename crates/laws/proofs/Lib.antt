@@ -9,3 +9,15 @@ pub mod Scale
 pub mod Score
 pub mod CallRefusals
 pub mod Contracts
+pub mod Bits
+pub mod Bytes
+pub mod Written
+pub mod Spelled
+pub mod Readings
+pub mod Histories
+pub mod Exact
+pub mod CardRefusals
+pub mod Sections
+pub mod Claims
+pub mod LawfulParts
+pub mod Accepts

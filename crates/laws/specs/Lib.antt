@@ -12,6 +12,7 @@ pub mod Law64
 pub mod Law77
 pub mod Law78
 pub mod CardRefusal
+pub mod Bytes
 pub mod Record
 pub mod Reading
 pub mod Judge
