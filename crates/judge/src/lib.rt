@@ -1,0 +1,2 @@
+// The judge of table records: the record read in order, scored by Law 77, the answer written.
+mod law77;
