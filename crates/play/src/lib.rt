@@ -13,6 +13,7 @@ ghost use Rattle.play.specs.Position.{
   startOf,
   revokeBy,
   verdictOf,
+  verdictNumber,
   step,
   byteNext,
 };
@@ -212,6 +213,19 @@ pub fn is_revoke(holders: [u8; 52], t: Trick, card: u8) -> bool
     holds_suit(holders, t.turn(), t.led)
 }
 
+impl CardVerdict {
+    // The number of a verdict among the refusals; 0 for a card that may be played.
+    pub fn number(self) -> u8
+        ensures { λ r. ⌜ r ≡ verdictNumber self ⌝ }
+    {
+        match self {
+            CardVerdict::Playable => 0,
+            CardVerdict::NoCard => 11,
+            CardVerdict::NotHeld => 12,
+        }
+    }
+}
+
 impl Play {
     // The position before the first card, which `opening` leads.
     pub fn new(holders: [u8; 52], trump: u8, opening: u8) -> Self
@@ -249,6 +263,13 @@ impl Play {
             return CardVerdict::Playable;
         }
         CardVerdict::NotHeld
+    }
+
+    // The number that a card is refused with; 0 for none.
+    pub fn refusal(self, card: u8) -> u8
+        ensures { λ r. ⌜ r ≡ verdictNumber (verdictOf self card) ⌝ }
+    {
+        self.verdict(card).number()
     }
 
     // The byte of a revoke at the next card.
