@@ -1,17 +1,16 @@
 -- Lawful parts are what the sections take, and the other way round; and the values of lawful parts fit their fields. Assumes nothing.
-use Prim.Native.Nat.{ℕ, _+_, _≤_, _<_, _^_}
+use Prim.Native.Nat.{ℕ, _<_}
 use native.Mathlib.Omega.{arith}
-use mathlib.Core.Path.{_≡_, refl, sym}
-use mathlib.Core.Bool.{true, _&&_}
-use mathlib.Core.List.{List, [], _∷_, _++_, reverse, reverse-reverse}
+use mathlib.Core.Path.{_≡_}
+use mathlib.Core.Bool.{true}
+use mathlib.Core.List.{List, [], _++_, reverse, reverse-reverse}
 use borrow.Author.Tests.{leb-true}
-use lib.Dec.{leb, eqb}
-use lib.ListN.{length, getD, length-reverse}
+use lib.ListN.{getD, length-reverse}
 use Rattle.laws.specs.Law2.{dealer}
-use Rattle.laws.specs.Auction.{isOver, passedOut, allowed, trumpAfter, openingAfter}
+use Rattle.laws.specs.Auction.{allowed, trumpAfter, openingAfter}
 use Rattle.laws.specs.Law44.{playable, tricksLeft}
 use Rattle.laws.specs.Law68.{Claim, none, agreed, claimable}
-use Rattle.laws.specs.Record.{Parts, Field, field, row, claimFields, layout}
+use Rattle.laws.specs.Record.{Parts, row, claimFields, layout}
 use Rattle.laws.specs.Judge.{Heading}
 use Rattle.laws.specs.Lawful.{Claimed, Lawful}
 use Rattle.laws.proofs.Written.{Fit, fit-append}
@@ -46,7 +45,7 @@ module _ (x : Heading) (deal h g : List ℕ) (claim : Claim) where
         layout =
             record {
               board-from = a .heading .board-from;
-              board-to = a .heading .board-to;
+              board-to = omega (arith, a .heading .board-to);
               table-from = a .heading .table-from;
               table-to = a .heading .table-to;
               holders = a .dealt .holders;
@@ -95,7 +94,7 @@ module _ (p : Parts) (ok : Lawful p) where
         heading =
             record {
               board-from = ok .layout .board-from;
-              board-to = ok .layout .board-to;
+              board-to = omega (arith, ok .layout .board-to);
               table-from = ok .layout .table-from;
               table-to = ok .layout .table-to;
             };

@@ -1,14 +1,14 @@
 -- How long a lawful record is: an auction that is over has at least four calls, and the record at least 20 bytes. Assumes nothing.
-use Prim.Native.Nat.{ℕ, suc, _+_, _*_, _≤_, _<_}
+use Prim.Native.Nat.{ℕ, _+_, _*_, _≤_, _<_}
 use native.Mathlib.Nat.{mul-zero, mul-suc}
 use native.Mathlib.Omega.{arith}
 use mathlib.Core.Path.{_≡_, refl, sym}
-use mathlib.Core.Bool.{Bool, true, false, not}
+use mathlib.Core.Bool.{true, false}
 use mathlib.Core.List.{List, [], _∷_, _++_, reverse}
 use borrow.Author.Tests.{leb-true, eqb-true}
-use lib.Dec.{eqb, leb}
+use lib.Dec.{eqb}
 use lib.ListN.{length, length-reverse}
-use Rattle.laws.specs.Auction.{pass, isBid, lastBid, hasBid, passesInARow, isOver}
+use Rattle.laws.specs.Auction.{pass, lastBid, hasBid, passesInARow, isOver}
 use Rattle.laws.specs.Law68.{Claim, none, agreed}
 use Rattle.laws.specs.Record.{Parts, Field, field, row, bits, claimFields, layout, encode}
 use Rattle.laws.specs.Lawful.{Lawful}

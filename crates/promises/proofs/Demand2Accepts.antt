@@ -1,8 +1,8 @@
 -- The judge accepts exactly the encodings of lawful parts, its number is 0 or a refusal with its place, and document 01's byte examples.
 -- Assumes nothing.
-use Prim.Native.Nat.{ℕ, _+_, _*_, _≤_, _<_}
+use Prim.Native.Nat.{ℕ, _≤_, _<_}
 use native.Mathlib.Omega.{arith}
-use mathlib.Core.Path.{_≡_, refl, sym, ap, _∙_}
+use mathlib.Core.Path.{_≡_, refl, ap}
 use mathlib.Core.Logic.{_↔_, _⊎_, inl, inr}
 use mathlib.Core.Bool.{true, false}
 use mathlib.Core.List.{List}
@@ -12,7 +12,7 @@ use lib.ListN.{length}
 use Rattle.laws.specs.Bytes.{Bytes}
 use Rattle.laws.specs.Refusals.{shortBuffer}
 use Rattle.laws.specs.Record.{Parts, encode, packed}
-use Rattle.laws.specs.Judge.{Outcome, Outcome.refused, Outcome.accepted, readLent, outcome, judgeOf, numberOf}
+use Rattle.laws.specs.Judge.{Outcome, Outcome.refused, Outcome.accepted, readLent, judgeOf, numberOf}
 use Rattle.laws.specs.Lawful.{Lawful}
 use Rattle.laws.proofs.Tests.{by-test}
 use Rattle.laws.proofs.Bytes.{bytes-of}

@@ -11,7 +11,7 @@ use Rattle.laws.specs.Bytes.{Bytes}
 use Rattle.laws.specs.Refusals.{shortBuffer}
 use Rattle.laws.specs.Cards.{north, east, south, west}
 use Rattle.laws.specs.Auction.{pass, passedOut}
-use Rattle.laws.specs.Law68.{Claim, none, agreed}
+use Rattle.laws.specs.Law68.{none, agreed}
 use Rattle.laws.specs.Record.{Parts, encode}
 use Rattle.laws.specs.Judge.{Outcome.refused, Outcome.accepted, judgeOf, numberOf}
 use Rattle.laws.specs.Lawful.{Lawful}
