@@ -124,10 +124,13 @@ deal-exact =
     passes : (x : List ℕ) → shortSeat x ≡ noSeat → not (eqb (shortSeat x) noSeat) ≡ false
     passes x e = rw (eq-eqb (shortSeat x) noSeat e)
 
--- the calls
+-- the calls: d the dealer, h the calls before c
+abbrev pub MayCall : ℕ → List ℕ → ℕ → Type 0
+MayCall d h c = allowed d h c ≡ true
+
 pub record CallsStand (d : ℕ) (h : List ℕ) : Type 0 where
   pub count : length h ≤ 511
-  pub allow : Each (λ g c. allowed d g c ≡ true) [] (reverse h)
+  pub allow : Each (MayCall d) [] (reverse h)
   pub over : isOver h ≡ true
 
 abbrev pub callsFields : List ℕ → List Field
@@ -135,8 +138,8 @@ callsFields h = field 9 (length h) ∷ row 6 (reverse h)
 
 module _ (d : ℕ) where
   -- the codes of the calls
-  calls-each : (n : ℕ) → Exact (readEach 6 callPlace (callRefusal d) n []) (λ h. (length h ≡ n) × Each (λ g c. allowed d g c ≡ true) [] (reverse h)) (λ h. row 6 (reverse h))
-  calls-each n = each-exact 6 callPlace (callRefusal d) (λ g c. allowed d g c ≡ true) (accepted-is d) n
+  calls-each : (n : ℕ) → Exact (readEach 6 callPlace (callRefusal d) n []) (λ h. (length h ≡ n) × Each (MayCall d) [] (reverse h)) (λ h. row 6 (reverse h))
+  calls-each n = each-exact 6 callPlace (callRefusal d) (MayCall d) (accepted-is d) n
 
   pub calls-exact : Exact (readCalls d) (CallsStand d) callsFields
   unfolding readCalls
@@ -161,20 +164,23 @@ module _ (d : ℕ) where
             );
       }
 
--- the cards
+-- the cards: h the calls, g the cards before c
+abbrev pub MayPlay : ℕ → List ℕ → List ℕ → List ℕ → ℕ → Type 0
+MayPlay d deal h g c = playable (trumpAfter h) (openingAfter d h) deal g c ≡ true
+
 pub record CardsStand (d : ℕ) (deal h g : List ℕ) : Type 0 where
   pub count : length g ≤ 52
   pub none-if-passed-out : passedOut h ≡ true → length g ≡ 0
-  pub allow : Each (λ f c. playable (trumpAfter h) (openingAfter d h) deal f c ≡ true) [] (reverse g)
+  pub allow : Each (MayPlay d deal h) [] (reverse g)
 
 abbrev pub cardsFields : List ℕ → List Field
 cardsFields g = field 6 (length g) ∷ row 6 (reverse g)
 
 module _ (d : ℕ) (deal h : List ℕ) (full : length deal ≡ 52) where
   cards-each : (n : ℕ) → Exact (readEach 6 cardsPlayed (cardRefusal (trumpAfter h) (openingAfter d h) deal) n [])
-      (λ g. (length g ≡ n) × Each (λ f c. playable (trumpAfter h) (openingAfter d h) deal f c ≡ true) [] (reverse g)) (λ g. row 6 (reverse g))
+      (λ g. (length g ≡ n) × Each (MayPlay d deal h) [] (reverse g)) (λ g. row 6 (reverse g))
   cards-each n =
-      each-exact 6 cardsPlayed (cardRefusal (trumpAfter h) (openingAfter d h) deal) (λ f c. playable (trumpAfter h) (openingAfter d h) deal f c ≡ true)
+      each-exact 6 cardsPlayed (cardRefusal (trumpAfter h) (openingAfter d h) deal) (MayPlay d deal h)
       (λ f c. card-accepted-is (trumpAfter h) (openingAfter d h) deal f c full) n
 
   pub cards-exact : Exact (readCards d deal h) (CardsStand d deal h) cardsFields

@@ -75,11 +75,11 @@ module _ (bytes : List ℕ) (answer list : ℕ) where
       λ (p, ok, e). ap numberOf (accepts-parts answer list ha hl bytes small p .1 (ok, e)),
     )
 
--- parts whose encoding the judge accepts as them are lawful
 bytes-encoded : (p : Parts) → Bytes (encode p)
 unfolding encode packed
 bytes-encoded p = bytes-of _ _
 
+-- parts whose encoding the judge accepts as them are lawful
 by-judging : (p : Parts) → judgeOf (encode p) 7 36 ≡ accepted p → Lawful p
 by-judging p e = accepts-parts 7 36 (lit≤ tt) (lit≤ tt) (encode p) (bytes-encoded p) p .0 e .0
 
@@ -89,6 +89,7 @@ demand-2-accepts =
       accepts = λ bytes small answer list ha hl. accepts bytes answer list small ha hl;
       accepts-parts = λ bytes small answer list ha hl p. accepts-parts answer list ha hl bytes small p;
       read-back = λ p ok answer list ha hl. read-back answer list ha hl p ok;
+      encoded-bytes = bytes-encoded;
       unique = unique;
       zero-accepts = zero-accepts;
       zero-or-refusal = λ bytes answer list. either (judgeOf bytes answer list) (ruled bytes answer list);

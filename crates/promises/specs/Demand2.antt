@@ -58,6 +58,8 @@ pub record Demand2Accepts : Type 0 where
       → (judgeOf bytes answer list ≡ accepted p) ↔ (Lawful p × (bytes ≡ encode p))
   -- the encoding of lawful parts is read back as them
   pub read-back : (p : Parts) → Lawful p → (answer list : ℕ) → 7 ≤ answer → 36 ≤ list → judgeOf (encode p) answer list ≡ accepted p
+  -- an encoding is bytes
+  pub encoded-bytes : (p : Parts) → Bytes (encode p)
   -- no bytes are the encoding of two lawful parts
   pub unique : (p q : Parts) → Lawful p → Lawful q → encode p ≡ encode q → p ≡ q
   -- the number is 0 exactly when a record is accepted, and else a refusal and its place
