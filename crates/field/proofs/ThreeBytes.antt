@@ -21,25 +21,26 @@ use Rattle.field.specs.Field.{fieldAt}
 abbrev pub Byte : List ℕ → ℕ → ℕ → Type 0
 Byte bytes i b = (b ≡ getD bytes i 0) × (b < 256)
 
-module _ (bytes : List ℕ) (q : ℕ) {a b c : ℕ} (ha : Byte bytes q a) (hb : Byte bytes (q + 1) b) (hc : Byte bytes (q + 2) c) where
-  -- three bytes as one number
-  number-three : numberAt bytes (8 * q) 24 ≡ a * 65536 + b * 256 + c
-  number-three =
-      let e : 8 * q + 8 ≡ 8 * (q + 1) = omega arith in
-      let f : 8 * q + 16 ≡ 8 * (q + 2) = omega arith in
-      let x = number-byte bytes q (rw (ha .0) at (ha .1)) in
-      let y = number-byte bytes (q + 1) (rw (hb .0) at (hb .1)) in
-      let z = number-byte bytes (q + 2) (rw (hc .0) at (hc .1)) in
-      number-add bytes (8 * q) 16 8
-      ∙ ap (λ (n : ℕ). n * 2 ^ 8 + numberAt bytes (8 * q + 16) 8) (number-add bytes (8 * q) 8 8)
-      ∙ rw (e, f, x, y, z, ← ha .0, ← hb .0, ← hc .0) (omega arith)
+-- three bytes as one number
+pub number-three : (bytes : List ℕ) (q : ℕ) {a b c : ℕ} → Byte bytes q a → Byte bytes (q + 1) b → Byte bytes (q + 2) c → a * 65536 + b * 256 + c ≡ numberAt bytes (8 * q) 24
+number-three bytes q ha hb hc =
+    let e : 8 * q + 8 ≡ 8 * (q + 1) = omega arith in
+    let f : 8 * q + 16 ≡ 8 * (q + 2) = omega arith in
+    let x = number-byte bytes q (rw (ha .0) at (ha .1)) in
+    let y = number-byte bytes (q + 1) (rw (hb .0) at (hb .1)) in
+    let z = number-byte bytes (q + 2) (rw (hc .0) at (hc .1)) in
+    sym
+    (number-add bytes (8 * q) 16 8
+    ∙ ap (λ (n : ℕ). n * 2 ^ 8 + numberAt bytes (8 * q + 16) 8) (number-add bytes (8 * q) 8 8)
+    ∙ rw (e, f, x, y, z, ← ha .0, ← hb .0, ← hc .0) (omega arith))
 
-  -- a field of at most 16 bits that starts in the first of them
-  pub window : (k w : ℕ) {t m : ℕ} → k < 8 → w ≤ 16 → t ≡ 2 ^ (24 - k - w) → m ≡ 2 ^ w → (a * 65536 + b * 256 + c) / t % m ≡ numberAt bytes (8 * q + k) w
-  window k w hk hw e f =
-      let all : k + w + (24 - k - w) ≡ 24 = omega arith in
-      rw (e, f, ← number-three)
-      (ap (λ (x : ℕ). numberAt bytes (8 * q) x / 2 ^ (24 - k - w) % 2 ^ w) (sym all) ∙ number-within bytes (8 * q) k w (24 - k - w))
+-- a field of at most 16 bits that starts in the first of them
+pub window : (bytes : List ℕ) (q k w : ℕ) {x t m : ℕ} → k < 8 → w ≤ 16 → x ≡ numberAt bytes (8 * q) 24 → t ≡ 2 ^ (24 - k - w) → m ≡ 2 ^ w
+    → x / t % m ≡ numberAt bytes (8 * q + k) w
+window bytes q k w hk hw d e f =
+    let all : k + w + (24 - k - w) ≡ 24 = omega arith in
+    rw (d, e, f)
+    (ap (λ (n : ℕ). numberAt bytes (8 * q) n / 2 ^ (24 - k - w) % 2 ^ w) (sym all) ∙ number-within bytes (8 * q) k w (24 - k - w))
 
 -- w bits that are left of a number fit 16 bits
 pub window-lt : (x w : ℕ) {m : ℕ} → w ≤ 16 → m ≡ 2 ^ w → x % m < 2 ^ 16

@@ -12,7 +12,7 @@ pub enum Field {
 }
 
 fn wide(x: u8) -> u32
-    ensures { λ r. ⌜ r ≡ x ⌝ }
+    ensures { λ r. ⌜ (r ≡ x) × (r < 256) ⌝ }
 {
     x as u32
 }
@@ -32,14 +32,23 @@ fn byte_at(bytes: &[u8], i: usize) -> u32
     if i < bytes.len() { wide(bytes[i]) } else { 0 }
 }
 
+// Three bytes from a place on, as one number: the three of them read at once where they are all there.
+fn three_at(bytes: &[u8], first: usize) -> u32
+    requires { ⌜ first < 2 ^ 61 ⌝ }
+    ensures { λ r. ⌜ r ≡ numberAt (now (bytes .entry)) (8 * first) 24 ⌝ }
+{
+    if first + 2 < bytes.len() {
+        return wide(bytes[first]) * 65536 + wide(bytes[first + 1]) * 256 + wide(bytes[first + 2]);
+    }
+    byte_at(bytes, first) * 65536 + byte_at(bytes, first + 1) * 256 + byte_at(bytes, first + 2)
+}
+
 // The field of `width` bits that starts behind the first `skipped` bits of a byte: that byte and the next two hold it.
 fn window(bytes: &[u8], first: usize, skipped: usize, width: usize) -> u16
     requires { ⌜ (skipped < 8) × (width ≤ 16) × (first < 2 ^ 61) ⌝ }
     ensures { λ r. ⌜ r ≡ numberAt (now (bytes .entry)) (8 * first + skipped) width ⌝ }
 {
-    let three = byte_at(bytes, first) * 65536
-        + byte_at(bytes, first + 1) * 256
-        + byte_at(bytes, first + 2);
+    let three = three_at(bytes, first);
     let behind = pow2(24 - skipped - width);
     let all = pow2(width);
     (three / behind % all) as u16

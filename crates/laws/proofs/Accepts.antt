@@ -11,11 +11,11 @@ use Rattle.laws.specs.Law2.{dealer}
 use Rattle.laws.specs.Law68.{Claim}
 use Rattle.laws.specs.Record.{Parts, row, bits, claimFields, layout, encode}
 use Rattle.laws.specs.Reading.{Reading, Reading.refused as stopped, Reading.found}
-use Rattle.laws.specs.Judge.{Heading, readHeading, readDeal, readCalls, readCards, readClaim, readRecord, readLent, Outcome, Outcome.refused, Outcome.accepted, outcome, judgeOf}
+use Rattle.laws.specs.Judge.{Heading, readHeading, readDeal, readCalls, readCards, readClaim, readRecord, readLent, Outcome.accepted, outcome, judgeOf}
 use Rattle.laws.specs.Lawful.{Lawful}
 use Rattle.laws.proofs.Spelled.{Stands, Padded, stands-append, stands-front, stands-behind, is-packed, holds}
-use Rattle.laws.proofs.Readings.{first-of, first-test, first-ending, test-is, ending-is}
-use Rattle.laws.proofs.Exact.{Exact, landed}
+use Rattle.laws.proofs.Readings.{first-of, first-ending, test-is, ending-is}
+use Rattle.laws.proofs.Exact.{landed}
 use Rattle.laws.proofs.Sections.{headingFields, heading-exact, deal-exact, callsFields, calls-exact, cardsFields, cards-exact}
 use Rattle.laws.proofs.Claims.{claim-exact}
 use Rattle.laws.proofs.LawfulParts.{partsOf, AllStand, staged, lawful-of, headingOf, as-read, stand-of, lawful-fits}

@@ -52,6 +52,12 @@ module _ (d : ℕ) (h : List ℕ) (c : ℕ) where
       (λ (q : allowed d h c ≡ true). q)
       (λ (q : allowed d h c ≡ false). absurd (omega (arith, refused q .0)))
 
+  pub refusal-le : callRefusal d h c ≤ 8
+  refusal-le =
+      by-test (allowed d h c)
+      (λ (q : allowed d h c ≡ true). omega (arith, allowed-accepted q))
+      (λ (q : allowed d h c ≡ false). refused q .1)
+
   pub accepted-is : (callRefusal d h c ≡ accepted) ↔ (allowed d h c ≡ true)
   accepted-is = (accepted-allowed, allowed-accepted)
 

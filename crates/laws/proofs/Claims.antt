@@ -1,17 +1,17 @@
 -- The claim's section is exact: without a mark a contract needs all cards, and a mark needs a contract, a point for it, and tricks that are left.
 -- Assumes nothing.
-use Prim.Native.Nat.{ℕ, _+_, _<_}
+use Prim.Native.Nat.{ℕ, _+_}
 use native.Mathlib.Omega.{arith}
 use mathlib.Core.Path.{_≡_, refl, ap}
-use mathlib.Core.Bool.{true, false, not, _&&_, _||_}
-use mathlib.Core.List.{List, _∷_}
+use mathlib.Core.Bool.{true, false}
+use mathlib.Core.List.{List}
 use borrow.Author.Tests.{not-false, eqb-true, eqb-false}
 use lib.Dec.{eqb}
 use Rattle.laws.specs.Refusals.{playUnfinished, noClaimPoint, claimTooMany}
 use Rattle.laws.specs.Auction.{passedOut}
 use Rattle.laws.specs.Law44.{cardsPlayed, allPlayed}
-use Rattle.laws.specs.Law68.{Claim, none, agreed, atClaimPoint, claimable}
-use Rattle.laws.specs.Reading.{numberAt, Reading, Reading.found}
+use Rattle.laws.specs.Law68.{Claim, none, agreed}
+use Rattle.laws.specs.Reading.{numberAt, Reading.found}
 use Rattle.laws.specs.Record.{claimFields}
 use Rattle.laws.specs.Judge.{readNoClaim, readMarkedClaim, readClaim}
 use Rattle.laws.specs.Lawful.{Claimed}
@@ -22,31 +22,22 @@ use Rattle.laws.proofs.Readings.{first-read, first-test, read-is, test-
 use Rattle.laws.proofs.Exact.{Exact, landed, stands-cons, stands-here, stands-fits, stands-rest, stands-nil, stands-end}
 
 module _ (h g : List ℕ) where
-  bare-told : (not (passedOut h) && not (allPlayed g)) ≡ false → passedOut h ≡ false → allPlayed g ≡ true
-  bare-told q f = not-false (allPlayed g) (rw f at q)
-
-  bare-good : (passedOut h ≡ false → allPlayed g ≡ true) → (not (passedOut h) && not (allPlayed g)) ≡ false
-  bare-good z =
-      by-test (passedOut h)
-      (λ (t : passedOut h ≡ true). rw t)
-      (λ (f : passedOut h ≡ false). rw (f, z f))
-
   claim-there : (bytes : List ℕ) (at : ℕ) (x : Claim) (end : ℕ) → Claimed h g x → Stands bytes at (claimFields x) end → readClaim h g bytes at ≡ found x end
   unfolding claimFields readClaim readNoClaim readMarkedClaim
   claim-there bytes at none end ok k =
-      simp (
-        read-is 1 bytes at (stands-here k) (stands-fits k),
-        test-is playUnfinished (cardsPlayed g) bytes (at + 1) (bare-good ok),
-      ) (ap (λ (y : ℕ). found none y) (stands-end (stands-rest k)))
+      let stop = ap (λ (y : ℕ). found none y) (stands-end (stands-rest k)) in
+      by-test (passedOut h)
+      (λ (t : passedOut h ≡ true). simp (read-is 1 bytes at (stands-here k) (stands-fits k), t, test-is) stop)
+      (λ (f : passedOut h ≡ false). simp (read-is 1 bytes at (stands-here k) (stands-fits k), f, ok f, test-is) stop)
   claim-there bytes at (agreed tricks) end ok k =
       let r = stands-rest k in
-      let point : (passedOut h || not (atClaimPoint g)) ≡ false = rw (ok .0, ok .1) in
-      let left : not (claimable g tricks) ≡ false = rw (ok .2) in
       simp (
         read-is 1 bytes at (stands-here k) (stands-fits k),
-        test-is noClaimPoint (cardsPlayed g) bytes (at + 1) point,
+        ok .0,
+        ok .1,
         read-is 4 bytes (at + 1) (stands-here r) (stands-fits r),
-        test-is claimTooMany tricks bytes (at + 1 + 4) left,
+        ok .2,
+        test-is,
       ) (ap (λ (y : ℕ). found (agreed tricks) y) (stands-end (stands-rest r)))
 
   pub claim-exact : Exact (readClaim h g) (Claimed h g) claimFields
@@ -58,19 +49,19 @@ module _ (h g : List ℕ) where
             let m = first-read 1 bytes at _ q in
             by-test (eqb mark 0)
             (λ (z : eqb mark 0 ≡ true).
-            let t = first-test playUnfinished (cardsPlayed g) (not (passedOut h) && not (allPlayed g)) bytes (at + 1) _ (rw z at (m .1)) in
-            landed (Claimed h g) claimFields {a = none} (t .1) (bare-told (t .0), stands-cons (eqb-true mark 0 z) (stands-nil refl (m .0))))
+            let t = first-test playUnfinished (cardsPlayed g) _ bytes (at + 1) _ (rw z at (m .1)) in
+            landed (Claimed h g) claimFields {a = none} (t .1) (λ f. not-false (allPlayed g) (rw f at (t .0)), stands-cons (eqb-true mark 0 z) (stands-nil refl (m .0))))
             (λ (z : eqb mark 0 ≡ false).
             let one : mark ≡ 1 = omega (arith, eqb-false mark 0 z, number-lt bytes at 1) in
-            let t = first-test noClaimPoint (cardsPlayed g) (passedOut h || not (atClaimPoint g)) bytes (at + 1) _ (rw z at (m .1)) in
+            let t = first-test noClaimPoint (cardsPlayed g) _ bytes (at + 1) _ (rw z at (m .1)) in
             let r = first-read 4 bytes (at + 1) _ (t .1) in
             let tricks : ℕ = numberAt bytes (at + 1) 4 in
-            let u = first-test claimTooMany tricks (not (claimable g tricks)) bytes (at + 1 + 4) _ (r .1) in
+            let u = first-test claimTooMany tricks _ bytes (at + 1 + 4) _ (r .1) in
             landed (Claimed h g) claimFields {a = agreed tricks} (u .1) (
               (
-                or-left (passedOut h) (not (atClaimPoint g)) (t .0),
-                not-false (atClaimPoint g) (or-right (passedOut h) (not (atClaimPoint g)) (t .0)),
-                not-false (claimable g tricks) (u .0),
+                or-left (passedOut h) _ (t .0),
+                not-false _ (or-right (passedOut h) _ (t .0)),
+                not-false _ (u .0),
               ),
               stands-cons one (stands-cons refl (stands-nil refl (r .0))),
             ));

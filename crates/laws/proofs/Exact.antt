@@ -4,13 +4,13 @@ use native.Mathlib.Nat.{add-zero, add-assoc}
 use native.Mathlib.Omega.{arith}
 use mathlib.Core.Path.{_≡_, refl, sym, ap, _∙_}
 use mathlib.Core.Logic.{_↔_}
-use mathlib.Core.Bool.{Bool, true, false, not}
+use mathlib.Core.Bool.{false, not}
 use mathlib.Core.List.{List, [], _∷_, reverse, reverseAux, reverse-reverse}
 use borrow.Author.Tests.{eqb-true, eq-eqb, not-false}
 use lib.Dec.{eqb}
 use lib.ListN.{length, length-reverse}
 use Rattle.laws.specs.Refusals.{accepted}
-use Rattle.laws.specs.Reading.{numberAt, Reading, Reading.found, Reader, read, readRow, readEach}
+use Rattle.laws.specs.Reading.{numberAt, Reading, Reading.found, Reader, readRow, readEach}
 use Rattle.laws.specs.Record.{Field, field, row, bits}
 use Rattle.laws.proofs.Bits.{number-lt}
 use Rattle.laws.proofs.Spelled.{Spells, Stands}

@@ -1,17 +1,15 @@
 -- Lawful parts are what the sections take, and the other way round; and the values of lawful parts fit their fields. Assumes nothing.
-use Prim.Native.Nat.{ℕ, _+_, _≤_, _<_, _^_}
+use Prim.Native.Nat.{ℕ, _<_}
 use native.Mathlib.Omega.{arith}
-use mathlib.Core.Path.{_≡_, refl, sym}
-use mathlib.Core.Bool.{true, _&&_}
-use mathlib.Core.List.{List, [], _∷_, _++_, reverse, reverse-reverse}
+use mathlib.Core.Path.{_≡_}
+use mathlib.Core.List.{List, [], _++_, reverse, reverse-reverse}
 use borrow.Author.Tests.{leb-true}
-use lib.Dec.{leb, eqb}
-use lib.ListN.{length, getD, length-reverse}
+use lib.ListN.{getD, length-reverse}
 use Rattle.laws.specs.Law2.{dealer}
-use Rattle.laws.specs.Auction.{isOver, passedOut, allowed, trumpAfter, openingAfter}
-use Rattle.laws.specs.Law44.{playable, tricksLeft}
+use Rattle.laws.specs.Auction.{trumpAfter, openingAfter}
+use Rattle.laws.specs.Law44.{tricksLeft}
 use Rattle.laws.specs.Law68.{Claim, none, agreed, claimable}
-use Rattle.laws.specs.Record.{Parts, Field, field, row, claimFields, layout}
+use Rattle.laws.specs.Record.{Parts, row, claimFields, layout}
 use Rattle.laws.specs.Judge.{Heading}
 use Rattle.laws.specs.Lawful.{Claimed, Lawful}
 use Rattle.laws.proofs.Written.{Fit, fit-append}
@@ -19,7 +17,7 @@ use Rattle.laws.proofs.Histories.{Each, each-place, fit-each}
 use Rattle.laws.proofs.Exact.{Narrow}
 use Rattle.laws.proofs.CallRefusals.{allowed-lt}
 use Rattle.laws.proofs.CardRefusals.{playable-dealt}
-use Rattle.laws.proofs.Sections.{HeadingStands, headingFields, DealStands, CallsStand, callsFields, CardsStand, cardsFields}
+use Rattle.laws.proofs.Sections.{HeadingStands, headingFields, DealStands, MayCall, CallsStand, callsFields, MayPlay, CardsStand, cardsFields}
 
 -- the parts that the sections make, of the calls h and the cards g, latest first
 abbrev pub partsOf : Heading → List ℕ → List ℕ → List ℕ → Claim → Parts
@@ -46,7 +44,7 @@ module _ (x : Heading) (deal h g : List ℕ) (claim : Claim) where
         layout =
             record {
               board-from = a .heading .board-from;
-              board-to = a .heading .board-to;
+              board-to = omega (arith, a .heading .board-to);
               table-from = a .heading .table-from;
               table-to = a .heading .table-to;
               holders = a .dealt .holders;
@@ -57,12 +55,12 @@ module _ (x : Heading) (deal h g : List ℕ) (claim : Claim) where
         deal = a .dealt .thirteen;
         calls =
             record {
-              each = each-place (λ f c. allowed (dealer (x .board)) f c ≡ true) (reverse h) .0 (a .calls .allow);
+              each = each-place (MayCall (dealer (x .board))) (reverse h) .0 (a .calls .allow);
               over = rw (reverse-reverse h) (a .calls .over);
             };
         cards =
             record {
-              each = rw (reverse-reverse h) (each-place (λ f c. playable (trumpAfter h) (openingAfter (dealer (x .board)) h) deal f c ≡ true) (reverse g) .0 (a .cards .allow));
+              each = rw (reverse-reverse h) (each-place (MayPlay (dealer (x .board)) deal h) (reverse g) .0 (a .cards .allow));
               none-if-passed-out = rw (reverse-reverse h, length-reverse g) (a .cards .none-if-passed-out);
             };
         claim = rw (reverse-reverse h, reverse-reverse g) (a .claimed);
@@ -82,12 +80,12 @@ module _ (p : Parts) (ok : Lawful p) where
   seats-of : Each (Narrow 2) [] (p .deal)
   seats-of = each-place (Narrow 2) (p .deal) .1 (λ k w. let b = ok .layout .holder k (omega (arith, ok .layout .holders)) in omega arith)
 
-  calls-of : Each (λ f c. allowed (dealer (p .board)) f c ≡ true) [] (p .calls)
-  calls-of = each-place (λ f c. allowed (dealer (p .board)) f c ≡ true) (p .calls) .1 (ok .calls .each)
+  calls-of : Each (MayCall (dealer (p .board))) [] (p .calls)
+  calls-of = each-place (MayCall (dealer (p .board))) (p .calls) .1 (ok .calls .each)
 
-  cards-of : Each (λ f c. playable (trumpAfter (reverse (p .calls))) (openingAfter (dealer (p .board)) (reverse (p .calls))) (p .deal) f c ≡ true) [] (p .cards)
+  cards-of : Each (MayPlay (dealer (p .board)) (p .deal) (reverse (p .calls))) [] (p .cards)
   cards-of =
-      each-place (λ f c. playable (trumpAfter (reverse (p .calls))) (openingAfter (dealer (p .board)) (reverse (p .calls))) (p .deal) f c ≡ true) (p .cards) .1 (ok .cards .each)
+      each-place (MayPlay (dealer (p .board)) (p .deal) (reverse (p .calls))) (p .cards) .1 (ok .cards .each)
 
   pub stand-of : AllStand (headingOf p) (p .deal) (reverse (p .calls)) (reverse (p .cards)) (p .claim)
   stand-of =
@@ -95,7 +93,7 @@ module _ (p : Parts) (ok : Lawful p) where
         heading =
             record {
               board-from = ok .layout .board-from;
-              board-to = ok .layout .board-to;
+              board-to = omega (arith, ok .layout .board-to);
               table-from = ok .layout .table-from;
               table-to = ok .layout .table-to;
             };
@@ -115,7 +113,7 @@ module _ (p : Parts) (ok : Lawful p) where
   claim-fits none a = (omega arith, tt)
   claim-fits (agreed tricks) a = (omega arith, (omega (arith, leb-true tricks _ (a .2)), tt))
 
-  card-lt : (g : List ℕ) (c : ℕ) → playable (trumpAfter (reverse (p .calls))) (openingAfter (dealer (p .board)) (reverse (p .calls))) (p .deal) g c ≡ true → c < 64
+  card-lt : (g : List ℕ) (c : ℕ) → MayPlay (dealer (p .board)) (p .deal) (reverse (p .calls)) g c → c < 64
   card-lt g c e =
       let below = playable-dealt (trumpAfter (reverse (p .calls))) (openingAfter (dealer (p .board)) (reverse (p .calls))) (p .deal) g c e in
       omega (arith, ok .layout .holders)

@@ -21,3 +21,5 @@ pub mod Sections
 pub mod Claims
 pub mod LawfulParts
 pub mod Accepts
+pub mod Numbered
+pub mod Lengths

@@ -2,10 +2,10 @@
 use Prim.Native.Nat.{ℕ, _+_, _-_, _*_, _≤_, _<_}
 use native.Mathlib.Omega.{arith}
 use mathlib.Core.Path.{_≡_, refl}
-use mathlib.Core.Bool.{Bool, true, false, not}
+use mathlib.Core.Bool.{Bool, true, false}
 use mathlib.Core.List.{List}
 use borrow.Author.Tests.{leb-true, leb-false, le-leb, lt-leb, eqb-true, not-false}
-use lib.Dec.{leb, eqb}
+use lib.Dec.{leb}
 use lib.ListN.{length}
 use Rattle.laws.specs.Choice.{if_then_else_}
 use Rattle.laws.specs.Refusals.{recordEnds, notPadding}
@@ -47,14 +47,9 @@ module _ {B : Type 0} {b : B} {end : ℕ} where
       → Padded bytes at × (next tt at ≡ found b end)
   unfolding ending overfull
   first-ending bytes at next q =
-      let left : ℕ = 8 * length bytes - at in
-      let r = first-test notPadding 0 (overfull bytes at) bytes at next q in (
-        record {
-          few = leb-false 8 left (or-left (leb 8 left) (not (eqb (numberAt bytes at left) 0)) (r .0));
-          zeros = eqb-true _ 0 (not-false _ (or-right (leb 8 left) (not (eqb (numberAt bytes at left) 0)) (r .0)));
-        },
-        r .1,
-      )
+      let r = first-test notPadding 0 _ bytes at next q in
+      let more : Bool = leb 8 (8 * length bytes - at) in
+      (record { few = leb-false 8 _ (or-left more _ (r .0)); zeros = eqb-true _ 0 (not-false _ (or-right more _ (r .0))) }, r .1)
 
 -- the other way: a step that comes to its end
 pub read-is : (w : ℕ) (bytes : List ℕ) (at : ℕ) {v : ℕ} → numberAt bytes at w ≡ v → at + w ≤ 8 * length bytes → read w bytes at ≡ found v (at + w)

@@ -1,8 +1,8 @@
 -- Each section of the judge up to the cards is exact: what it takes, as facts of what was read, and the fields that stand there. Assumes nothing.
-use Prim.Native.Nat.{ℕ, zero, suc, _+_, _*_, _≤_, _<_}
+use Prim.Native.Nat.{ℕ, zero, suc, _+_, _≤_, _<_}
 use native.Mathlib.Omega.{arith}
-use mathlib.Core.Path.{_≡_, refl, sym, _∙_}
-use mathlib.Core.Bool.{Bool, true, false, not, _&&_, _||_}
+use mathlib.Core.Path.{_≡_, refl, sym}
+use mathlib.Core.Bool.{true, false, not}
 use mathlib.Core.List.{List, [], _∷_, reverse}
 use borrow.Author.Tests.{not-false, eqb-true, eqb-false, eq-eqb, ne-eqb, le-ltb, ltb-false}
 use lib.Dec.{eqb, ltb, lit<}
@@ -16,11 +16,10 @@ use Rattle.laws.specs.CardRefusal.{cardRefusal}
 use Rattle.laws.specs.Reading.{numberAt, readRow, readEach}
 use Rattle.laws.specs.Record.{Field, field, row}
 use Rattle.laws.specs.Judge.{Heading, readHeading, readDeal, readCalls, readCards}
-use Rattle.laws.proofs.Tests.{by-test, not-both, or-left, or-right}
+use Rattle.laws.proofs.Tests.{by-test, or-left, or-right}
 use Rattle.laws.proofs.Bits.{number-lt}
 use Rattle.laws.proofs.CallRefusals.{accepted-is}
 use Rattle.laws.proofs.CardRefusals.{accepted-is as card-accepted-is}
-use Rattle.laws.proofs.Spelled.{Stands}
 use Rattle.laws.proofs.Histories.{Each}
 use Rattle.laws.proofs.Readings.{first-of, first-read, first-test, read-is, test-is}
 use Rattle.laws.proofs.Exact.{Exact, landed, stands-cons, stands-here, stands-fits, stands-rest, stands-nil, stands-end, Narrow, row-exact, each-exact}
@@ -125,10 +124,13 @@ deal-exact =
     passes : (x : List ℕ) → shortSeat x ≡ noSeat → not (eqb (shortSeat x) noSeat) ≡ false
     passes x e = rw (eq-eqb (shortSeat x) noSeat e)
 
--- the calls
+-- the calls: d the dealer, h the calls before c
+abbrev pub MayCall : ℕ → List ℕ → ℕ → Type 0
+MayCall d h c = allowed d h c ≡ true
+
 pub record CallsStand (d : ℕ) (h : List ℕ) : Type 0 where
   pub count : length h ≤ 511
-  pub allow : Each (λ g c. allowed d g c ≡ true) [] (reverse h)
+  pub allow : Each (MayCall d) [] (reverse h)
   pub over : isOver h ≡ true
 
 abbrev pub callsFields : List ℕ → List Field
@@ -136,8 +138,8 @@ callsFields h = field 9 (length h) ∷ row 6 (reverse h)
 
 module _ (d : ℕ) where
   -- the codes of the calls
-  calls-each : (n : ℕ) → Exact (readEach 6 callPlace (callRefusal d) n []) (λ h. (length h ≡ n) × Each (λ g c. allowed d g c ≡ true) [] (reverse h)) (λ h. row 6 (reverse h))
-  calls-each n = each-exact 6 callPlace (callRefusal d) (λ g c. allowed d g c ≡ true) (accepted-is d) n
+  calls-each : (n : ℕ) → Exact (readEach 6 callPlace (callRefusal d) n []) (λ h. (length h ≡ n) × Each (MayCall d) [] (reverse h)) (λ h. row 6 (reverse h))
+  calls-each n = each-exact 6 callPlace (callRefusal d) (MayCall d) (accepted-is d) n
 
   pub calls-exact : Exact (readCalls d) (CallsStand d) callsFields
   unfolding readCalls
@@ -162,57 +164,47 @@ module _ (d : ℕ) where
             );
       }
 
--- the cards
+-- the cards: h the calls, g the cards before c
+abbrev pub MayPlay : ℕ → List ℕ → List ℕ → List ℕ → ℕ → Type 0
+MayPlay d deal h g c = playable (trumpAfter h) (openingAfter d h) deal g c ≡ true
+
 pub record CardsStand (d : ℕ) (deal h g : List ℕ) : Type 0 where
   pub count : length g ≤ 52
   pub none-if-passed-out : passedOut h ≡ true → length g ≡ 0
-  pub allow : Each (λ f c. playable (trumpAfter h) (openingAfter d h) deal f c ≡ true) [] (reverse g)
+  pub allow : Each (MayPlay d deal h) [] (reverse g)
 
 abbrev pub cardsFields : List ℕ → List Field
 cardsFields g = field 6 (length g) ∷ row 6 (reverse g)
 
 module _ (d : ℕ) (deal h : List ℕ) (full : length deal ≡ 52) where
-  -- the play count that is refused
-  over-count : ℕ → Bool
-  over-count n = ltb 52 n || (passedOut h && ltb 0 n)
-
-  count-told : (n : ℕ) → over-count n ≡ false → (n ≤ 52) × (passedOut h ≡ true → n ≡ 0)
-  unfolding over-count
-  count-told n q = (
-    ltb-false 52 n (or-left (ltb 52 n) (passedOut h && ltb 0 n) q),
-    λ (z : passedOut h ≡ true). let w : n ≤ 0 = ltb-false 0 n (rw z at (or-right (ltb 52 n) (passedOut h && ltb 0 n) q)) in omega arith,
-  )
-
-  count-good : (n : ℕ) → n ≤ 52 → (passedOut h ≡ true → n ≡ 0) → over-count n ≡ false
-  unfolding over-count
-  count-good n l z =
-      by-test (passedOut h)
-      (λ (t : passedOut h ≡ true). simp (t, z t))
-      (λ (f : passedOut h ≡ false). simp (le-ltb 52 n l, f))
-
   cards-each : (n : ℕ) → Exact (readEach 6 cardsPlayed (cardRefusal (trumpAfter h) (openingAfter d h) deal) n [])
-      (λ g. (length g ≡ n) × Each (λ f c. playable (trumpAfter h) (openingAfter d h) deal f c ≡ true) [] (reverse g)) (λ g. row 6 (reverse g))
+      (λ g. (length g ≡ n) × Each (MayPlay d deal h) [] (reverse g)) (λ g. row 6 (reverse g))
   cards-each n =
-      each-exact 6 cardsPlayed (cardRefusal (trumpAfter h) (openingAfter d h) deal) (λ f c. playable (trumpAfter h) (openingAfter d h) deal f c ≡ true)
+      each-exact 6 cardsPlayed (cardRefusal (trumpAfter h) (openingAfter d h) deal) (MayPlay d deal h)
       (λ f c. card-accepted-is (trumpAfter h) (openingAfter d h) deal f c full) n
 
   pub cards-exact : Exact (readCards d deal h) (CardsStand d deal h) cardsFields
-  unfolding readCards over-count
+  unfolding readCards
   cards-exact =
       record {
         reads = λ bytes at x end l q.
             let n : ℕ = numberAt bytes at 6 in
             let a = first-read 6 bytes at _ q in
-            let t = first-test playCount n (over-count n) bytes (at + 6) _ (a .1) in
+            let t = first-test playCount n _ bytes (at + 6) _ (a .1) in
             let r = cards-each n .reads bytes (at + 6) x end (a .0) (t .1) in
-            let k = count-told n (t .0) in (
-              record { count = omega (arith, r .0 .0); none-if-passed-out = λ z. r .0 .0 ∙ k .1 z; allow = r .0 .1 },
+            let few : n ≤ 52 = ltb-false 52 n (or-left (ltb 52 n) _ (t .0)) in
+            let rest = or-right (ltb 52 n) _ (t .0) in (
+              record {
+                count = omega (arith, r .0 .0);
+                none-if-passed-out = λ z. let no = ltb-false _ n (rw z at rest) in omega (arith, r .0 .0);
+                allow = r .0 .1;
+              },
               stands-cons (sym (r .0 .0)) (r .1),
             );
         is = λ bytes at x end ok k.
-            simp (
-              read-is 6 bytes at (stands-here k) (stands-fits k),
-              test-is playCount (length x) bytes (at + 6) (count-good (length x) (ok .count) (ok .none-if-passed-out)),
-              cards-each (length x) .is bytes (at + 6) x end (refl, ok .allow) (stands-rest k),
-            );
+            let read = read-is 6 bytes at (stands-here k) (stands-fits k) in
+            let cards = cards-each (length x) .is bytes (at + 6) x end (refl, ok .allow) (stands-rest k) in
+            by-test (passedOut h)
+            (λ (t : passedOut h ≡ true). simp (read, t, le-ltb 52 (length x) (ok .count), le-ltb 0 (length x) (omega (arith, ok .none-if-passed-out t)), test-is, cards))
+            (λ (f : passedOut h ≡ false). simp (read, f, le-ltb 52 (length x) (ok .count), test-is, cards));
       }

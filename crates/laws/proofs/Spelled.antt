@@ -10,7 +10,7 @@ use lib.Pow.{pow-pos}
 use lib.Seq.{append-snoc}
 use Rattle.laws.specs.Bytes.{Bytes}
 use Rattle.laws.specs.Reading.{numberAt}
-use Rattle.laws.specs.Record.{Field, field, bits, number, bytesOf, padding, padded, packed}
+use Rattle.laws.specs.Record.{Field, bits, number, bytesOf, padding, padded, packed}
 use Rattle.laws.proofs.Bits.{number-add}
 use Rattle.laws.proofs.Bytes.{length-bytes, bytes-whole}
 use Rattle.laws.proofs.Written.{Fit, fit-append, bits-append, read-back}

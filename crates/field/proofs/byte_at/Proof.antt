@@ -13,7 +13,7 @@ wide-requires : tie.Need-wide-requires
 wide-requires c κs = search needs
 
 returns : tie.Need-returns
-returns c = (c .wide .ensures, omega (arith, c .wide .ensures, c .before .shared-slice-known2 .given (c .before .before .before .before .args .i)))
+returns c = c .wide .ensures
 
 returns-2 : tie.Need-returns-2
 returns-2 c = (sym (List·getD-eq-default (c .before .before .args .bytes .now) 0 (c .if1 .left)), omega arith)

@@ -1,0 +1,161 @@
+-- A refusal of the judge has a number from 1 to 16 and a place below 1024, for every list of numbers and every two lengths. Assumes nothing.
+use Prim.Native.Nat.{ℕ, zero, suc, _+_, _*_, _^_, _≤_, _<_}
+use native.Mathlib.Omega.{arith}
+use mathlib.Core.Path.{_≡_, refl}
+use mathlib.Core.Bool.{Bool, true, false, not, _&&_, _||_}
+use mathlib.Core.List.{List, [], _∷_}
+use borrow.Author.Tests.{eqb-false, not-true}
+use lib.Dec.{leb, ltb, eqb, lit≤}
+use lib.ListN.{length}
+use Rattle.laws.specs.Choice.{if_then_else_}
+use Rattle.laws.specs.Refusals.{accepted, shortBuffer, recordEnds, noSuchBoard, notThirteen, auctionUnfinished, playCount, playUnfinished, noClaimPoint, claimTooMany, notPadding}
+use Rattle.laws.specs.Cards.{noSeat, hasThirteen, firstShort, shortSeat}
+use Rattle.laws.specs.Law2.{dealer}
+use Rattle.laws.specs.Auction.{callPlace, isOver, passedOut, trumpAfter, openingAfter}
+use Rattle.laws.specs.CallRefusal.{callRefusal}
+use Rattle.laws.specs.Law44.{cardsPlayed, allPlayed}
+use Rattle.laws.specs.CardRefusal.{cardRefusal}
+use Rattle.laws.specs.Law68.{atClaimPoint, claimable}
+use Rattle.laws.specs.Record.{Parts}
+use Rattle.laws.specs.Reading.{numberAt, Reading, Reading.refused, Reading.found, onward, read, refuse, readRow, readEach, overfull, ending}
+use Rattle.laws.specs.Judge.{readHeading, readDeal, readCalls, readCards, readNoClaim, readMarkedClaim, readClaim, readRecord, readLent, Outcome, Outcome.refused as declined, Outcome.accepted as taken, outcome, judgeOf}
+use Rattle.laws.proofs.Tests.{by-test}
+use Rattle.laws.proofs.Bits.{number-lt}
+use Rattle.laws.proofs.CallRefusals.{refusal-le}
+use Rattle.laws.proofs.CardRefusals.{refusal-le as card-refusal-le}
+use Rattle.laws.proofs.Sections.{heading-exact, deal-exact, calls-exact, cards-exact}
+
+-- a number and a place as a refusal of a record has them
+abbrev pub Numbered : ℕ → ℕ → Type 0
+Numbered n place = (1 ≤ n) × (n ≤ 16) × (place < 1024)
+
+-- a reading that is refused is so numbered
+abbrev Fair : {A : Type 0} → Reading A → Type 0
+Fair (refused n place) = Numbered n place
+Fair (found a at) = Unit {0}
+
+module _ {B : Type 0} where
+  fair-on : {A : Type 0} (r : Reading A) (next : A → ℕ → Reading B) → Fair r → ((a : A) (m : ℕ) → r ≡ found a m → Fair (next a m)) → Fair (onward r next)
+  fair-on (refused n place) next f g = f
+  fair-on (found a m) next f g = g a m refl
+
+  fair-read : (w : ℕ) (bytes : List ℕ) (at : ℕ) (next : ℕ → ℕ → Reading B) → ((v : ℕ) → v < 2 ^ w → Fair (next v (at + w))) → Fair (onward (read w bytes at) next)
+  unfolding read
+  fair-read w bytes at next g = go (leb (at + w) (8 * length bytes))
+    where
+      go : (b : Bool) → Fair (onward (if b then found (numberAt bytes at w) (at + w) else refused recordEnds 0) next)
+      go true = g (numberAt bytes at w) (number-lt bytes at w)
+      go false = omega arith
+
+  fair-test : (n place : ℕ) (test : Bool) (bytes : List ℕ) (at : ℕ) (next : Unit {0} → ℕ → Reading B) → (test ≡ true → Numbered n place) → Fair (next tt at)
+      → Fair (onward (refuse n place test bytes at) next)
+  unfolding refuse
+  fair-test n place true bytes at next f g = f refl
+  fair-test n place false bytes at next f g = g
+
+fair-row : (w n : ℕ) (bytes : List ℕ) (at : ℕ) → Fair (readRow w n bytes at)
+unfolding readRow
+fair-row w zero bytes at = tt
+fair-row w (suc n) bytes at =
+    fair-read w bytes at _ (λ v l. fair-on (readRow w n bytes (at + w)) _ (fair-row w n bytes (at + w)) (λ rest m q. tt))
+
+-- a number that is not 0 and at most 16
+some-number : (n place : ℕ) → n ≤ 16 → place < 1024 → not (eqb n accepted) ≡ true → Numbered n place
+some-number n place l k t = let z : n ≡ 0 → ⊥ = eqb-false n 0 (not-true (eqb n 0) t) in omega arith
+
+fair-each : (w : ℕ) (place : List ℕ → ℕ) (rule : List ℕ → ℕ → ℕ) → ((h : List ℕ) → place h ≡ length h) → ((h : List ℕ) (c : ℕ) → rule h c ≤ 16)
+    → (n : ℕ) (h bytes : List ℕ) (at : ℕ) → length h + n < 1024 → Fair (readEach w place rule n h bytes at)
+unfolding readEach
+fair-each w place rule p r zero h bytes at l = tt
+fair-each w place rule p r (suc n) h bytes at l =
+    fair-read w bytes at _ (λ c k.
+    fair-test (rule h c) (place h) (not (eqb (rule h c) accepted)) bytes (at + w) _ (some-number (rule h c) (place h) (r h c) (omega (arith, p h)))
+    (fair-each w place rule p r n (c ∷ h) bytes (at + w) (omega arith)))
+
+fair-heading : (bytes : List ℕ) (at : ℕ) → Fair (readHeading bytes at)
+unfolding readHeading
+fair-heading bytes at =
+    fair-read 7 bytes at _ (λ board lb. fair-read 9 bytes (at + 7) _ (λ table lt.
+    fair-test noSuchBoard 0 (eqb board 0) bytes (at + 7 + 9) _ (λ t. omega arith)
+    (fair-test noSuchBoard 1 (eqb table 0) bytes (at + 7 + 9) _ (λ t. omega arith) tt)))
+
+-- the first seat without thirteen cards, or nobody, is at most 4
+next-short : (deal : List ℕ) (seat : ℕ) (rest : List ℕ) → seat ≤ 4 → firstShort deal rest ≤ 4 → firstShort deal (seat ∷ rest) ≤ 4
+unfolding firstShort
+next-short deal seat rest l more =
+    by-test (hasThirteen seat deal)
+    (λ (q : hasThirteen seat deal ≡ true). rw q more)
+    (λ (q : hasThirteen seat deal ≡ false). rw q l)
+
+no-short : (deal : List ℕ) → firstShort deal [] ≤ 4
+unfolding firstShort
+no-short deal = lit≤ tt
+
+short-le : (deal : List ℕ) → shortSeat deal ≤ 4
+short-le deal =
+    next-short deal 0 _ (lit≤ tt) (next-short deal 1 _ (lit≤ tt) (next-short deal 2 _ (lit≤ tt) (next-short deal 3 [] (lit≤ tt) (no-short deal))))
+
+fair-deal : (bytes : List ℕ) (at : ℕ) → Fair (readDeal bytes at)
+unfolding readDeal
+fair-deal bytes at =
+    fair-on (readRow 2 52 bytes at) _ (fair-row 2 52 bytes at) (λ deal m q.
+    fair-test notThirteen (shortSeat deal) (not (eqb (shortSeat deal) noSeat)) bytes m _ (λ t. omega (arith, short-le deal)) tt)
+
+fair-calls : (d : ℕ) (bytes : List ℕ) (at : ℕ) → Fair (readCalls d bytes at)
+unfolding readCalls callPlace
+fair-calls d bytes at =
+    fair-read 9 bytes at _ (λ n ln.
+    fair-on (readEach 6 callPlace (callRefusal d) n [] bytes (at + 9)) _
+    (fair-each 6 callPlace (callRefusal d) (λ h. refl) (λ h c. omega (arith, refusal-le d h c)) n [] bytes (at + 9) (omega arith)) (λ h m q.
+    fair-test auctionUnfinished n (not (isOver h)) bytes m _ (λ t. omega arith) tt))
+
+fair-cards : (d : ℕ) (deal h bytes : List ℕ) (at : ℕ) → Fair (readCards d deal h bytes at)
+unfolding readCards cardsPlayed
+fair-cards d deal h bytes at =
+    fair-read 6 bytes at _ (λ n ln.
+    fair-test playCount n (ltb 52 n || (passedOut h && ltb 0 n)) bytes (at + 6) _ (λ t. omega arith)
+    (fair-each 6 cardsPlayed (cardRefusal (trumpAfter h) (openingAfter d h) deal) (λ g. refl)
+    (λ g c. omega (arith, card-refusal-le (trumpAfter h) (openingAfter d h) deal g c)) n [] bytes (at + 6) (omega arith)))
+
+fair-claim : (h g bytes : List ℕ) (at : ℕ) → length g ≤ 52 → Fair (readClaim h g bytes at)
+unfolding readClaim readNoClaim readMarkedClaim cardsPlayed
+fair-claim h g bytes at l = fair-read 1 bytes at _ (λ mark lm. either (eqb mark 0))
+  where
+    either : (b : Bool) → Fair ((if b then readNoClaim h g else readMarkedClaim h g) bytes (at + 1))
+    either true = fair-test playUnfinished (cardsPlayed g) (not (passedOut h) && not (allPlayed g)) bytes (at + 1) _ (λ t. omega arith) tt
+    either false =
+        fair-test noClaimPoint (cardsPlayed g) (passedOut h || not (atClaimPoint g)) bytes (at + 1) _ (λ t. omega arith)
+        (fair-read 4 bytes (at + 1) _ (λ tricks lt. fair-test claimTooMany tricks (not (claimable g tricks)) bytes (at + 1 + 4) _ (λ t. omega arith) tt))
+
+fair-record : (bytes : List ℕ) → Fair (readRecord bytes 0)
+unfolding readRecord ending
+fair-record bytes =
+    fair-on (readHeading bytes 0) _ (fair-heading bytes 0) (λ x m₁ q₁.
+    let d : ℕ = dealer (x .board) in
+    let h₁ = heading-exact .reads bytes 0 x m₁ (omega arith) q₁ in
+    fair-on (readDeal bytes m₁) _ (fair-deal bytes m₁) (λ deal m₂ q₂.
+    let h₂ = deal-exact .reads bytes m₁ deal m₂ (h₁ .1 .whole) q₂ in
+    fair-on (readCalls d bytes m₂) _ (fair-calls d bytes m₂) (λ h m₃ q₃.
+    let h₃ = calls-exact d .reads bytes m₂ h m₃ (h₂ .1 .whole) q₃ in
+    fair-on (readCards d deal h bytes m₃) _ (fair-cards d deal h bytes m₃) (λ g m₄ q₄.
+    let h₄ = cards-exact d deal h (h₂ .0 .holders) .reads bytes m₃ g m₄ (h₃ .1 .whole) q₄ in
+    fair-on (readClaim h g bytes m₄) _ (fair-claim h g bytes m₄ (h₄ .0 .count)) (λ t m₅ q₅.
+    fair-test notPadding 0 (overfull bytes m₅) bytes m₅ _ (λ t. omega arith) tt)))))
+
+fair-lent : (answer list : ℕ) (bytes : List ℕ) → Fair (readLent answer list bytes 0)
+unfolding readLent
+fair-lent answer list bytes =
+    fair-test shortBuffer 0 (ltb answer 7) bytes 0 _ (λ t. omega arith) (fair-test shortBuffer 1 (ltb list 36) bytes 0 _ (λ t. omega arith) (fair-record bytes))
+
+-- an outcome that is a refusal is so numbered
+abbrev pub Ruled : Outcome → Type 0
+Ruled (declined n place) = Numbered n place
+Ruled (taken p) = Unit {0}
+
+pub ruled : (bytes : List ℕ) (answer list : ℕ) → Ruled (judgeOf bytes answer list)
+unfolding judgeOf
+ruled bytes answer list = go (readLent answer list bytes 0) (fair-lent answer list bytes)
+  where
+    go : (r : Reading Parts) → Fair r → Ruled (outcome r)
+    go (refused n place) f = f
+    go (found p m) f = tt

@@ -1,0 +1,58 @@
+-- Document 01's byte examples, by evaluating the judge's definitions. Assumes nothing.
+use Prim.Native.Nat.{_+_, _*_}
+use mathlib.Core.Path.{_≡_, refl}
+use mathlib.Core.Bool.{true, false}
+use mathlib.Core.List.{[], _∷_, _++_, reverse}
+use lib.ListN.{take}
+use Rattle.laws.specs.Choice
+use Rattle.laws.specs.Cards
+use Rattle.laws.specs.Law2
+use Rattle.laws.specs.Auction
+use Rattle.laws.specs.CallRefusal
+use Rattle.laws.specs.Law44
+use Rattle.laws.specs.CardRefusal
+use Rattle.laws.specs.Law68
+use Rattle.laws.specs.Record
+use Rattle.laws.specs.Reading
+use Rattle.laws.specs.Judge
+use Rattle.laws.specs.Auction.{passedOut}
+use Rattle.laws.specs.Record.{encode}
+use Rattle.laws.specs.Judge.{Outcome.accepted, judgeOf, numberOf}
+use Rattle.promises.specs.Demand2.{fourPasses, passedOutParts, oneClub}
+
+-- what the judge says of the two records, and of three that are one off
+pub record Judged : Type 0 where
+  pub bytes : fourPasses ≡ encode passedOutParts
+  pub passed-out : judgeOf (encode passedOutParts) 7 36 ≡ accepted passedOutParts
+  pub no-contract : passedOut (reverse (passedOutParts .calls)) ≡ true
+  pub one-less : numberOf (judgeOf (take 19 fourPasses) 7 36) ≡ 2 * 1024
+  pub one-more : numberOf (judgeOf (fourPasses ++ (0 ∷ [])) 7 36) ≡ 16 * 1024
+  pub claim-12 : judgeOf (encode (oneClub 12)) 7 36 ≡ accepted (oneClub 12)
+  pub contract : passedOut (reverse (oneClub 12 .calls)) ≡ false
+  pub claim-13 : numberOf (judgeOf (encode (oneClub 13)) 7 36) ≡ 15 * 1024 + 13
+
+pub judged : Judged
+unfolding
+    Choice.howMany Choice.some Cards.clockwise Cards.cardsDealt Cards.firstShort Law2.dealer
+    Auction.strainOf Auction.callPlace Auction.toCall Auction.lastBid Auction.lastBidder Auction.beforePasses
+    Auction.bidByOpponents Auction.bidByOwnSide Auction.doubledOwnBid Auction.sufficient Auction.mayDouble Auction.mayRedouble
+    Auction.passesInARow Auction.hasBid Auction.isOver Auction.passedOut Auction.allowed
+    Auction.bidsStrain Auction.firstToBid Auction.declarer Auction.trumpAfter Auction.openingAfter CallRefusal.callRefusal
+    Law44.cardsPlayed Law44.allPlayed Law44.tricksComplete Law44.tricksLeft Law44.cardsInTrick Law44.trickUnderWay
+    Law44.suitLed Law44.highest Law44.winningCard Law44.playerOf Law44.winner Law44.leader Law44.toPlay
+    Law44.isPlayed Law44.holds Law44.playable CardRefusal.cardRefusal Law68.atClaimPoint Law68.claimable
+    Record.row Record.claimFields Record.layout Record.bits Record.padding Record.padded Record.number Record.bytesOf Record.packed Record.encode
+    Reading.bitAt Reading.numberAt Reading.read Reading.refuse Reading.readRow Reading.readEach Reading.overfull Reading.ending
+    Judge.readHeading Judge.readDeal Judge.readCalls Judge.readCards Judge.readNoClaim Judge.readMarkedClaim Judge.readClaim
+    Judge.readRecord Judge.readLent Judge.judgeOf
+judged =
+    record {
+      bytes = refl;
+      passed-out = refl;
+      no-contract = refl;
+      one-less = refl;
+      one-more = refl;
+      claim-12 = refl;
+      contract = refl;
+      claim-13 = refl;
+    }

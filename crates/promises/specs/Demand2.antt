@@ -1,0 +1,79 @@
+-- Demand 2, which records are accepted, and demand 1 of the number: what the judge says of every list of bytes and every two buffers.
+-- `answer` and `list` are the lengths of the two lent buffers.
+-- Assumes nothing.
+use Prim.Native.Nat.{ℕ, _+_, _*_, _≤_, _<_}
+use mathlib.Core.Path.{_≡_}
+use mathlib.Core.Logic.{_↔_, _⊎_}
+use mathlib.Core.Bool.{true, false}
+use mathlib.Core.List.{List, [], _∷_, _++_, reverse}
+use lib.ListN.{length, take, replicate}
+use Rattle.laws.specs.Bytes.{Bytes}
+use Rattle.laws.specs.Refusals.{shortBuffer}
+use Rattle.laws.specs.Cards.{north, east, south, west}
+use Rattle.laws.specs.Auction.{pass, passedOut}
+use Rattle.laws.specs.Law68.{none, agreed}
+use Rattle.laws.specs.Record.{Parts, encode}
+use Rattle.laws.specs.Judge.{Outcome.refused, Outcome.accepted, judgeOf, numberOf}
+use Rattle.laws.specs.Lawful.{Lawful}
+
+-- a number that is a refusal from 1 to 16 × 1024, and a place below 1024
+pub record Refusal (number : ℕ) : Type 0 where
+  pub refusal : ℕ
+  pub place : ℕ
+  pub is : number ≡ refusal * 1024 + place
+  pub from-1 : 1 ≤ refusal
+  pub to-16 : refusal ≤ 16
+  pub places : place < 1024
+
+-- document 01's first record: North holds the clubs, East the diamonds, South the hearts, West the spades, and four players pass
+abbrev pub fourPasses : List ℕ
+fourPasses =
+    0x02 ∷ 0x01 ∷ 0x00 ∷ 0x00 ∷ 0x00 ∷ 0x15 ∷ 0x55 ∷ 0x55 ∷ 0x5A ∷ 0xAA ∷ 0xAA ∷ 0xAB ∷ 0xFF ∷ 0xFF ∷ 0xFF ∷ 0x02 ∷ 0x00 ∷ 0x00 ∷ 0x00 ∷ 0x00 ∷ []
+
+-- that deal, as the holder of each card
+abbrev pub oneSuitEach : List ℕ
+oneSuitEach = replicate 13 north ++ (replicate 13 east ++ (replicate 13 south ++ replicate 13 west))
+
+abbrev pub passedOutParts : Parts
+passedOutParts = record { board = 1; table = 1; deal = oneSuitEach; calls = pass ∷ pass ∷ pass ∷ pass ∷ []; cards = []; claim = none }
+
+-- the same deal: North bids one club, East leads the two of diamonds to a first trick of twos, and so many tricks are claimed
+abbrev pub oneClub : ℕ → Parts
+oneClub tricks =
+    record {
+      board = 1;
+      table = 1;
+      deal = oneSuitEach;
+      calls = 3 ∷ pass ∷ pass ∷ pass ∷ [];
+      cards = 13 ∷ 26 ∷ 39 ∷ 0 ∷ [];
+      claim = agreed tricks;
+    }
+
+pub record Demand2Accepts : Type 0 where
+  -- a record is accepted exactly when it is the encoding of lawful parts
+  pub accepts : (bytes : List ℕ) → Bytes bytes → (answer list : ℕ) → 7 ≤ answer → 36 ≤ list
+      → (numberOf (judgeOf bytes answer list) ≡ 0) ↔ ((p : Parts) × Lawful p × (bytes ≡ encode p))
+  -- and as those parts
+  pub accepts-parts : (bytes : List ℕ) → Bytes bytes → (answer list : ℕ) → 7 ≤ answer → 36 ≤ list → (p : Parts)
+      → (judgeOf bytes answer list ≡ accepted p) ↔ (Lawful p × (bytes ≡ encode p))
+  -- the encoding of lawful parts is read back as them
+  pub read-back : (p : Parts) → Lawful p → (answer list : ℕ) → 7 ≤ answer → 36 ≤ list → judgeOf (encode p) answer list ≡ accepted p
+  -- an encoding is bytes
+  pub encoded-bytes : (p : Parts) → Bytes (encode p)
+  -- no bytes are the encoding of two lawful parts
+  pub unique : (p q : Parts) → Lawful p → Lawful q → encode p ≡ encode q → p ≡ q
+  -- the number is 0 exactly when a record is accepted, and else a refusal and its place
+  pub zero-accepts : (bytes : List ℕ) (answer list : ℕ) → (numberOf (judgeOf bytes answer list) ≡ 0) ↔ ((p : Parts) × (judgeOf bytes answer list ≡ accepted p))
+  pub zero-or-refusal : (bytes : List ℕ) (answer list : ℕ) → (numberOf (judgeOf bytes answer list) ≡ 0) ⊎ Refusal (numberOf (judgeOf bytes answer list))
+  -- a buffer that is too short comes first: the answer's, then the list's
+  pub short-answer : (bytes : List ℕ) (answer list : ℕ) → answer < 7 → judgeOf bytes answer list ≡ refused shortBuffer 0
+  pub short-list : (bytes : List ℕ) (answer list : ℕ) → 7 ≤ answer → list < 36 → judgeOf bytes answer list ≡ refused shortBuffer 1
+  -- an accepted record has at least 20 bytes
+  pub at-least-20 : (bytes : List ℕ) → Bytes bytes → (answer list : ℕ) (p : Parts) → judgeOf bytes answer list ≡ accepted p → 20 ≤ length bytes
+  -- lawful parts that are passed out, in document 01's bytes; one byte less is 2, one more is 16
+  pub passed-out : Lawful passedOutParts × (passedOut (reverse (passedOutParts .calls)) ≡ true) × (fourPasses ≡ encode passedOutParts)
+  pub one-byte-less : numberOf (judgeOf (take 19 fourPasses) 7 36) ≡ 2 * 1024
+  pub one-byte-more : numberOf (judgeOf (fourPasses ++ (0 ∷ [])) 7 36) ≡ 16 * 1024
+  -- lawful parts with a contract and a claim of 12; a claim of 13 is 15
+  pub with-contract : Lawful (oneClub 12) × (passedOut (reverse (oneClub 12 .calls)) ≡ false)
+  pub one-too-many : numberOf (judgeOf (encode (oneClub 13)) 7 36) ≡ 15 * 1024 + 13
