@@ -1,0 +1,327 @@
+// Tallies of one board: fresh, a score added, and two merged. Every call checks every tally it is given.
+use score::valid;
+ghost use mathlib.Core.Path.{_≡_};
+ghost use mathlib.Core.Bool.{true};
+ghost use mathlib.Core.List.{[], _∷_, _++_};
+ghost use Prim.Native.Nat.{_+_, _≤_};
+ghost use lib.ListN.{drop};
+ghost use Rattle.tally.specs.Tallies.{tallyOf, scoresIn, allZero, wellFormed, refusedWith, freshOf, addOf, mergeOf};
+ghost use Rattle.tally.specs.Steps.{sizeOf, entryAt, higherOf, scoreRefusal, boardsRefusal, roomRefusal, firstOf, Joinable};
+
+// A board with its distinct scores, highest first, and the number of results of each; unused places are zero.
+pub struct Tally {
+    pub board: u8,
+    pub scores: [i16; 128],
+    pub counts: [u8; 128],
+}
+
+// What a call answers: 0 with the tally that it made, or a refusal with an all-zero tally.
+pub struct Tallied {
+    pub refusal: u8,
+    pub tally: Tally,
+}
+
+// A score with its number of results.
+struct Entry {
+    score: i16,
+    count: u8,
+}
+
+// The entry to write next, and how many entries of the first and of the second tally it takes.
+struct Next {
+    score: i16,
+    count: u8,
+    first: usize,
+    second: usize,
+}
+
+// How many places of a tally are used, and how many results it has.
+struct Size {
+    used: usize,
+    results: u8,
+}
+
+// Whether nothing but zeros stands from a place on.
+fn zeros_from(t: Tally, at: usize) -> bool
+    requires { ⌜ at ≤ 128 ⌝ }
+    ensures { λ r. ⌜ r ≡ allZero (drop at (t .scores)) (drop at (t .counts)) ⌝ }
+{
+    let mut i = at;
+    while i < 128 {
+        if t.scores[i] != 0 {
+            return false;
+        }
+        if t.counts[i] != 0 {
+            return false;
+        }
+        i += 1;
+    }
+    true
+}
+
+// Whether a tally is as described: a board from 1 to 127, valid scores that fall, at most 128 results, and zeros after them.
+pub fn well_formed(t: Tally) -> bool
+    ensures { λ r. ⌜ r ≡ wellFormed t ⌝ }
+{
+    if t.board == 0 {
+        return false;
+    }
+    if 127 < t.board {
+        return false;
+    }
+    let mut top: i16 = 7601;
+    let mut room: u8 = 128;
+    let mut i: usize = 0;
+    while i < 128 {
+        let c = t.counts[i];
+        if c == 0 {
+            return zeros_from(t, i);
+        }
+        let s = t.scores[i];
+        if !valid(s) {
+            return false;
+        }
+        if top <= s {
+            return false;
+        }
+        if room < c {
+            return false;
+        }
+        room -= c;
+        top = s;
+        i += 1;
+    }
+    true
+}
+
+fn size_of(t: Tally) -> Size
+    requires { ⌜ wellFormed t ≡ true ⌝ }
+    ensures { λ r. ⌜ r ≡ sizeOf t ⌝ }
+{
+    let mut results: u8 = 0;
+    let mut i: usize = 0;
+    while i < 128 {
+        let c = t.counts[i];
+        if c == 0 {
+            return Size {
+                used: i,
+                results: results,
+            };
+        }
+        results += c;
+        i += 1;
+    }
+    Size {
+        used: i,
+        results: results,
+    }
+}
+
+fn empty(board: u8) -> Tally
+    ensures { λ r. ⌜ r ≡ tallyOf board [] ⌝ }
+{
+    Tally {
+        board: board,
+        scores: [0i16; 128],
+        counts: [0u8; 128],
+    }
+}
+
+fn refuse(refusal: u8) -> Tallied
+    ensures { λ r. ⌜ r ≡ refusedWith refusal ⌝ }
+{
+    let none = empty(0);
+    Tallied {
+        refusal: refusal,
+        tally: none,
+    }
+}
+
+// The tally of a board without a result; 3 for a board outside 1 to 127.
+pub fn fresh(board: u8) -> Tallied
+    ensures { λ r. ⌜ r ≡ freshOf board ⌝ }
+{
+    if board == 0 {
+        return refuse(3);
+    }
+    if 127 < board {
+        return refuse(3);
+    }
+    let none = empty(board);
+    Tallied {
+        refusal: 0,
+        tally: none,
+    }
+}
+
+// The entry at a place before `end`; from there on no result, of a score below every valid one.
+fn entry_at(t: Tally, i: usize, end: usize) -> Entry
+    requires { ⌜ end ≤ 128 ⌝ }
+    ensures { λ r. ⌜ r ≡ entryAt t i end ⌝ }
+{
+    if i < end {
+        let s = t.scores[i];
+        let c = t.counts[i];
+        return Entry { score: s, count: c };
+    }
+    Entry {
+        score: -7601,
+        count: 0,
+    }
+}
+
+// The higher of two entries; of two with one score, both together.
+fn higher(x: Entry, y: Entry) -> Next
+    requires { ⌜ x .count + y .count ≤ 128 ⌝ }
+    ensures { λ r. ⌜ r ≡ higherOf x y ⌝ }
+{
+    let s = x.score;
+    let r = y.score;
+    if r < s {
+        return Next {
+            score: s,
+            count: x.count,
+            first: 1,
+            second: 0,
+        };
+    }
+    if s < r {
+        return Next {
+            score: r,
+            count: y.count,
+            first: 0,
+            second: 1,
+        };
+    }
+    Next {
+        score: s,
+        count: x.count + y.count,
+        first: 1,
+        second: 1,
+    }
+}
+
+// The results of two tallies in one, written into an empty tally in a single pass over both. `n` and `m` are the ends of their entries.
+fn joined(none: Tally, a: Tally, n: usize, b: Tally, m: usize) -> Tally
+    requires { ⌜ Joinable none a n b m ⌝ }
+    ensures { λ r. ⌜ r ≡ tallyOf (none .board) (scoresIn a ++ scoresIn b) ⌝ }
+{
+    let mut u = none;
+    let mut i: usize = 0;
+    let mut j: usize = 0;
+    let mut k: usize = 0;
+    while k < 128 {
+        let x = entry_at(a, i, n);
+        let y = entry_at(b, j, m);
+        let e = higher(x, y);
+        let s = e.score;
+        let c = e.count;
+        if c == 0 {
+            return u;
+        }
+        u.scores[k] = s;
+        u.counts[k] = c;
+        i += e.first;
+        j += e.second;
+        k += 1;
+    }
+    u
+}
+
+// One result in an empty tally.
+fn single(none: Tally, score: i16) -> Tally
+    requires { ⌜ none ≡ tallyOf (none .board) [] ⌝ }
+    ensures { λ r. ⌜ r ≡ tallyOf (none .board) (score ∷ []) ⌝ }
+{
+    let mut u = none;
+    u.scores[0] = score;
+    u.counts[0] = 1;
+    u
+}
+
+fn score_refusal(score: i16) -> u8
+    ensures { λ r. ⌜ r ≡ scoreRefusal score ⌝ }
+{
+    if valid(score) {
+        return 0;
+    }
+    20
+}
+
+fn boards_refusal(board: u8, board2: u8) -> u8
+    ensures { λ r. ⌜ r ≡ boardsRefusal board board2 ⌝ }
+{
+    if board == board2 {
+        return 0;
+    }
+    18
+}
+
+fn room_refusal(results: u8, more: u8) -> u8
+    requires { ⌜ results ≤ 128 ⌝ }
+    ensures { λ r. ⌜ r ≡ roomRefusal results more ⌝ }
+{
+    if 128 - results < more {
+        return 19;
+    }
+    0
+}
+
+// Of two refusals the first that is one.
+fn first(refusal: u8, later: u8) -> u8
+    ensures { λ r. ⌜ r ≡ firstOf refusal later ⌝ }
+{
+    if refusal == 0 {
+        return later;
+    }
+    refusal
+}
+
+// One more result of a score; 17, 20 or 19.
+pub fn add(t: Tally, score: i16) -> Tallied
+    ensures { λ r. ⌜ r ≡ addOf t score ⌝ }
+{
+    if !well_formed(t) {
+        return refuse(17);
+    }
+    let x = size_of(t);
+    let invalid = score_refusal(score);
+    let full = room_refusal(x.results, 1);
+    let refusal = first(invalid, full);
+    if refusal != 0 {
+        return refuse(refusal);
+    }
+    let none = empty(t.board);
+    let one = single(none, score);
+    let u = joined(none, t, x.used, one, 1);
+    Tallied {
+        refusal: 0,
+        tally: u,
+    }
+}
+
+// The results of two tallies of one board; 17, 18 or 19.
+pub fn merge(a: Tally, b: Tally) -> Tallied
+    ensures { λ r. ⌜ r ≡ mergeOf a b ⌝ }
+{
+    if !well_formed(a) {
+        return refuse(17);
+    }
+    if !well_formed(b) {
+        return refuse(17);
+    }
+    let x = size_of(a);
+    let y = size_of(b);
+    let boards = boards_refusal(a.board, b.board);
+    let full = room_refusal(x.results, y.results);
+    let refusal = first(boards, full);
+    if refusal != 0 {
+        return refuse(refusal);
+    }
+    let none = empty(a.board);
+    let u = joined(none, a, x.used, b, y.used);
+    Tallied {
+        refusal: 0,
+        tally: u,
+    }
+}
