@@ -1,3 +1,4 @@
 pub mod Tests
 pub mod Scores
 pub mod Counts
+pub mod Comparisons

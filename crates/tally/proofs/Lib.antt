@@ -6,3 +6,6 @@ pub mod Places
 pub mod Refusing
 pub mod Answers
 pub mod Reached
+pub mod Comparing
+pub mod OfLists
+pub mod Shapes

@@ -4,7 +4,7 @@ use native.Mathlib.Omega.{arith}
 use mathlib.Core.Path.{_≡_, refl}
 use mathlib.Core.Bool.{true, false}
 use mathlib.Core.List.{List}
-use borrow.Author.Tests.{eq-eqb, ne-eqb, eqb-true, lt-ltb, le-ltb, ltb-false, lt-leb, leb-true, leb-false}
+use borrow.Author.Tests.{eq-eqb, ne-eqb, eqb-true, eqb-false, lt-ltb, le-ltb, ltb-false, lt-leb, leb-true, leb-false}
 use lib.Dec.{ltb, leb, eqb}
 use lib.IntN.{ℤ}
 use lib.ListN.{length}
@@ -36,6 +36,16 @@ board-over board z h = rw (ne-eqb board 0 z, lt-ltb 127 board h)
 pub board-good : (board : ℕ) → (board ≡ 0 → ⊥) → board ≤ 127 → freshRefusal board ≡ 0
 unfolding freshRefusal
 board-good board z h = rw (ne-eqb board 0 z, le-ltb 127 board h)
+
+pub board-range : (board : ℕ) → freshRefusal board ≡ 0 → (1 ≤ board) × (board ≤ 127)
+unfolding freshRefusal
+board-range board e =
+    by-test (eqb board 0)
+    (λ (q : eqb board 0 ≡ true). absurd (omega (arith, rw q at e)))
+    (λ (q : eqb board 0 ≡ false).
+    by-test (ltb 127 board)
+    (λ (r : ltb 127 board ≡ true). absurd (omega (arith, rw (q, r) at e)))
+    (λ (r : ltb 127 board ≡ false). let z = eqb-false board 0 q in (omega arith, ltb-false 127 board r)))
 
 -- ---- of a score that is added
 module _ (l : List ℤ) (s : ℤ) where

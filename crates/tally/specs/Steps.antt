@@ -39,13 +39,15 @@ higherOf x y =
     else (record { score = score x; count = count x + count y; first = 1; second = 1 })
 
 -- ---- refusals
+-- a score that isn't valid is refused
 unfoldable pub scoreRefusal : ℤ → ℕ
 scoreRefusal s = if validScore s then accepted else invalidScore
 
+-- two boards are refused
 unfoldable pub boardsRefusal : ℕ → ℕ → ℕ
 boardsRefusal board board2 = if eqb board board2 then accepted else twoBoards
 
--- so many results, and so many more
+-- so many results, and so many more, are refused where they are over 128
 unfoldable pub roomRefusal : ℕ → ℕ → ℕ
 roomRefusal results more = if ltb capacity (results + more) then tooManyResults else accepted
 

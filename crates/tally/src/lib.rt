@@ -1,4 +1,8 @@
-// Tallies of one board: fresh, a score added, and two merged. Every call checks every tally it is given.
+// Tallies of one board: fresh, a score added, two merged, and the matchpoints of a score. Every call checks every tally it is given.
+mod points;
+
+pub use points::MatchpointAnswer;
+pub use points::matchpoints;
 use score::valid;
 ghost use mathlib.Core.Path.{_≡_};
 ghost use mathlib.Core.Bool.{true};
@@ -94,6 +98,7 @@ pub fn well_formed(t: Tally) -> bool
     true
 }
 
+// The size of a tally that is well formed.
 fn size_of(t: Tally) -> Size
     requires { ⌜ wellFormed t ≡ true ⌝ }
     ensures { λ r. ⌜ r ≡ sizeOf t ⌝ }
@@ -117,6 +122,7 @@ fn size_of(t: Tally) -> Size
     }
 }
 
+// The tally of a board without a result.
 fn empty(board: u8) -> Tally
     ensures { λ r. ⌜ r ≡ tallyOf board [] ⌝ }
 {
@@ -127,6 +133,7 @@ fn empty(board: u8) -> Tally
     }
 }
 
+// A refusal beside an all-zero tally.
 fn refuse(refusal: u8) -> Tallied
     ensures { λ r. ⌜ r ≡ refusedWith refusal ⌝ }
 {
@@ -137,7 +144,7 @@ fn refuse(refusal: u8) -> Tallied
     }
 }
 
-// The tally of a board without a result; 3 for a board outside 1 to 127.
+// A fresh tally of a board; 3 for a board outside 1 to 127.
 pub fn fresh(board: u8) -> Tallied
     ensures { λ r. ⌜ r ≡ freshOf board ⌝ }
 {
@@ -239,6 +246,7 @@ fn single(none: Tally, score: i16) -> Tally
     u
 }
 
+// 20 for a score that isn't valid, else 0.
 fn score_refusal(score: i16) -> u8
     ensures { λ r. ⌜ r ≡ scoreRefusal score ⌝ }
 {
@@ -248,6 +256,7 @@ fn score_refusal(score: i16) -> u8
     20
 }
 
+// 18 for two boards, else 0.
 fn boards_refusal(board: u8, board2: u8) -> u8
     ensures { λ r. ⌜ r ≡ boardsRefusal board board2 ⌝ }
 {
@@ -257,6 +266,7 @@ fn boards_refusal(board: u8, board2: u8) -> u8
     18
 }
 
+// 19 where so many results and so many more are over 128, else 0.
 fn room_refusal(results: u8, more: u8) -> u8
     requires { ⌜ results ≤ 128 ⌝ }
     ensures { λ r. ⌜ r ≡ roomRefusal results more ⌝ }

@@ -105,16 +105,25 @@ returns-5 c =
     let q = le-not-below (toZ w16 (l .top)) x (rw z at (c .if5 .taken)) in
     rw (by-places (c .before .before .before .before .before .before .before .before)) (sym (used (c .before .before .before .before) ∙ rw (v, q)))
 
+-- past the tests of the score the answer is that of its count, and of the places after it
+falling : (d : tie.Else5 Inv-loop μ-loop) →
+    let a = d .before .before .before .before .before .before .before .before .before .before .args .t1 in
+    let l = d .before .before .before .before .before .before .before .loop in
+    let x = getD (a .scores) (l .i) (pos 0) in
+    orderAt (a .scores) (a .counts) ceiling 128 0 ≡ (leb (getD (a .counts) (l .i) 0) (l .room) && orderAt (a .scores) (a .counts) x (l .room - getD (a .counts) (l .i) 0) (suc (l .i)))
+falling d =
+    let a = d .before .before .before .before .before .before .before .before .before .before .args .t1 in
+    let l = d .before .before .before .before .before .before .before .loop in
+    let x = getD (a .scores) (l .i) (pos 0) in
+    let z = score-is (d .before .before .before) in
+    let v = sym (rw z at (d .before .before .valid .ensures)) ∙ not-false _ (d .before .if4 .left) in
+    let q = not-le-below (toZ w16 (l .top)) x (rw z at (d .if5 .left)) in
+    rw (v, q) at (used (d .before .before .before .before))
+
 returns-6 : tie.Need-returns-6 Inv-loop μ-loop
 returns-6 c =
-    let a = c .before .before .before .before .before .before .before .before .before .before .before .args .t1 in
-    let l = c .before .before .before .before .before .before .before .before .loop in
-    let x = getD (a .scores) (l .i) (pos 0) in
-    let z = score-is (c .before .before .before .before) in
-    let v = sym (rw z at (c .before .before .before .valid .ensures)) ∙ not-false _ (c .before .before .if4 .left) in
-    let q = not-le-below (toZ w16 (l .top)) x (rw z at (c .before .if5 .left)) in
-    let r = lt-leb (getD (a .counts) (l .i) 0) (l .room) (c .if6 .taken) in
-    rw (by-places (c .before .before .before .before .before .before .before .before .before)) (sym (used (c .before .before .before .before .before) ∙ rw (v, q, r)))
+    rw (by-places (c .before .before .before .before .before .before .before .before .before))
+    (sym (rw (lt-leb _ _ (c .if6 .taken)) at (falling (c .before))))
 
 add-i : tie.Need-add-i Inv-loop μ-loop
 add-i c = search needs
@@ -124,14 +133,9 @@ loop-less c = search needs
 
 loop-again : tie.Need-loop-again Inv-loop μ-loop
 loop-again c =
-    let a = c .before .before .before .before .before .before .before .before .before .before .before .args .t1 in
     let l = c .before .before .before .before .before .before .before .before .loop in
-    let x = getD (a .scores) (l .i) (pos 0) in
     let z = score-is (c .before .before .before .before) in
-    let v = sym (rw z at (c .before .before .before .valid .ensures)) ∙ not-false _ (c .before .before .if4 .left) in
-    let q = not-le-below (toZ w16 (l .top)) x (rw z at (c .before .if5 .left)) in
-    let r = le-leb (getD (a .counts) (l .i) 0) (l .room) (c .if6 .left) in
-    (omega arith, l .inv .1, l .inv .2, omega arith, rw (z, add-one (l .i)) (used (c .before .before .before .before .before) ∙ rw (v, q, r)))
+    (omega arith, l .inv .1, l .inv .2, omega arith, rw (z, add-one (l .i)) (rw (le-leb _ _ (c .if6 .left)) at (falling (c .before))))
 
 returns-7 : tie.Need-returns-7 Inv-loop μ-loop
 returns-7 c =
