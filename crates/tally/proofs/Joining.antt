@@ -12,8 +12,8 @@ use lib.Seq.{drop-nil}
 use lib.Signed.{ltZ}
 use Rattle.laws.specs.Choice.{if_then_else_}
 use Rattle.laws.specs.Law78.{sameScore}
-use Rattle.laws.proofs.Tests.{by-test, not-both}
-use Rattle.laws.proofs.Scores.{Order, less, same, more, order, not-below-self}
+use Rattle.laws.proofs.Tests.{by-test}
+use Rattle.laws.proofs.Scores.{Below, Order, less, same, more, order, true-same}
 use Rattle.tally.specs.declared.Entry.{Entry}
 use Rattle.tally.specs.declared.Next.{Next}
 use Rattle.tally.specs.Entries.{score, count, entry, entries, padded}
@@ -91,30 +91,26 @@ turned a b whole w =
     record { first = w .second; second = w .first; both = w .both; counts = λ y. omega (arith, w .counts y); room = omega (arith, w .room) }
 
 -- ---- one turn: the higher entry of the two is the whole's next
-take-left : (e : Entry) (es fs whole : List Entry) → Split (e ∷ es) fs whole → ltZ (score (headOf fs)) (score e) ≡ true → Taken (higherOf e (headOf fs)) (e ∷ es) fs whole
+take-left : (e : Entry) (es fs whole : List Entry) → Split (e ∷ es) fs whole → Below (score (headOf fs)) (score e) → Taken (higherOf e (headOf fs)) (e ∷ es) fs whole
 unfolding higherOf
-take-left e es fs whole w h =
-    let o = under (score e) fs (w .second) h in
-    rw h (record { begins = left-entry e es fs whole w o .0; rest = left-rest e es fs whole w o })
+take-left e es fs whole w b =
+    let o = under (score e) fs (w .second) (b .lt) in
+    rw (b .en, b .lt) (record { begins = left-entry e es fs whole w o .0; rest = left-rest e es fs whole w o })
 
-take-right : (f : Entry) (es fs whole : List Entry) → Split es (f ∷ fs) whole → ltZ (score (headOf es)) (score f) ≡ true → ltZ (score f) (score (headOf es)) ≡ false
-    → Taken (higherOf (headOf es) f) es (f ∷ fs) whole
+take-right : (f : Entry) (es fs whole : List Entry) → Split es (f ∷ fs) whole → Below (score (headOf es)) (score f) → Taken (higherOf (headOf es) f) es (f ∷ fs) whole
 unfolding higherOf
-take-right f es fs whole w h n =
+take-right f es fs whole w b =
     let v = turned es (f ∷ fs) whole w in
-    let o = under (score f) es (w .first) h in
-    rw (n, h) (record { begins = left-entry f fs es whole v o .0; rest = turned fs es (drop 1 whole) (left-rest f fs es whole v o) })
+    let o = under (score f) es (w .first) (b .lt) in
+    rw (b .ne, b .ge) (record { begins = left-entry f fs es whole v o .0; rest = turned fs es (drop 1 whole) (left-rest f fs es whole v o) })
 
 take-same : (e f : Entry) (es fs whole : List Entry) → Split (e ∷ es) (f ∷ fs) whole → score e ≡ score f → Taken (higherOf e f) (e ∷ es) (f ∷ fs) whole
 unfolding higherOf
-take-same e f es fs whole w s =
-    let p : ltZ (score f) (score e) ≡ false = rw s (not-below-self (score f)) in
-    let q : ltZ (score e) (score f) ≡ false = rw s (not-below-self (score f)) in
-    rw (p, q) (record { begins = both-entry e f es fs whole w s .0; rest = both-rest e f es fs whole w s })
+take-same e f es fs whole w s = rw (true-same (score e) (score f) s) (record { begins = both-entry e f es fs whole w s .0; rest = both-rest e f es fs whole w s })
 
 take-both : (e f : Entry) (es fs whole : List Entry) → Split (e ∷ es) (f ∷ fs) whole → Order (score e) (score f) → Taken (higherOf e f) (e ∷ es) (f ∷ fs) whole
-take-both e f es fs whole w (less b) = take-right f (e ∷ es) fs whole w (b .lt) (b .ge)
-take-both e f es fs whole w (more b) = take-left e es (f ∷ fs) whole w (b .lt)
+take-both e f es fs whole w (less b) = take-right f (e ∷ es) fs whole w b
+take-both e f es fs whole w (more b) = take-left e es (f ∷ fs) whole w b
 take-both e f es fs whole w (same s) = take-same e f es fs whole w s
 
 -- no result, where both lists have ended, or else an entry with one
@@ -131,20 +127,9 @@ ended : (whole : List Entry) → Split [] [] whole → Turn (higherOf noEntry no
 unfolding higherOf
 ended whole w = record { ends = λ z. no-entries ceiling whole (w .both) (w .counts); goes = λ z. absurd (z refl) }
 
--- what is below is not above
-not-above : (a b : ℤ) → ltZ a b ≡ true → ltZ b a ≡ false
-not-above a b h = go (order a b)
-  where
-    go : Order a b → ltZ b a ≡ false
-    go (less w) = w .ge
-    go (same e) = rw e (not-below-self b)
-    go (more w) = not-both (ltZ a b) h (w .ge)
-
 pub turn : (a b whole : List Entry) → Split a b whole → Turn (higherOf (headOf a) (headOf b)) a b whole
 turn [] [] whole w = ended whole w
-turn [] (f ∷ fs) whole w =
-    let h = valid-high (score f) (w .second .0) in
-    going _ [] (f ∷ fs) whole w (take-right f [] fs whole w h (not-above (score noEntry) (score f) h))
+turn [] (f ∷ fs) whole w = going _ [] (f ∷ fs) whole w (take-right f [] fs whole w (valid-high (score f) (w .second .0)))
 turn (e ∷ es) [] whole w = going _ (e ∷ es) [] whole w (take-left e es [] whole w (valid-high (score e) (w .first .0)))
 turn (e ∷ es) (f ∷ fs) whole w = going _ (e ∷ es) (f ∷ fs) whole w (take-both e f es fs whole w (order (score e) (score f)))
 
@@ -178,11 +163,11 @@ heads-fit a b whole w = omega (arith, head-sum a, head-sum b, w .room)
 pub takes-one : (x y : Entry) → (higherOf x y .first ≤ 1) × (higherOf x y .second ≤ 1)
 unfolding higherOf
 takes-one x y =
-    by-test (ltZ (score y) (score x))
-    (λ (q : ltZ (score y) (score x) ≡ true). rw q (omega arith, omega arith))
-    (λ (q : ltZ (score y) (score x) ≡ false). rw q (by-test (ltZ (score x) (score y))
-    (λ (r : ltZ (score x) (score y) ≡ true). rw r (omega arith, omega arith))
-    (λ (r : ltZ (score x) (score y) ≡ false). rw r (omega arith, omega arith))))
+    by-test (sameScore (score x) (score y))
+    (λ (q : sameScore (score x) (score y) ≡ true). rw q (omega arith, omega arith))
+    (λ (q : sameScore (score x) (score y) ≡ false). rw q (by-test (ltZ (score y) (score x))
+    (λ (r : ltZ (score y) (score x) ≡ true). rw r (omega arith, omega arith))
+    (λ (r : ltZ (score y) (score x) ≡ false). rw r (omega arith, omega arith))))
 
 -- ---- the places written so far: the first k entries of the whole, and zeros
 module _ {A : Type 0} (z : A) (f : Entry → A) where

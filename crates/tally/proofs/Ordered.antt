@@ -5,7 +5,7 @@ use native.Mathlib.Omega.{arith}
 use mathlib.Core.Path.{_≡_, refl, ap, _∙_}
 use mathlib.Core.Bool.{Bool, true, false}
 use mathlib.Core.List.{List, [], _∷_}
-use borrow.Author.Tests.{lt-ltb}
+use borrow.Author.Tests.{lt-ltb, le-ltb, ne-eqb}
 use lib.IntN.{ℤ, pos, negsuc}
 use lib.ListN.{drop}
 use lib.Signed.{ltZ}
@@ -45,9 +45,11 @@ pub valid-low : (s : ℤ) → validScore s ≡ true → ltZ s ceiling ≡ true
 valid-low (pos n) v = lt-ltb n 7601 (omega (arith, valid-size (pos n) v))
 valid-low (negsuc n) v = refl
 
-pub valid-high : (s : ℤ) → validScore s ≡ true → ltZ (negsuc 7600) s ≡ true
-valid-high (pos n) v = refl
-valid-high (negsuc n) v = lt-ltb n 7600 (omega (arith, valid-size (negsuc n) v))
+pub valid-high : (s : ℤ) → validScore s ≡ true → Below (negsuc 7600) s
+valid-high (pos n) v = record { lt = refl; ge = refl; ne = refl; en = refl }
+valid-high (negsuc n) v =
+    let h = valid-size (negsuc n) v in
+    record { lt = lt-ltb n 7600 (omega arith); ge = le-ltb 7600 n (omega arith); ne = ne-eqb 7600 n (λ e. omega arith); en = ne-eqb n 7600 (λ e. omega arith) }
 
 -- under a higher top
 pub lift : (top y : ℤ) (es : List Entry) → ltZ top y ≡ true → Ordered top es → Ordered y es

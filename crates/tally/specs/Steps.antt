@@ -11,6 +11,7 @@ use lib.Signed.{ltZ}
 use Rattle.laws.specs.Choice.{if_then_else_}
 use Rattle.laws.specs.Refusals.{accepted, twoBoards, tooManyResults, invalidScore}
 use Rattle.laws.specs.Law77.{validScore}
+use Rattle.laws.specs.Law78.{sameScore}
 use Rattle.laws.specs.Tally.{capacity}
 use Rattle.tally.specs.declared.Entry.{Entry}
 use Rattle.tally.specs.declared.Next.{Next}
@@ -34,9 +35,9 @@ entryAt t i end = if ltb i end then entry (getD (t .scores) i (pos 0)) (getD (t 
 -- the higher of two entries, or of two with one score both together; and how many entries of each side that takes
 unfoldable pub higherOf : Entry → Entry → Next
 higherOf x y =
-    if ltZ (score y) (score x) then (record { score = score x; count = count x; first = 1; second = 0 })
-    else if ltZ (score x) (score y) then (record { score = score y; count = count y; first = 0; second = 1 })
-    else (record { score = score x; count = count x + count y; first = 1; second = 1 })
+    if sameScore (score x) (score y) then (record { score = score x; count = count x + count y; first = 1; second = 1 })
+    else if ltZ (score y) (score x) then (record { score = score x; count = count x; first = 1; second = 0 })
+    else (record { score = score y; count = count y; first = 0; second = 1 })
 
 -- ---- refusals
 -- a score that isn't valid is refused

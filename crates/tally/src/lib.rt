@@ -184,26 +184,28 @@ fn higher(x: Entry, y: Entry) -> Next
 {
     let s = x.score;
     let r = y.score;
+    let c = x.count;
+    let d = y.count;
+    if s == r {
+        return Next {
+            score: s,
+            count: c + d,
+            first: 1,
+            second: 1,
+        };
+    }
     if r < s {
         return Next {
             score: s,
-            count: x.count,
+            count: c,
             first: 1,
             second: 0,
         };
     }
-    if s < r {
-        return Next {
-            score: r,
-            count: y.count,
-            first: 0,
-            second: 1,
-        };
-    }
     Next {
-        score: s,
-        count: x.count + y.count,
-        first: 1,
+        score: r,
+        count: d,
+        first: 0,
         second: 1,
     }
 }
@@ -303,10 +305,10 @@ pub fn add(t: Tally, score: i16) -> Tallied
     }
     let none = empty(t.board);
     let one = single(none, score);
-    let u = joined(none, t, x.used, one, 1);
+    let grown = joined(none, t, x.used, one, 1);
     Tallied {
         refusal: 0,
-        tally: u,
+        tally: grown,
     }
 }
 
@@ -329,9 +331,9 @@ pub fn merge(a: Tally, b: Tally) -> Tallied
         return refuse(refusal);
     }
     let none = empty(a.board);
-    let u = joined(none, a, x.used, b, y.used);
+    let both = joined(none, a, x.used, b, y.used);
     Tallied {
         refusal: 0,
-        tally: u,
+        tally: both,
     }
 }
