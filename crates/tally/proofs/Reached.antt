@@ -100,16 +100,16 @@ module _ (none a : Tally) (n : ℕ) (b : Tally) (m : ℕ) (u : Tally) (i j k : �
   pub second-end : m ≤ 128
   second-end = let f = formed b (w .given .second) in omega (arith, length-sum ceiling (entriesIn b) (f .ordered), f .room, w .given .second-used)
 
-  first-head : entryAt a i n ≡ headOf (drop i (entriesIn a))
+  first-head : entryAt (a .scores) (a .counts) i n ≡ headOf (drop i (entriesIn a))
   unfolding entryAt
   first-head = rw (w .given .first-used) (head-at i (a .scores) (a .counts))
 
-  second-head : entryAt b j m ≡ headOf (drop j (entriesIn b))
+  second-head : entryAt (b .scores) (b .counts) j m ≡ headOf (drop j (entriesIn b))
   unfolding entryAt
   second-head = rw (w .given .second-used) (head-at j (b .scores) (b .counts))
 
   -- the two entries that a turn reads
-  module _ (x y : Entry) (ex : x ≡ entryAt a i n) (ey : y ≡ entryAt b j m) where
+  module _ (x y : Entry) (ex : x ≡ entryAt (a .scores) (a .counts) i n) (ey : y ≡ entryAt (b .scores) (b .counts) j m) where
     pub fits : count x + count y ≤ 128
     fits = rw (ex ∙ first-head, ey ∙ second-head) (heads-fit (drop i (entriesIn a)) (drop j (entriesIn b)) (drop k (wholeOf a b)) (w .split))
 

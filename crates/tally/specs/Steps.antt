@@ -3,7 +3,7 @@
 use Prim.Native.Nat.{ℕ, zero, suc, _+_, _≤_}
 use mathlib.Core.Path.{_≡_}
 use mathlib.Core.Bool.{true}
-use mathlib.Core.List.{[]}
+use mathlib.Core.List.{List, []}
 use lib.Dec.{ltb, eqb}
 use lib.IntN.{ℤ, pos, negsuc}
 use lib.ListN.{length, getD}
@@ -29,8 +29,8 @@ abbrev pub noEntry : Entry
 noEntry = entry (negsuc 7600) 0
 
 -- the entry at a place before the end, and none from there on
-unfoldable pub entryAt : Tally → ℕ → ℕ → Entry
-entryAt t i end = if ltb i end then entry (getD (t .scores) i (pos 0)) (getD (t .counts) i 0) else noEntry
+unfoldable pub entryAt : List ℤ → List ℕ → ℕ → ℕ → Entry
+entryAt ss cs i end = if ltb i end then entry (getD ss i (pos 0)) (getD cs i 0) else noEntry
 
 -- the higher of two entries, or of two with one score both together; and how many entries of each side that takes
 unfoldable pub higherOf : Entry → Entry → Next

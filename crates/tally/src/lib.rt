@@ -162,13 +162,13 @@ pub fn fresh(board: u8) -> Tallied
 }
 
 // The entry at a place before `end`; from there on no result, of a score below every valid one.
-fn entry_at(t: Tally, i: usize, end: usize) -> Entry
+fn entry_at<'a>(scores: &'a [i16; 128], counts: &'a [u8; 128], i: usize, end: usize) -> Entry
     requires { ⌜ end ≤ 128 ⌝ }
-    ensures { λ r. ⌜ r ≡ entryAt t i end ⌝ }
+    ensures { λ r. ⌜ r ≡ entryAt (now (scores .entry)) (now (counts .entry)) i end ⌝ }
 {
     if i < end {
-        let s = t.scores[i];
-        let c = t.counts[i];
+        let s = scores[i];
+        let c = counts[i];
         return Entry { score: s, count: c };
     }
     Entry {
@@ -220,8 +220,8 @@ fn joined(none: Tally, a: Tally, n: usize, b: Tally, m: usize) -> Tally
     let mut j: usize = 0;
     let mut k: usize = 0;
     while k < 128 {
-        let x = entry_at(a, i, n);
-        let y = entry_at(b, j, m);
+        let x = entry_at(&a.scores, &a.counts, i, n);
+        let y = entry_at(&b.scores, &b.counts, j, m);
         let e = higher(x, y);
         let s = e.score;
         let c = e.count;

@@ -23,7 +23,7 @@ returns : tie.Need-returns
 unfolding entryAt
 returns c =
     let a = c .before .before .before .args in
-    let f : SFits w16 (getD (a .t1 .scores) (a .i) (pos 0)) = search needs in
+    let f : SFits w16 (getD (a .scores .now) (a .i) (pos 0)) = search needs in
     rw (toZ-ofZ f, lt-ltb (a .i) (a .end) (search needs))
 
 returns-2 : tie.Need-returns-2
