@@ -1,16 +1,33 @@
-// Tallies of one board: fresh, a score added, two merged, and the matchpoints of a score. Every call checks every tally it is given.
+// Tallies of one board: what they are, which are well formed, fresh ones, and two joined in one pass. `calls` has adding and merging, `points` the
+// matchpoints of a score. Every call checks every tally it is given.
+mod calls;
 mod points;
 
+pub use calls::add;
+pub use calls::merge;
 pub use points::MatchpointAnswer;
 pub use points::matchpoints;
 use score::valid;
 ghost use mathlib.Core.Path.{_≡_};
 ghost use mathlib.Core.Bool.{true};
-ghost use mathlib.Core.List.{[], _∷_, _++_};
+ghost use mathlib.Core.List.{[], _++_};
 ghost use Prim.Native.Nat.{_+_, _≤_};
 ghost use lib.ListN.{drop};
-ghost use Rattle.tally.specs.Tallies.{tallyOf, scoresIn, allZero, wellFormed, refusedWith, freshOf, addOf, mergeOf};
-ghost use Rattle.tally.specs.Steps.{sizeOf, entryAt, higherOf, scoreRefusal, boardsRefusal, roomRefusal, firstOf, Joinable};
+ghost use Rattle.tally.specs.Tallies.{tallyOf, scoresIn, allZero, wellFormed, refusedWith, freshOf};
+ghost use Rattle.tally.specs.Steps.{sizeOf, entryAt, higherOf, Joinable};
+
+// The refusals of tally calls, as document 01 numbers them. The place of each is 0.
+const NO_SUCH_BOARD: u8 = 3;
+
+const MALFORMED_TALLY: u8 = 17;
+
+const TWO_BOARDS: u8 = 18;
+
+const TOO_MANY_RESULTS: u8 = 19;
+
+const INVALID_SCORE: u8 = 20;
+
+const SCORE_NOT_IN_TALLY: u8 = 21;
 
 // A board with its distinct scores, highest first, and the number of results of each; unused places are zero.
 pub struct Tally {
@@ -149,10 +166,10 @@ pub fn fresh(board: u8) -> Tallied
     ensures { λ r. ⌜ r ≡ freshOf board ⌝ }
 {
     if board == 0 {
-        return refuse(3);
+        return refuse(NO_SUCH_BOARD);
     }
     if 127 < board {
-        return refuse(3);
+        return refuse(NO_SUCH_BOARD);
     }
     let none = empty(board);
     Tallied {
@@ -235,105 +252,4 @@ fn joined(none: Tally, a: Tally, n: usize, b: Tally, m: usize) -> Tally
         k += 1;
     }
     u
-}
-
-// One result in an empty tally.
-fn single(none: Tally, score: i16) -> Tally
-    requires { ⌜ none ≡ tallyOf (none .board) [] ⌝ }
-    ensures { λ r. ⌜ r ≡ tallyOf (none .board) (score ∷ []) ⌝ }
-{
-    let mut u = none;
-    u.scores[0] = score;
-    u.counts[0] = 1;
-    u
-}
-
-// 20 for a score that isn't valid, else 0.
-fn score_refusal(score: i16) -> u8
-    ensures { λ r. ⌜ r ≡ scoreRefusal score ⌝ }
-{
-    if valid(score) {
-        return 0;
-    }
-    20
-}
-
-// 18 for two boards, else 0.
-fn boards_refusal(board: u8, board2: u8) -> u8
-    ensures { λ r. ⌜ r ≡ boardsRefusal board board2 ⌝ }
-{
-    if board == board2 {
-        return 0;
-    }
-    18
-}
-
-// 19 where so many results and so many more are over 128, else 0.
-fn room_refusal(results: u8, more: u8) -> u8
-    requires { ⌜ results ≤ 128 ⌝ }
-    ensures { λ r. ⌜ r ≡ roomRefusal results more ⌝ }
-{
-    if 128 - results < more {
-        return 19;
-    }
-    0
-}
-
-// Of two refusals the first that is one.
-fn first(refusal: u8, later: u8) -> u8
-    ensures { λ r. ⌜ r ≡ firstOf refusal later ⌝ }
-{
-    if refusal == 0 {
-        return later;
-    }
-    refusal
-}
-
-// One more result of a score; 17, 20 or 19.
-pub fn add(t: Tally, score: i16) -> Tallied
-    ensures { λ r. ⌜ r ≡ addOf t score ⌝ }
-{
-    if !well_formed(t) {
-        return refuse(17);
-    }
-    let x = size_of(t);
-    let invalid = score_refusal(score);
-    let full = room_refusal(x.results, 1);
-    let refusal = first(invalid, full);
-    if refusal != 0 {
-        return refuse(refusal);
-    }
-    let none = empty(t.board);
-    let one = single(none, score);
-    let grown = joined(none, t, x.used, one, 1);
-    Tallied {
-        refusal: 0,
-        tally: grown,
-    }
-}
-
-// The results of two tallies of one board; 17, 18 or 19.
-pub fn merge(a: Tally, b: Tally) -> Tallied
-    ensures { λ r. ⌜ r ≡ mergeOf a b ⌝ }
-{
-    if !well_formed(a) {
-        return refuse(17);
-    }
-    if !well_formed(b) {
-        return refuse(17);
-    }
-    let x = size_of(a);
-    let y = size_of(b);
-    let boards = boards_refusal(a.board, b.board);
-    let full = room_refusal(x.results, y.results);
-    let refusal = first(boards, full);
-    if refusal != 0 {
-        return refuse(refusal);
-    }
-    let none = empty(a.board);
-    let both = joined(none, a, x.used, b, y.used);
-    Tallied {
-        refusal: 0,
-        tally: both,
-    }
 }

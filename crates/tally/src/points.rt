@@ -1,4 +1,7 @@
 // The matchpoints of a score in a tally.
+use super::INVALID_SCORE;
+use super::MALFORMED_TALLY;
+use super::SCORE_NOT_IN_TALLY;
 use super::Tally;
 use super::well_formed;
 use score::Matchpoints;
@@ -84,14 +87,14 @@ pub fn matchpoints(t: Tally, score: i16) -> MatchpointAnswer
     ensures { λ r. ⌜ r ≡ pointsAnswer (matchpointsOf t score) ⌝ }
 {
     if !well_formed(t) {
-        return MatchpointAnswer::Refused(17);
+        return MatchpointAnswer::Refused(MALFORMED_TALLY);
     }
     if !valid(score) {
-        return MatchpointAnswer::Refused(20);
+        return MatchpointAnswer::Refused(INVALID_SCORE);
     }
     let s = standing_of(t, score);
     if s.equal == 0 {
-        return MatchpointAnswer::Refused(21);
+        return MatchpointAnswer::Refused(SCORE_NOT_IN_TALLY);
     }
     let n = wide(s.results);
     let ns = 2 * wide(s.below) + wide(s.equal) - 1;

@@ -1,11 +1,11 @@
--- `tally::room_refusal` meets its contract, by its test. Assumes nothing.
+-- `tally::calls::room_refusal` meets its contract, by its test. Assumes nothing.
 use Prim.Native.Nat.{_+_}
 use native.Mathlib.Omega.{arith}
 use borrow.Author.Needs.{needs}
 use borrow.Author.Tests.{lt-ltb, le-ltb}
 use Rattle.tally.specs.Steps.{roomRefusal}
-use Rattle.tally.proofs.room_refusal.Statement.{statement}
-use Rattle.tally.proofs.room_refusal.Tie as tie
+use Rattle.tally.proofs.calls.room_refusal.Statement.{statement}
+use Rattle.tally.proofs.calls.room_refusal.Tie as tie
 
 sub-if1 : tie.Need-sub-if1
 sub-if1 c = search needs

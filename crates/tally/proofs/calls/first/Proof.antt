@@ -1,7 +1,7 @@
--- `tally::first` meets its contract, by its test. Assumes nothing.
+-- `tally::calls::first` meets its contract, by its test. Assumes nothing.
 use Rattle.tally.proofs.Refusing.{first-none, first-some}
-use Rattle.tally.proofs.first.Statement.{statement}
-use Rattle.tally.proofs.first.Tie as tie
+use Rattle.tally.proofs.calls.first.Statement.{statement}
+use Rattle.tally.proofs.calls.first.Tie as tie
 
 returns : tie.Need-returns
 returns c = first-none _ _ (c .if1 .taken)

@@ -1,8 +1,8 @@
--- `tally::boards_refusal` meets its contract, by its test. Assumes nothing.
+-- `tally::calls::boards_refusal` meets its contract, by its test. Assumes nothing.
 use borrow.Author.Tests.{eq-eqb, ne-eqb}
 use Rattle.tally.specs.Steps.{boardsRefusal}
-use Rattle.tally.proofs.boards_refusal.Statement.{statement}
-use Rattle.tally.proofs.boards_refusal.Tie as tie
+use Rattle.tally.proofs.calls.boards_refusal.Statement.{statement}
+use Rattle.tally.proofs.calls.boards_refusal.Tie as tie
 
 returns : tie.Need-returns
 unfolding boardsRefusal

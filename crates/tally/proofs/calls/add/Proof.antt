@@ -1,4 +1,4 @@
--- `tally::add` meets its contract: one law of `Answers` for each way out. Assumes nothing.
+-- `tally::calls::add` meets its contract: one law of `Answers` for each way out. Assumes nothing.
 use mathlib.Core.Path.{_≡_, sym, _∙_}
 use mathlib.Core.Bool.{true}
 use mathlib.Core.List.{[], _∷_}
@@ -10,8 +10,8 @@ use mir.Facts.{toZ-ofZ}
 use Rattle.laws.specs.Tally.{addRefusal}
 use Rattle.tally.specs.Tallies.{tallyOf, scoresIn, wellFormed}
 use Rattle.tally.proofs.Answers.{own-empty, size-room, add-malformed, add-number, add-refused, add-joinable, add-accepted}
-use Rattle.tally.proofs.add.Statement.{statement}
-use Rattle.tally.proofs.add.Tie as tie
+use Rattle.tally.proofs.calls.add.Statement.{statement}
+use Rattle.tally.proofs.calls.add.Tie as tie
 
 -- the score, read back from its code, is the score
 whole : (st : tie.Start) → toZ w16 (ofZ w16 (st .args .score)) ≡ st .args .score

@@ -1,4 +1,4 @@
--- `tally::single` meets its contract: place 0 is written. Assumes nothing.
+-- `tally::calls::single` meets its contract: place 0 is written. Assumes nothing.
 use mathlib.Core.Path.{_≡_, ap}
 use mathlib.Core.List.{[], _∷_}
 use borrow.Author.Needs.{needs}
@@ -8,8 +8,8 @@ use mir.Facts.{toZ-ofZ}
 use Rattle.tally.specs.declared.Tally.{Tally}
 use Rattle.tally.specs.Entries.{entriesOf, enter, padded}
 use Rattle.tally.specs.Tallies.{tallyWith, tallyOf}
-use Rattle.tally.proofs.single.Statement.{statement}
-use Rattle.tally.proofs.single.Tie as tie
+use Rattle.tally.proofs.calls.single.Statement.{statement}
+use Rattle.tally.proofs.calls.single.Tie as tie
 
 element-set-from-score : tie.Need-element-set-from-score
 element-set-from-score c = search needs

@@ -1,12 +1,12 @@
--- `tally::score_refusal` meets its contract, by its test. Assumes nothing.
+-- `tally::calls::score_refusal` meets its contract, by its test. Assumes nothing.
 use mathlib.Core.Path.{_≡_, sym, _∙_}
 use borrow.Author.Needs.{needs}
 use mir.Syntax.{w16}
 use mir.Val.{toZ, ofZ}
 use mir.Facts.{toZ-ofZ}
 use Rattle.tally.specs.Steps.{scoreRefusal}
-use Rattle.tally.proofs.score_refusal.Statement.{statement}
-use Rattle.tally.proofs.score_refusal.Tie as tie
+use Rattle.tally.proofs.calls.score_refusal.Statement.{statement}
+use Rattle.tally.proofs.calls.score_refusal.Tie as tie
 
 -- the score, read back from its code, is the score
 whole : (st : tie.Start) → toZ w16 (ofZ w16 (st .args .score)) ≡ st .args .score

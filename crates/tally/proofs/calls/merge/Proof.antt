@@ -1,4 +1,4 @@
--- `tally::merge` meets its contract: one law of `Answers` for each way out. Assumes nothing.
+-- `tally::calls::merge` meets its contract: one law of `Answers` for each way out. Assumes nothing.
 use mathlib.Core.Path.{_≡_, sym, _∙_}
 use mathlib.Core.Bool.{true}
 use borrow.Author.Needs.{needs}
@@ -6,8 +6,8 @@ use borrow.Author.Tests.{not-true, not-false}
 use Rattle.laws.specs.Tally.{mergeRefusal}
 use Rattle.tally.specs.Tallies.{scoresIn, wellFormed}
 use Rattle.tally.proofs.Answers.{size-room, first-malformed, second-malformed, merge-number, merge-refused, merge-joinable, merge-accepted}
-use Rattle.tally.proofs.merge.Statement.{statement}
-use Rattle.tally.proofs.merge.Tie as tie
+use Rattle.tally.proofs.calls.merge.Statement.{statement}
+use Rattle.tally.proofs.calls.merge.Tie as tie
 
 first-well : (c : tie.Else1) → wellFormed (c .before .before .args .a) ≡ true
 first-well c = sym (c .before .well-formed .ensures) ∙ not-false _ (c .if1 .left)
