@@ -61,6 +61,7 @@ pub record NoneRefused (of : ℕ) (t : Tree) : Type 0 where
   pub board : boardOf t ≡ of
   pub all : SameScores (listOf t) (added t)
 
+-- the claim: every tree; plain trees; two plain trees with the same scores; and trees with more than 128 scores
 pub record Demand3 : Type 0 where
   pub of-tree : (t : Tree) → OfTree t
   pub none-refused : (board : ℕ) (t : Tree) → Plain board t → NoneRefused board t

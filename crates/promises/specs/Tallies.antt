@@ -58,6 +58,7 @@ pub record Fit (a b : Tally) : Type 0 where
   pub one-board : a .board ≡ b .board
   pub room : resultsIn a + resultsIn b ≤ 128
 
+-- how merging goes, value for value
 pub record Merging : Type 0 where
   -- tallies that fit are merged
   pub accepts : (a b : Tally) → Fit a b → mergeOf a b .refusal ≡ 0
@@ -76,6 +77,7 @@ unfoldable pub sumFor : (ℤ → ℕ) → List ℤ → ℕ
 sumFor f [] = 0
 sumFor f (s ∷ results) = f s + sumFor f results
 
+-- what Law 78A's comparisons come to
 pub record Matchpoints : Type 0 where
   -- compared with every other result: 2 for each result below, 1 for each equal one, less 1 for the result itself
   pub by-counts : (results : List ℤ) (s : ℤ) → 1 ≤ occurrences s results
@@ -85,6 +87,7 @@ pub record Matchpoints : Type 0 where
   -- the NS numbers of n results sum to n × (n − 1)
   pub totals : (results : List ℤ) → sumFor (nsMatchpoints results) results ≡ length results * (length results - 1)
 
+-- the claim on tallies
 pub record OfTallies : Type 0 where
   pub described : (t : Tally) → Described t
   pub refused-none : RefusedNone
