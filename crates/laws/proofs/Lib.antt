@@ -23,3 +23,4 @@ pub mod LawfulParts
 pub mod Accepts
 pub mod Numbered
 pub mod Lengths
+pub mod Comparisons

@@ -1,3 +1,6 @@
 pub mod Examples
 pub mod Demand2Records
 pub mod Demand2Accepts
+pub mod Demand3
+pub mod TalliesMatchpoints
+pub mod Tallies

@@ -1,2 +1,4 @@
 pub mod Examples
 pub mod Demand2
+pub mod Demand3
+pub mod Tallies

@@ -1,0 +1,95 @@
+-- What is promised of tallies, whoever made them: which are well formed, what a refusal gives, how merging goes, and what matchpoints come to.
+-- Assumes nothing.
+use Prim.Native.Nat.{ℕ, _≤_, _+_, _-_, _*_}
+use mathlib.Core.Path.{_≡_}
+use mathlib.Core.Bool.{true}
+use mathlib.Core.List.{List, [], _∷_}
+use lib.IntN.{ℤ, pos}
+use lib.ListN.{length, replicate}
+use lib.Signed.{ltZ}
+use Rattle.laws.specs.Choice.{howMany}
+use Rattle.laws.specs.Refusals.{refused, malformedTally}
+use Rattle.laws.specs.Law78.{occurrences, nsMatchpoints, ewMatchpoints}
+use Rattle.laws.specs.Tally.{AllValid}
+use Rattle.tally.specs.declared.Tally.{Tally}
+use Rattle.tally.specs.declared.Tallied.{Tallied}
+use Rattle.tally.specs.Tallies.{tallyOf, scoresIn, wellFormed, noTally, refusedWith, freshOf, addOf, mergeOf}
+use Rattle.tally.specs.Points.{matchpointsOf}
+
+-- ---- described
+-- a tally is that of a board from 1 to 127 and of at most 128 valid scores
+pub record Holds (t : Tally) (board : ℕ) (results : List ℤ) : Type 0 where
+  pub from : 1 ≤ board
+  pub to : board ≤ 127
+  pub valid : AllValid results
+  pub room : length results ≤ 128
+  pub is : t ≡ tallyOf board results
+
+-- the test of a tally holds exactly for these
+pub record Described (t : Tally) : Type 0 where
+  pub holds : wellFormed t ≡ true → (board : ℕ) × (results : List ℤ) × Holds t board results
+  pub only : (board : ℕ) (results : List ℤ) → Holds t board results → wellFormed t ≡ true
+
+-- ---- refused, no tally
+-- an answer that is a refusal comes with no tally
+abbrev pub WithNone : Tallied → Type 0
+WithNone r = (r .refusal ≡ 0 → ⊥) → r .tally ≡ noTally
+
+-- the tally beside a refusal is all zero, and every call refuses it with 17, on either side of a merge
+pub record RefusedNone : Type 0 where
+  pub of-fresh : (board : ℕ) → WithNone (freshOf board)
+  pub of-add : (t : Tally) (s : ℤ) → WithNone (addOf t s)
+  pub of-merge : (a b : Tally) → WithNone (mergeOf a b)
+  pub zero : noTally ≡ record { board = 0; scores = replicate 128 (pos 0); counts = replicate 128 0 }
+  pub then-add : (s : ℤ) → addOf noTally s ≡ refusedWith malformedTally
+  pub then-first : (t : Tally) → mergeOf noTally t ≡ refusedWith malformedTally
+  pub then-second : (t : Tally) → mergeOf t noTally ≡ refusedWith malformedTally
+  pub then-points : (s : ℤ) → matchpointsOf noTally s ≡ refused malformedTally
+
+-- ---- merging
+-- so many results
+abbrev pub resultsIn : Tally → ℕ
+resultsIn t = length (scoresIn t)
+
+-- two well-formed tallies of one board, within 128
+pub record Fit (a b : Tally) : Type 0 where
+  pub first : wellFormed a ≡ true
+  pub second : wellFormed b ≡ true
+  pub one-board : a .board ≡ b .board
+  pub room : resultsIn a + resultsIn b ≤ 128
+
+-- how merging goes, value for value
+pub record Merging : Type 0 where
+  -- tallies that fit are merged
+  pub accepts : (a b : Tally) → Fit a b → mergeOf a b .refusal ≡ 0
+  -- the order of two does not matter, refused or not
+  pub commutes : (a b : Tally) → mergeOf a b ≡ mergeOf b a
+  -- nor the bracketing of three of one board that fit together
+  pub associates : (a b c : Tally) → Fit a b → Fit b c → resultsIn a + resultsIn b + resultsIn c ≤ 128
+      → mergeOf (mergeOf a b .tally) c ≡ mergeOf a (mergeOf b c .tally)
+  -- the empty tally of the board changes nothing, on either side
+  pub empty-first : (t : Tally) → wellFormed t ≡ true → mergeOf (tallyOf (t .board) []) t ≡ record { refusal = 0; tally = t }
+  pub empty-second : (t : Tally) → wellFormed t ≡ true → mergeOf t (tallyOf (t .board) []) ≡ record { refusal = 0; tally = t }
+
+-- ---- matchpoints, over any list of results
+-- the sum of a number for each result
+unfoldable pub sumFor : (ℤ → ℕ) → List ℤ → ℕ
+sumFor f [] = 0
+sumFor f (s ∷ results) = f s + sumFor f results
+
+-- what Law 78A's comparisons come to
+pub record Matchpoints : Type 0 where
+  -- compared with every other result: 2 for each result below, 1 for each equal one, less 1 for the result itself
+  pub by-counts : (results : List ℤ) (s : ℤ) → 1 ≤ occurrences s results
+      → nsMatchpoints results s ≡ 2 * howMany (λ (r : ℤ). ltZ r s) results + occurrences s results - 1
+  -- the two sides share two for each comparison
+  pub shared : (results : List ℤ) (s : ℤ) → 1 ≤ occurrences s results → nsMatchpoints results s + ewMatchpoints results s ≡ 2 * (length results - 1)
+  -- the NS numbers of n results sum to n × (n − 1)
+  pub totals : (results : List ℤ) → sumFor (nsMatchpoints results) results ≡ length results * (length results - 1)
+
+-- the claim on tallies
+pub record OfTallies : Type 0 where
+  pub described : (t : Tally) → Described t
+  pub refused-none : RefusedNone
+  pub merging : Merging
+  pub matchpoints : Matchpoints

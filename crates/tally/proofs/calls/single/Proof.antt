@@ -1,0 +1,29 @@
+-- `tally::calls::single` meets its contract: place 0 is written. Assumes nothing.
+use mathlib.Core.Path.{_≡_, ap}
+use mathlib.Core.List.{[], _∷_}
+use borrow.Author.Needs.{needs}
+use lib.IntN.{ℤ}
+use lib.ListN.{set}
+use mir.Facts.{toZ-ofZ}
+use Rattle.tally.specs.declared.Tally.{Tally}
+use Rattle.tally.specs.Entries.{entriesOf, enter, padded}
+use Rattle.tally.specs.Tallies.{tallyWith, tallyOf}
+use Rattle.tally.proofs.calls.single.Statement.{statement}
+use Rattle.tally.proofs.calls.single.Tie as tie
+
+element-set-from-score : tie.Need-element-set-from-score
+element-set-from-score c = search needs
+
+element-write-u : tie.Need-element-write-u
+element-write-u c = search needs
+
+wrote-one : (none : Tally) (s : ℤ) → none ≡ tallyOf (none .board) []
+    → record { board = none .board; scores = set (none .scores) 0 s; counts = set (none .counts) 0 1 } ≡ tallyOf (none .board) (s ∷ [])
+unfolding tallyOf tallyWith entriesOf enter padded
+wrote-one none s e = ap (λ (t : Tally). record { board = none .board; scores = set (t .scores) 0 s; counts = set (t .counts) 0 1 }) e
+
+returns : tie.Need-returns
+returns c = rw (toZ-ofZ (c .fits .score)) (wrote-one (c .args .none) (c .args .score) (c .pre))
+
+pub single-spec : {M : Type 1} → statement M
+single-spec = tie.close (tie.spec element-set-from-score element-write-u returns)

@@ -1,0 +1,5 @@
+pub mod Entries
+pub mod Tallies
+pub mod Steps
+pub mod Points
+pub mod Shape

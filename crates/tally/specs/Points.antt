@@ -1,0 +1,36 @@
+-- The matchpoints that a tally gives for a score, and how its results stand to that score.
+-- Assumes nothing.
+use Prim.Native.Nat.{ℕ}
+use lib.IntN.{ℤ}
+use lib.ListN.{length}
+use lib.Signed.{ltZ}
+use Rattle.laws.specs.Choice.{if_then_else_, howMany}
+use Rattle.laws.specs.Refusals.{Answer, refused, answered, malformedTally}
+use Rattle.laws.specs.Law78.{sameScore, occurrences, Points as BothSides, matchpoints}
+use Rattle.tally.specs.declared.points.MatchpointAnswer.{MatchpointAnswer}
+use Rattle.tally.specs.declared.points.MatchpointAnswer.the-variants.{Refused, Points}
+use Rattle.tally.specs.declared.points.Standing.{Standing}
+use Rattle.tally.specs.declared.Tally.{Tally}
+use Rattle.tally.specs.Tallies.{scoresIn, wellFormed}
+
+-- asked for a score of a tally: 17 if the tally isn't well formed, else as for its list of scores
+unfoldable pub matchpointsOf : Tally → ℤ → Answer BothSides
+matchpointsOf t s = if wellFormed t then matchpoints (scoresIn t) s else refused malformedTally
+
+-- an answer of Law 78A as the code gives it: the refusal's number, or the two numbers of matchpoints
+abbrev pub pointsAnswer : Answer BothSides → MatchpointAnswer
+pointsAnswer (refused n) = Refused n
+pointsAnswer (answered p) = Points (record { 0 = p .ns }) (record { 0 = p .ew })
+
+-- the results of an entry that are below a score
+unfoldable pub belowOf : ℤ → ℤ → ℕ → ℕ
+belowOf s other n = if ltZ other s then n else 0
+
+-- the results of an entry that are equal to a score
+unfoldable pub equalOf : ℤ → ℤ → ℕ → ℕ
+equalOf s other n = if sameScore s other then n else 0
+
+-- how a tally's results stand to a score
+abbrev pub standingOf : Tally → ℤ → Standing
+standingOf t s =
+    record { below = howMany (λ (r : ℤ). ltZ r s) (scoresIn t); equal = occurrences s (scoresIn t); results = length (scoresIn t) }
