@@ -1,1 +1,7 @@
 pub mod Points
+pub mod Sections
+pub mod Turns
+pub mod CallTurns
+pub mod CardTurns
+pub mod Claiming
+pub mod Dealing
