@@ -5,3 +5,4 @@ pub mod CallTurns
 pub mod CardTurns
 pub mod Claiming
 pub mod Dealing
+pub mod Settling

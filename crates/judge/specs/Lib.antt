@@ -1,2 +1,3 @@
 pub mod Scoring
 pub mod Sections
+pub mod Settled
