@@ -6,3 +6,4 @@ pub mod CardTurns
 pub mod Claiming
 pub mod Dealing
 pub mod Settling
+pub mod Judging

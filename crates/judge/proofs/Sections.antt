@@ -118,26 +118,22 @@ twice-not true = refl
 twice-not false = refl
 
 -- ---- padding
-module _ (bytes : List ℕ) (at : ℕ) (within : at ≤ 8 * length bytes) where
-  pub byte-ends : at % 8 ≡ 0 → eqb (at / 8) (length bytes) ≡ not (overfull bytes at)
+module _ (bytes : List ℕ) (at : ℕ) where
+  pub none-behind : length bytes ≤ at / 8 → true ≡ not (overfull bytes at)
   unfolding overfull numberAt
-  byte-ends z =
-      by-test (eqb (at / 8) (length bytes))
-      (λ (q : eqb (at / 8) (length bytes) ≡ true).
-      let e = eqb-true (at / 8) (length bytes) q in
-      let none : 8 * length bytes - at ≡ 0 = omega arith in
-      rw (q, none))
-      (λ (q : eqb (at / 8) (length bytes) ≡ false).
-      let n = eqb-false (at / 8) (length bytes) q in
-      rw (q, le-leb 8 (8 * length bytes - at) (omega arith)))
+  none-behind h = let none : 8 * length bytes - at ≡ 0 = omega arith in rw none
 
-  module _ (u : at % 8 ≡ 0 → ⊥) where
+  module _ (h : at / 8 < length bytes) where
+    pub whole-bytes : at % 8 ≡ 0 → false ≡ not (overfull bytes at)
+    unfolding overfull
+    whole-bytes z = rw (le-leb 8 (8 * length bytes - at) (omega arith))
+
     pub more-bytes : (length bytes ≡ at / 8 + 1 → ⊥) → false ≡ not (overfull bytes at)
     unfolding overfull
     more-bytes n = rw (le-leb 8 (8 * length bytes - at) (omega arith))
 
-    pub bits-left : length bytes ≡ at / 8 + 1 → (rest : ℕ) → rest ≡ numberAt bytes at (8 - at % 8) → eqb rest 0 ≡ not (overfull bytes at)
+    pub bits-left : (at % 8 ≡ 0 → ⊥) → length bytes ≡ at / 8 + 1 → (rest : ℕ) → rest ≡ numberAt bytes at (8 - at % 8) → eqb rest 0 ≡ not (overfull bytes at)
     unfolding overfull
-    bits-left n rest e =
+    bits-left u n rest e =
         let left : 8 * length bytes - at ≡ 8 - at % 8 = omega arith in
         rw (left, lt-leb 8 (8 - at % 8) (omega arith), sym e) (sym (twice-not (eqb rest 0)))

@@ -2,3 +2,4 @@
 mod law77;
 mod reading;
 mod settle;
+mod whole;

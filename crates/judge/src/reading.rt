@@ -376,12 +376,14 @@ pub fn read_claim(bytes: &[u8], out: bool, played: u8, at: usize) -> Claimed
 
 // Whether nothing but padding stands from a bit on.
 pub fn is_padding(bytes: &[u8], at: usize) -> bool
-    requires { ⌜ at ≤ 8 * length (now bytes) ⌝ }
     ensures { λ r. ⌜ r ≡ not (overfull (now (bytes .entry)) at) ⌝ }
 {
     let used = at % 8;
+    if bytes.len() <= at / 8 {
+        return true;
+    }
     if used == 0 {
-        return at / 8 == bytes.len();
+        return false;
     }
     if bytes.len() != at / 8 + 1 {
         return false;
