@@ -7,3 +7,5 @@ pub mod Claiming
 pub mod Dealing
 pub mod Settling
 pub mod Judging
+pub mod Beginning
+pub mod Composing

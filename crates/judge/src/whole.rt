@@ -17,6 +17,7 @@ ghost use mathlib.Core.Path.{_≡_};
 ghost use mathlib.Core.List.{List};
 ghost use Prim.Native.Nat.{ℕ, _+_, _-_, _*_, _/_, _<_, _≤_};
 ghost use lib.ListN.{length};
+ghost use Rattle.laws.specs.Cards.{clockwise};
 ghost use Rattle.laws.specs.Record.{number};
 ghost use Rattle.laws.specs.Judge.{readRecord};
 ghost use Rattle.judge.specs.Whole.{noJudgement, judgedOf, boardFields, CardsTold, CallsTold, afterCards, afterCalls, afterDeal};
@@ -108,4 +109,61 @@ fn judge_claim(
         pack,
         revokes: rs,
     }
+}
+
+// The seat that leads first: the one after declarer.
+fn opening_leader(declarer: u8) -> u8
+    ensures { λ r. ⌜ r ≡ clockwise declarer 1 ⌝ }
+{
+    (declarer % 4 + 1) % 4
+}
+
+// The cards, and what follows them.
+fn judge_play(
+    bytes: &[u8],
+    board: u8,
+    table: u16,
+    holders: [u8; 52],
+    a: Auction,
+    at: usize,
+) -> Judged
+    requires { ⌜ at < 16384 ⌝ }
+    ensures { λ r. ⌜ ((h : List ℕ) → CallsTold board a holders h → r ≡ judgedOf (afterCalls board table holders h (now (bytes .entry)) at)) ⌝ }
+{
+    let out = a.is_passed_out();
+    let k = a.contract();
+    let carded = read_cards(
+        bytes,
+        holders,
+        out,
+        k.strain,
+        opening_leader(k.declarer),
+        at,
+    );
+    if !carded.ok {
+        return refused(carded.fault);
+    }
+    let p = carded.after;
+    judge_claim(bytes, board, table, out, k, p, carded.next)
+}
+
+// The whole record.
+pub fn judge(bytes: &[u8]) -> Judged
+    ensures { λ r. ⌜ r ≡ judgedOf (readRecord (now (bytes .entry)) 0) ⌝ }
+{
+    let top = read_heading(bytes);
+    if !top.ok {
+        return refused(top.fault);
+    }
+    let dealt = read_deal(bytes);
+    if !dealt.ok {
+        return refused(dealt.fault);
+    }
+    let called = read_calls(bytes, deal::dealer(top.board), 120);
+    if !called.ok {
+        return refused(called.fault);
+    }
+    let holders = dealt.holders;
+    let a = called.after;
+    judge_play(bytes, top.board, top.table, holders, a, called.next)
 }
