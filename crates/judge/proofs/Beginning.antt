@@ -48,7 +48,7 @@ row-found w (suc n) bytes at q =
     let s = found-same (b .3) in
     (ap length (sym (s .0)) ∙ ap suc (f .0), omega (arith, s .1, f .1, mul-suc w n))
 
-deal-found : (bytes : List ℕ) (at : ℕ) {deal : List ℕ} {e : ℕ} → Judge.readDeal bytes at ≡ found deal e → Good deal × (e ≡ at + 104)
+pub deal-found : (bytes : List ℕ) (at : ℕ) {deal : List ℕ} {e : ℕ} → Judge.readDeal bytes at ≡ found deal e → Good deal × (e ≡ at + 104)
 unfolding Judge.readDeal
 deal-found bytes at {deal} q =
     let r = first-of (readRow 2 52 bytes at) _ q in

@@ -113,7 +113,7 @@ module _ (out : Bool) (trump opening : ℕ) (deal bytes : List ℕ) (at : ℕ) (
       (b .count, b .few, omega (arith, b .next))
 
 -- ---- from the calls on
-section-cards : (d : ℕ) (deal h bytes : List ℕ) (at : ℕ) → cardsBy (Law.passedOut h) (Law.trumpAfter h) (Law.openingAfter d h) deal bytes at ≡ Judge.readCards d deal h bytes at
+pub section-cards : (d : ℕ) (deal h bytes : List ℕ) (at : ℕ) → cardsBy (Law.passedOut h) (Law.trumpAfter h) (Law.openingAfter d h) deal bytes at ≡ Judge.readCards d deal h bytes at
 unfolding cardsBy Judge.readCards
 section-cards d deal h bytes at = refl
 

@@ -9,3 +9,4 @@ pub mod Settling
 pub mod Judging
 pub mod Beginning
 pub mod Composing
+pub mod Answering
