@@ -19,3 +19,5 @@ pub mod Judge
 pub mod Judgement
 pub mod Lawful
 pub mod Tally
+pub mod Decimal
+pub mod Sheet
