@@ -4,10 +4,14 @@ use native.Mathlib.Nat.{add-assoc}
 use native.Mathlib.Numerals.{add-one}
 use native.Mathlib.Omega.{arith}
 use mathlib.Core.Path.{_≡_, refl, sym, ap, _∙_}
+use mathlib.Core.Bool.{true, false}
 use mathlib.Core.List.{List, [], _∷_, _++_, append-nil}
-use borrow.Author.Tests.{le-leb, lt-leb}
-use lib.ListN.{length, take, drop, getD, set, length-append}
+use borrow.Author.Tests.{le-leb, lt-leb, leb-true}
+use lib.Dec.{leb}
+use lib.ListN.{length, take, drop, getD, set, length-append, length-drop}
 use lib.Seq.{sets, length-sets, sets-eq, take-suc, take-length, length-take-le, take-at}
+use Rattle.laws.proofs.Tests.{by-test}
+use Rattle.sheet_text.specs.declared.whole.Outcome.{Outcome}
 use Rattle.sheet_text.specs.declared.whole.Outcome.the-variants.{Written, TooShort}
 use Rattle.sheet_text.specs.Putting.{Put, outcomeFor, leftIn}
 
@@ -85,3 +89,29 @@ module _ (text : List ℕ) (zeros local : List ℕ) (n : ℕ) (p : Put zeros 0 t
         let e : n ≡ length text = omega (arith, p .place) in
         let k : length text ≤ length out = omega arith in
         rw (le-leb (length text) (length out) k) (ap Written e, put-front out left text m (rw taken at q) k)
+
+-- ---- what a caller of `write` learns
+written-within : (text : List ℕ) (room n : ℕ) (r : Outcome) → r ≡ outcomeFor text room → r ≡ Written n → n ≤ room
+unfolding outcomeFor
+written-within text room n r e q =
+    by-test (leb (length text) room)
+    (λ (t : leb (length text) room ≡ true).
+    let k : n ≡ length text = cc (rw t at e, q) in
+    omega (arith, leb-true (length text) room t))
+    (λ (t : leb (length text) room ≡ false). absurd (let z : _≡_ {A = ℕ} 0 1 = cc (rw t at e, q) in omega arith))
+
+left-length : (out text : List ℕ) → length (leftIn out text) ≡ length out
+unfolding leftIn
+left-length out text =
+    by-test (leb (length text) (length out))
+    (λ (t : leb (length text) (length out) ≡ true).
+    rw (t, length-append text (drop (length text) out), length-drop (length text) out) (omega (arith, leb-true (length text) (length out) t)))
+    (λ (t : leb (length text) (length out) ≡ false). rw t)
+
+-- what was written is the start of the lent bytes
+module _ (out left text : List ℕ) (n : ℕ) (r : Outcome) (e : r ≡ outcomeFor text (length out)) (f : left ≡ leftIn out text) (q : r ≡ Written n) where
+  pub written-prefix : n ≤ length left
+  written-prefix = rw (f, left-length out text) (written-within text (length out) n r e q)
+
+  pub written-length : n ≡ length (take n left)
+  written-length = sym (length-take-le n left written-prefix)
