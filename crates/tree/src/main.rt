@@ -1,7 +1,7 @@
 // Runs a script of tally calls from standard input on a stack of at most 16 tallies, and writes what each call answers; at the end, the top tally.
 // A line is `fresh B`, `add S`, `merge` or `matchpoints S`.
 use libc::STDIN_FILENO;
-use tree_script::Run;
+use tree_run::Run;
 
 // A run after one read, and whether there may be more to read.
 struct Turn {
@@ -20,7 +20,7 @@ fn read_some(run: Run) -> Turn {
             more: false,
         };
     }
-    let next = tree_script::feed(run, &buffer[..n]);
+    let next = tree_run::feed(run, &buffer[..n]);
     Turn {
         run: next,
         more: !next.over,
@@ -29,14 +29,14 @@ fn read_some(run: Run) -> Turn {
 
 // The loop counts its turns down, from a number that no run uses up: nothing says that the input ends.
 fn main() {
-    let mut run = tree_script::start();
+    let mut run = tree_run::start();
     let mut turns = u64::MAX;
     while turns > 0 {
         let turn = read_some(run);
         let next = turn.run;
         run = next;
         if !turn.more {
-            tree_script::finish(run);
+            tree_run::finish(run);
             return;
         }
         turns -= 1;

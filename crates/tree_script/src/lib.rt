@@ -1,18 +1,6 @@
-// Scripts of tally calls: a line read as a call. `stack` makes the call on a stack of tallies; `run` takes a script's bytes and writes what each call
-// answers.
-mod run;
-mod stack;
-
+// A line of a script of tally calls, read as a call.
 use decimal::Number;
 use decimal::read_number;
-pub use run::Run;
-pub use run::feed;
-pub use run::finish;
-pub use run::start;
-pub use stack::Said;
-pub use stack::Stack;
-pub use stack::Step;
-pub use stack::make_call;
 ghost use mathlib.Core.Path.{_≡_};
 ghost use Rattle.tree_script.specs.Calls.{isPrefix, boardIn, plusIn, minusIn, freshOn, scoreOn, withScore, callOn};
 
