@@ -14,6 +14,7 @@ pub mod random;
 pub mod reader;
 pub mod run;
 pub mod score;
+pub mod scripts;
 pub mod sheet;
 pub mod tally;
 pub mod tree;
