@@ -18,6 +18,7 @@ pub mod scripts;
 pub mod sheet;
 pub mod tally;
 pub mod tree;
+pub mod trial;
 
 #[cfg(not(feature = "stand_in"))]
 pub mod proved;

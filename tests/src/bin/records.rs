@@ -1,134 +1,19 @@
 //! Compares the proved judge with the independent one on records of all shapes, whole, damaged and random.
-use outside::compare::{Comparison, Room, Seen};
-use outside::damage;
-use outside::making::{self, Made};
 use outside::proved;
-use outside::random::Random;
-use outside::run::{stop, Limit, Words};
-use std::collections::BTreeSet;
-
-/// Lawful records in a round, beside the damaged ones.
-const LAWFUL: usize = 6;
-/// One round in so many has its record cut at every byte, and lent buffers of every length up to the least that serve.
-const EVERY_LENGTH: u64 = 100;
-/// How often each refusal has to occur.
-const LEAST: u64 = 100;
-
-struct Trial {
-    random: Random,
-    comparison: Comparison,
-    auctions: BTreeSet<usize>,
-    /// Tricks played, and tricks claimed of the rest.
-    claims: BTreeSet<(usize, u64)>,
-}
+use outside::run::{stop, Words};
+use outside::trial::Trial;
 
 fn main() {
     let words = Words::given();
-    let mut random = Random::new(words.seed());
+    let mut trial = Trial::new(proved::judge, words.seed());
     let limit = words.limit(300_000);
-    let comparison = Comparison::new(proved::judge, &mut random);
-    let mut trial = Trial { random, comparison, auctions: BTreeSet::new(), claims: BTreeSet::new() };
-    let mut rounds = 0;
-    while !limit.reached(trial.comparison.seen.cases) {
-        if let Err(difference) = trial.round(rounds) {
-            stop(&format!("a difference after {} records: {difference}", trial.comparison.seen.cases));
-        }
-        rounds += 1;
-    }
-    trial.report(&limit);
-}
-
-impl Trial {
-    fn round(&mut self, number: u64) -> Result<(), String> {
-        let mut made: Vec<Made> = (0..LAWFUL).map(|_| making::lawful(&mut self.random)).collect();
-        for m in &made {
-            self.note(m);
-            self.case(&m.parts.bytes(), Some(0))?;
-        }
-        let (other, first) = (made.pop().expect("a record"), &made[0]);
-        let whole = first.parts.bytes();
-        let room = Room::shorter(&mut self.random);
-        self.comparison.case(&mut self.random, &whole, room, None)?;
-        for kind in damage::KINDS {
-            let damaged = made.iter().find_map(|m| damage::damaged(&mut self.random, m, kind));
-            if let Some(d) = damaged {
-                self.case(&d.bytes, d.number)?;
-            }
-        }
-        for m in &made[1..4] {
-            let bytes = damage::flipped(&mut self.random, &m.parts.bytes());
-            self.case(&bytes, None)?;
-        }
-        for m in &made[..2] {
-            let bytes = damage::mixed(&mut self.random, m, &other);
-            self.case(&bytes, None)?;
-        }
-        let noise = damage::noise(&mut self.random, &whole);
-        self.case(&noise, None)?;
-        if number % EVERY_LENGTH == 0 {
-            self.every_length(&whole)?;
-        }
-        Ok(())
-    }
-
-    fn case(&mut self, record: &[u8], number: Option<u32>) -> Result<(), String> {
-        let room = match self.random.below(20) {
-            0 => Room::shorter(&mut self.random),
-            1..=7 => Room::longer(&mut self.random),
-            _ => Room::EXACT,
-        };
-        self.comparison.case(&mut self.random, record, room, number)
-    }
-
-    /// The record cut at every byte, and whole with every length of both buffers that is too short.
-    fn every_length(&mut self, whole: &[u8]) -> Result<(), String> {
-        for end in 0..whole.len() {
-            self.comparison.case(&mut self.random, &whole[..end], Room::EXACT, Some(2 * 1024))?;
-        }
-        for answer in 0..7 {
-            self.comparison.case(&mut self.random, whole, Room { answer, list: 36 }, Some(1024))?;
-        }
-        for list in 0..36 {
-            self.comparison.case(&mut self.random, whole, Room { answer: 7, list }, Some(1025))?;
-        }
-        Ok(())
-    }
-
-    fn note(&mut self, made: &Made) {
-        self.auctions.insert(made.parts.calls.len());
-        if let Some(claim) = made.parts.claim {
-            self.claims.insert((made.parts.cards.len() / 4, claim));
+    while !limit.reached(trial.records()) {
+        if let Err(difference) = trial.round() {
+            stop(&format!("a difference after {} records: {difference}", trial.records()));
         }
     }
-
-    fn report(&self, limit: &Limit) {
-        let seen = &self.comparison.seen;
-        println!("{} records, no difference: {} accepted, refused by number:", seen.cases, seen.refusals[0]);
-        println!("{}", counts(&seen.refusals[1..], 1));
-        println!("revokes in accepted records:\n{}", counts(&seen.revokes, 0));
-        println!("tricks that changed sides:\n{}", counts(&seen.changed, 0));
-        let contracts = seen.contracts.iter().filter(|&&n| n > 0).count();
-        println!("{contracts} of {} contracts (level, strain, doubling, vulnerability)", seen.contracts.len());
-        println!("{} of 316 lengths of auctions, {} of 90 claims", self.auctions.len(), self.claims.len());
-        if limit.counted() {
-            self.enough(seen, contracts);
-        }
+    println!("{}", trial.report());
+    if limit.counted() {
+        trial.enough().unwrap_or_else(|missing| stop(&missing));
     }
-
-    /// Every kind of case has to have occurred.
-    fn enough(&self, seen: &Seen, contracts: usize) {
-        if let Some(number) = (1..=16).find(|&number| seen.refusals[number] < LEAST) {
-            stop(&format!("refusal {number} occurred only {} times", seen.refusals[number]));
-        }
-        let whole = contracts == seen.contracts.len() && self.auctions.len() == 316 && self.claims.len() == 90;
-        if !whole || seen.revokes[0] == 0 || seen.revokes[36] == 0 || seen.changed[..4].contains(&0) {
-            stop("some contract, length of auction, claim or number of revokes never occurred");
-        }
-    }
-}
-
-/// Numbers with how often each occurred.
-fn counts(numbers: &[u64], first: usize) -> String {
-    let each = numbers.iter().enumerate().filter(|(_, &n)| n > 0);
-    each.map(|(k, n)| format!("  {}: {n}", k + first)).collect()
 }
