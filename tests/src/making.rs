@@ -32,18 +32,8 @@ impl Made {
             hands[holder as usize] |= 1 << card;
         }
         let cards = Vec::new();
-        let mut parts = Parts {
-            board,
-            table,
-            deal,
-            call_count: 0,
-            calls,
-            play_count: 0,
-            cards,
-            claim: None,
-            padding: 0,
-            after: Vec::new(),
-        };
+        let mut parts =
+            Parts { board, table, deal, call_count: 0, calls, play_count: 0, cards, claim: None, padding: 0, after: Vec::new() };
         parts.count();
         Made { parts, contract: auction.contract(), hands }
     }

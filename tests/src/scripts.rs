@@ -11,8 +11,24 @@ pub struct Script {
 
 /// Lines that are no call.
 const UNREADABLE: [&str; 18] = [
-    "", " ", "add", "add ", "add x", "add 1x", "add 123456", "add -123456", "add --10", "add +10", "add - 10", "fresh", "fresh -1", "fresh 000001",
-    "merge 1", "matchpoints", "Add 10", "pop",
+    "",
+    " ",
+    "add",
+    "add ",
+    "add x",
+    "add 1x",
+    "add 123456",
+    "add -123456",
+    "add --10",
+    "add +10",
+    "add - 10",
+    "fresh",
+    "fresh -1",
+    "fresh 000001",
+    "merge 1",
+    "matchpoints",
+    "Add 10",
+    "pop",
 ];
 
 impl Script {
@@ -188,6 +204,11 @@ fn scores(random: &mut Random) -> Vec<i32> {
 }
 
 fn wrong_score(random: &mut Random) -> i32 {
-    let size = *random.pick(&[1, 5, 9, 415, 7599, 7601, 7610, 7620, 9990, 32760, 32767, 32768, 32770, 65530, 65536, 65540, 65956, 99990, 99999]);
-    if random.percent(50) { size } else { -size }
+    let size =
+        *random.pick(&[1, 5, 9, 415, 7599, 7601, 7610, 7620, 9990, 32760, 32767, 32768, 32770, 65530, 65536, 65540, 65956, 99990, 99999]);
+    if random.percent(50) {
+        size
+    } else {
+        -size
+    }
 }

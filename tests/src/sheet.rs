@@ -13,7 +13,7 @@ fn score_of(line: &[u8]) -> Option<i32> {
         digits => (1, digits),
     };
     let well_formed = matches!(digits, [b'1'..=b'9', rest @ ..] if rest.len() <= 3 && rest.iter().all(u8::is_ascii_digit));
-    let score = digits.iter().fold(0, |n, d| 10 * n + i32::from(d.wrapping_sub(b'0'))) ;
+    let score = digits.iter().fold(0, |n, d| 10 * n + i32::from(d.wrapping_sub(b'0')));
     (well_formed && score::valid(score)).then_some(sign * score)
 }
 

@@ -29,7 +29,11 @@ const FAULTS: [(&str, Judge); 10] = [
     }),
     ("counts calls from 1", |record, answer, list| {
         let number = judge(record, answer, list);
-        if number / 1024 == 6 { number + 1 } else { number }
+        if number / 1024 == 6 {
+            number + 1
+        } else {
+            number
+        }
     }),
     ("lets one byte follow", |record, answer, list| match judge(record, answer, list) {
         number if number == 16 * 1024 => judge(&record[..record.len() - 1], answer, list),
