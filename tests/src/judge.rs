@@ -111,15 +111,17 @@ fn cards(bits: &mut Reader, play: &mut Play) -> Result<u8, Refused> {
     if count > 52 {
         return Err(refused(10, count));
     }
+    let mut trick = play.trick;
     for k in 0..count {
         let card = field(bits, 6)?;
         if card >= NO_CARD {
             return Err(refused(11, k));
         }
-        if !play.card(card) {
+        if !trick.card(&mut play.cards, card) {
             return Err(refused(12, k));
         }
     }
+    play.trick = trick;
     if field(bits, 1)? == 0 {
         return if count < 52 { Err(refused(13, count)) } else { Ok(0) };
     }

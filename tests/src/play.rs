@@ -8,21 +8,34 @@ pub const MOST_REVOKES: usize = 36;
 
 const SUIT: u64 = (1 << 13) - 1;
 
-#[derive(Clone)]
-pub struct Play {
-    hands: Hands,
+/// The trick under way.
+#[derive(Clone, Copy)]
+pub struct Trick {
     trump: u64,
     turn: u8,
-    /// Cards played to the trick under way.
+    /// Cards played to it.
     on_table: u8,
     led: u64,
-    /// The worth of the best card so far, and who played it.
+    /// The worth of the best card so far, with the seat that played it in the two lowest bits.
     best: u64,
-    best_seat: u8,
-    tricks: usize,
-    winners: [u8; 13],
+    /// Tricks that are complete.
+    complete: usize,
     revokes: usize,
-    list: [u8; MOST_REVOKES],
+}
+
+/// The hands as they are, the winners of the tricks and the revokes. It stands apart from the trick, whose few numbers can then be kept in registers.
+#[derive(Clone)]
+pub struct Cards {
+    hands: Hands,
+    winners: [u8; 13],
+    /// One place more than can be filled, since every card is put down here and only a revoke is counted.
+    list: [u8; MOST_REVOKES + 1],
+}
+
+#[derive(Clone)]
+pub struct Play {
+    pub trick: Trick,
+    pub cards: Cards,
 }
 
 /// The suit of a card, 13 cards each.
@@ -31,28 +44,11 @@ pub fn suit(card: u64) -> u64 {
     card * 5 >> 6
 }
 
-impl Play {
-    /// The position before the opening lead.
-    pub fn new(hands: Hands, strain: u8, declarer: u8) -> Self {
-        Play {
-            hands,
-            trump: u64::from(strain),
-            turn: (declarer + 1) & 3,
-            on_table: 0,
-            led: 0,
-            best: 0,
-            best_seat: 0,
-            tricks: 0,
-            winners: [0; 13],
-            revokes: 0,
-            list: [0; MOST_REVOKES],
-        }
-    }
-
+impl Trick {
     /// Plays a card of a code below 52; false where the seat at turn does not hold it.
     #[inline]
-    pub fn card(&mut self, card: u64) -> bool {
-        let hand = &mut self.hands[usize::from(self.turn & 3)];
+    pub fn card(&mut self, cards: &mut Cards, card: u64) -> bool {
+        let hand = &mut cards.hands[usize::from(self.turn & 3)];
         if *hand >> card & 1 == 0 {
             return false;
         }
@@ -60,58 +56,60 @@ impl Play {
         if self.on_table == 0 {
             self.led = own;
             self.best = 0;
-        } else if own != self.led && *hand & SUIT << (13 * self.led) != 0 {
-            self.list[self.revokes] = ((self.tricks + 1) as u8) << 4 | self.turn << 2 | self.led as u8;
-            self.revokes += 1;
         }
+        let revoke = own != self.led && *hand & SUIT << (13 * self.led) != 0;
+        cards.list[self.revokes] = ((self.complete + 1) as u8) << 4 | self.turn << 2 | self.led as u8;
+        self.revokes += usize::from(revoke);
         *hand &= !(1 << card);
-        let worth = if own == self.trump {
-            128 + card
-        } else if own == self.led {
-            64 + card
-        } else {
-            0
-        };
-        if worth > self.best {
-            self.best = worth;
-            self.best_seat = self.turn;
-        }
+        // A card of another suit is below any card of the suit led, and that below any trump.
+        let worth = u64::from(own == self.trump) << 7 | u64::from(own == self.led) << 6 | card;
+        self.best = self.best.max(worth << 2 | u64::from(self.turn));
         self.on_table += 1;
         self.turn = (self.turn + 1) & 3;
         if self.on_table == 4 {
-            self.end_trick();
+            self.turn = (self.best & 3) as u8;
+            cards.winners[self.complete] = self.turn;
+            self.complete += 1;
+            self.on_table = 0;
         }
         true
     }
+}
 
-    fn end_trick(&mut self) {
-        self.winners[self.tricks] = self.best_seat;
-        self.tricks += 1;
-        self.turn = self.best_seat;
-        self.on_table = 0;
+impl Play {
+    /// The position before the opening lead.
+    pub fn new(hands: Hands, strain: u8, declarer: u8) -> Self {
+        let turn = (declarer + 1) & 3;
+        let trick = Trick { trump: u64::from(strain), turn, on_table: 0, led: 0, best: 0, complete: 0, revokes: 0 };
+        Play { trick, cards: Cards { hands, winners: [0; 13], list: [0; MOST_REVOKES + 1] } }
+    }
+
+    /// Plays a card of a code below 52; false where the seat at turn does not hold it.
+    pub fn card(&mut self, card: u64) -> bool {
+        self.trick.card(&mut self.cards, card)
     }
 
     pub fn turn(&self) -> u8 {
-        self.turn
+        self.trick.turn
     }
 
     /// The cards of the seat at turn.
     pub fn hand_at_turn(&self) -> u64 {
-        self.hands[usize::from(self.turn)]
+        self.cards.hands[usize::from(self.trick.turn)]
     }
 
     /// The suit led to the trick under way.
     pub fn led(&self) -> Option<u64> {
-        (self.on_table != 0).then_some(self.led)
+        (self.trick.on_table != 0).then_some(self.trick.led)
     }
 
     /// The winner of each trick that is complete.
     pub fn winners(&self) -> &[u8] {
-        &self.winners[..self.tricks]
+        &self.cards.winners[..self.trick.complete]
     }
 
     /// The revokes in order of play, as the judge lists them: trick, seat, suit led.
     pub fn revokes(&self) -> &[u8] {
-        &self.list[..self.revokes]
+        &self.cards.list[..self.trick.revokes]
     }
 }
