@@ -67,10 +67,19 @@ impl Comparison {
         Comparison { judge, sentinels: random.bytes(4096), seen }
     }
 
+    /// A buffer of random bytes, with such bytes on both sides.
     fn lent(&self, random: &mut Random, length: usize) -> Vec<u8> {
         let size = length + 2 * AROUND;
         let at = random.below(self.sentinels.len() - size);
         self.sentinels[at..at + size].to_vec()
+    }
+
+    /// The record at some address, between other bytes, which a judge that reads past its ends would see.
+    fn given(&self, random: &mut Random, record: &[u8]) -> (Vec<u8>, usize) {
+        let at = random.below(AROUND);
+        let around = random.below(self.sentinels.len() - 2 * AROUND);
+        let (front, back) = self.sentinels[around..around + 2 * AROUND].split_at(at);
+        ([front, record, back].concat(), at)
     }
 
     /// Judges a record with both judges. `number` is what has to be returned, where it is known from how the record was made.
@@ -78,7 +87,8 @@ impl Comparison {
         let mut answer = self.lent(random, room.answer);
         let mut list = self.lent(random, room.list);
         let (mut answer_due, mut list_due) = (answer.clone(), list.clone());
-        let given = record.to_vec();
+        let (given, at) = self.given(random, record);
+        let before = given.clone();
         let own = match (room.refusal(), judge::read(record)) {
             (Some(refusal), _) | (None, Err(refusal)) => refusal,
             (None, Ok(judgement)) => {
@@ -88,7 +98,7 @@ impl Comparison {
             }
         };
         let inside = |length: usize| AROUND..AROUND + length;
-        let returned = (self.judge)(&given, &mut answer[inside(room.answer)], &mut list[inside(room.list)]);
+        let returned = (self.judge)(&given[at..at + record.len()], &mut answer[inside(room.answer)], &mut list[inside(room.list)]);
         let due = room.refusal().or(number).unwrap_or(own);
         if due != own {
             return Err(format!("the independent judge returns {own}, the record was made for {due}\n{}", shown(record, room)));
@@ -96,7 +106,7 @@ impl Comparison {
         if returned != own {
             return Err(format!("returned {returned}, to be {own}\n{}", shown(record, room)));
         }
-        if answer != answer_due || list != list_due || given != record {
+        if answer != answer_due || list != list_due || given != before {
             let bytes = format!("answer {answer:02x?}\n to be {answer_due:02x?}\nlist {list:02x?}\nto be {list_due:02x?}");
             return Err(format!("returned {returned}, but other bytes\n{bytes}\n{}", shown(record, room)));
         }
