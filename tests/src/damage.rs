@@ -17,7 +17,7 @@ pub const KINDS: std::ops::RangeInclusive<u32> = 2..=16;
 pub fn damaged(random: &mut Random, made: &Made, kind: u32) -> Option<Damaged> {
     let mut m = made.clone();
     let place = match kind {
-        2 => return Some(cut_short(random, &m)),
+        2 => return Some(shortened(random, &m)),
         3 => place(random, &mut m),
         4 => deal(random, &mut m),
         5 => call_code(random, &mut m),
@@ -36,7 +36,7 @@ pub fn damaged(random: &mut Random, made: &Made, kind: u32) -> Option<Damaged> {
     Some(Damaged { bytes: m.parts.bytes(), number: Some(kind * 1024 + place as u32) })
 }
 
-fn cut_short(random: &mut Random, m: &Made) -> Damaged {
+fn shortened(random: &mut Random, m: &Made) -> Damaged {
     let mut bytes = m.parts.bytes();
     bytes.truncate(random.below(bytes.len()));
     Damaged { bytes, number: Some(2 * 1024) }

@@ -59,7 +59,7 @@ impl Limit {
         }
     }
 
-    /// Whether a number of cases is asked for, and so each kind of case has to occur.
+    /// Whether the limit is a number of cases, in which each kind of case has to occur.
     pub fn counted(&self) -> bool {
         self.until.is_none()
     }

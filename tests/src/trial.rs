@@ -7,7 +7,7 @@ use std::collections::BTreeSet;
 
 /// Lawful records in a round, beside the damaged ones.
 const LAWFUL: usize = 6;
-/// One round in so many has its record cut at every byte, and lent buffers of every length up to the least that serve.
+/// One round in so many has its record ended at every byte, and lent buffers of every length up to the least that serve.
 const EVERY_LENGTH: u64 = 100;
 /// How often each refusal has to occur.
 const LEAST: u64 = 100;
@@ -76,7 +76,7 @@ impl Trial {
         self.comparison.case(&mut self.random, record, room, number)
     }
 
-    /// The record cut at every byte, and whole with every length of both buffers that is too short.
+    /// The record ended at every byte, and whole with every length of both buffers that is too short.
     fn every_length(&mut self, whole: &[u8]) -> Result<(), String> {
         for end in 0..whole.len() {
             self.comparison.case(&mut self.random, &whole[..end], Room::EXACT, Some(2 * 1024))?;

@@ -25,7 +25,7 @@ fn main() {
         padding: 0,
         after: Vec::new(),
     };
-    let mut cut = 0;
+    let mut missing = 0;
     for line in text.lines().filter(|line| !line.starts_with('#') && !line.trim().is_empty()) {
         let words: Vec<&str> = line.split_whitespace().collect();
         match words[0] {
@@ -35,7 +35,7 @@ fn main() {
             "calls" => parts.calls.extend(words[1..].iter().map(|word| call(word))),
             "trick" => parts.cards.extend(words[1..].iter().map(|word| card(word))),
             "claim" => parts.claim = Some(number(words[1])),
-            "cut" => cut = number(words[1]) as usize,
+            "missing" => missing = number(words[1]) as usize,
             _ => stop(&format!("a line that says nothing of a record: {line}")),
         }
     }
@@ -44,7 +44,7 @@ fn main() {
     }
     parts.count();
     let mut bytes = parts.bytes();
-    bytes.truncate(bytes.len() - cut);
+    bytes.truncate(bytes.len() - missing);
     for line in bytes.chunks(20) {
         println!("{}", line.iter().map(|byte| format!("{byte:02X}")).collect::<Vec<_>>().join(" "));
     }
