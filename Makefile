@@ -63,9 +63,9 @@ build/terminal: $(ARCHIVE) $(wildcard terminal/*) include/judge.h
 
 demo: build/terminal $(SHEET)
 	@echo "Records that are accepted:"
-	@build/terminal $(filter-out samples/refused-%,$(wildcard samples/*.hex))
+	@build/terminal $(sort $(filter-out samples/refused-%,$(wildcard samples/*.hex)))
 	@echo "Records that are refused:"
-	@build/terminal $(wildcard samples/refused-*.hex); test $$? = 1
+	@build/terminal $(sort $(wildcard samples/refused-*.hex)); test $$? = 1
 	@echo "The sheet of a board:"
 	@$(SHEET) <samples/scores
 
