@@ -5,7 +5,7 @@ use native.Mathlib.Omega.{arith}
 use mathlib.Core.Path.{_≡_, sym, ap, _∙_}
 use mathlib.Core.Bool.{true, false, _&&_}
 use mathlib.Core.List.{List}
-use borrow.Author.Tests.{le-leb, lt-leb, leb-true}
+use borrow.Author.Tests.{le-leb, lt-leb, leb-true, leb-false}
 use lib.Dec.{leb}
 use lib.ListN.{length, getD}
 use lib.Pow.{pow-pos, pow-mono}
@@ -81,12 +81,16 @@ module _ (bytes : List ℕ) (at w : ℕ) where
   value-reads e = rw (le-leb (at + w) (8 * length bytes) (value-is e .1), value-is e .0)
 
   -- Short says, of a field of at most 16 bits, that the record ends before it is whole
-  pub short-stops : w ≤ 16 → fieldAt bytes at w ≡ Short → read w bytes at ≡ refused recordEnds 0
-  unfolding fieldAt read
-  short-stops h e =
+  pub short-is : w ≤ 16 → fieldAt bytes at w ≡ Short → 8 * length bytes < at + w
+  unfolding fieldAt
+  short-is h e =
       by-test (leb (at + w) (8 * length bytes))
       (λ (q : leb (at + w) (8 * length bytes) ≡ true).
       let z : Value (numberAt bytes at w) ≡ Short = rw (le-leb w 16 h, q) at e in
       let o : _≡_ {A = ℕ} 0 1 = cc in
       absurd (omega arith))
-      (λ (q : leb (at + w) (8 * length bytes) ≡ false). rw q)
+      (λ (q : leb (at + w) (8 * length bytes) ≡ false). leb-false (at + w) (8 * length bytes) q)
+
+  pub short-stops : w ≤ 16 → fieldAt bytes at w ≡ Short → read w bytes at ≡ refused recordEnds 0
+  unfolding read
+  short-stops h e = rw (lt-leb (at + w) (8 * length bytes) (short-is h e))

@@ -1,1 +1,12 @@
 pub mod Points
+pub mod Sections
+pub mod Turns
+pub mod CallTurns
+pub mod CardTurns
+pub mod Claiming
+pub mod Dealing
+pub mod Settling
+pub mod Judging
+pub mod Beginning
+pub mod Composing
+pub mod Answering

@@ -1,1 +1,4 @@
 pub mod Scoring
+pub mod Sections
+pub mod Settled
+pub mod Whole

@@ -1,6 +1,7 @@
 // Law 77, item by item: the score of a contract.
 ghost use mathlib.Core.Path.{_≡_};
 ghost use Prim.Native.Nat.{_+_, _-_, _<_};
+ghost use lib.IntN.{natAbs};
 ghost use Rattle.laws.specs.Choice.{if_then_else_};
 ghost use Rattle.laws.specs.Law77;
 ghost use Rattle.judge.specs.Scoring.{stakeOf, madePoints};
@@ -124,7 +125,7 @@ fn slam_points(s: Stake) -> u32
 
 // The points of a contract made with so many overtricks.
 fn made(s: Stake, over: u32) -> u32
-    requires { ⌜ over < 512 ⌝ }
+    requires { ⌜ over < 131072 ⌝ }
     ensures { λ r. ⌜ r ≡ madePoints (stakeOf s) over ⌝ }
 {
     let premiums = part_score_or_game(s) + slam_points(s) + by_doubling(s, 0, 50, 100);
@@ -132,13 +133,13 @@ fn made(s: Stake, over: u32) -> u32
 }
 
 // The score of declarer's side.
-pub fn declarer_score(s: Stake, tricks: u8) -> i32
-    ensures { λ r. ⌜ r ≡ Law77.declarerScore (stakeOf s) tricks ⌝ }
+pub fn declarer_score(s: Stake, tricks: u32) -> i32
+    requires { ⌜ tricks < 131072 ⌝ }
+    ensures { λ r. ⌜ (r ≡ Law77.declarerScore (stakeOf s) tricks) × (natAbs r < 100000000) ⌝ }
 {
     let needed = s.level as u32 + 6;
-    let taken = tricks as u32;
-    if needed <= taken {
-        return made(s, taken - needed) as i32;
+    if needed <= tricks {
+        return made(s, tricks - needed) as i32;
     }
-    -(undertricks(s, needed - taken) as i32)
+    -(undertricks(s, needed - tricks) as i32)
 }

@@ -1,2 +1,74 @@
 // The judge of table records: the record read in order, scored by Law 77, the answer written.
 mod law77;
+mod reading;
+mod settle;
+mod whole;
+
+use crate::whole::judge;
+ghost use mathlib.Core.Path.{_≡_};
+ghost use mathlib.Core.List.{_++_};
+ghost use Prim.Native.Nat.{_<_, _≤_};
+ghost use lib.ListN.{length, take, drop};
+ghost use Rattle.laws.specs.Record.{bytesOf};
+ghost use Rattle.laws.specs.Judge.{judgeOf, numberOf};
+ghost use Rattle.laws.specs.Lent.{answerLeft, listLeft};
+
+fn narrow(x: u64) -> u8
+    requires { ⌜ x < 256 ⌝ }
+    ensures { λ r. ⌜ r ≡ x ⌝ }
+{
+    x as u8
+}
+
+// The last seven bytes of x over the front of answer.
+fn put7(answer: &mut [u8], x: u64)
+    requires { ⌜ 7 ≤ length (now answer) ⌝ }
+    ensures { λ _. ⌜ now (answer .exit) ≡ bytesOf 7 x ++ drop 7 (now (answer .entry)) ⌝ }
+{
+    answer[0] = narrow(x / 281474976710656 % 256);
+    answer[1] = narrow(x / 1099511627776 % 256);
+    answer[2] = narrow(x / 4294967296 % 256);
+    answer[3] = narrow(x / 16777216 % 256);
+    answer[4] = narrow(x / 65536 % 256);
+    answer[5] = narrow(x / 256 % 256);
+    answer[6] = narrow(x % 256);
+}
+
+// The first bytes of a revoke list over the front of list.
+fn put_list(list: &mut [u8], revokes: [u8; 36], count: usize)
+    requires { ⌜ (count ≤ 36) × (36 ≤ length (now list)) ⌝ }
+    ensures { λ _. ⌜ now (list .exit) ≡ take count revokes ++ drop count (now (list .entry)) ⌝ }
+{
+    let mut i: usize = 0;
+    while i < count {
+        list[i] = revokes[i];
+        i += 1;
+    }
+}
+
+// Judges a table record. The answer is 0, with seven bytes in answer and a byte for each revoke in list;
+// or a refusal × 1024 + its place, with both as they were.
+#[no_mangle]
+pub extern "C" fn judge_record(bytes: &[u8], answer: &mut [u8], list: &mut [u8]) -> u32
+    ensures number { λ r. ⌜ r ≡ numberOf (judgeOf (now (bytes .entry)) (length (now (answer .entry))) (length (now (list .entry)))) ⌝ }
+    ensures answered { λ r. ⌜ now (answer .exit) ≡ answerLeft (judgeOf (now (bytes .entry)) (length (now (answer .entry))) (length (now (list .entry)))) (now (answer .entry)) ⌝ }
+    ensures listed { λ r. ⌜ now (list .exit) ≡ listLeft (judgeOf (now (bytes .entry)) (length (now (answer .entry))) (length (now (list .entry)))) (now (list .entry)) ⌝ }
+{
+    if answer.len() < 7 {
+        return 1024;
+    }
+    if list.len() < 36 {
+        return 1025;
+    }
+    let judged = judge(bytes);
+    if !judged.ok {
+        return judged.fault;
+    }
+    let pack = judged.pack;
+    let revokes = judged.revokes;
+    let listed = revokes.list;
+    let count = revokes.count as usize;
+    put7(answer, pack);
+    put_list(list, listed, count);
+    0
+}

@@ -17,5 +17,6 @@ pub mod Record
 pub mod Reading
 pub mod Judge
 pub mod Judgement
+pub mod Lent
 pub mod Lawful
 pub mod Tally

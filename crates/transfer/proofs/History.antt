@@ -10,6 +10,7 @@ use Rattle.laws.specs.Cards.{partnerOf, suitOf, cardsDealt}
 use Rattle.laws.specs.Law44.{cardsPlayed, tricksComplete, winners, toPlay, suitLed, trickUnderWay}
 use Rattle.laws.specs.Law61.{Revoke, isRevoke, revokeAt, revokes}
 use Rattle.laws.specs.Law64.{transferredTricks}
+use Rattle.laws.specs.Judgement
 use Rattle.laws.proofs.Tests.{by-test}
 use Rattle.laws.proofs.Padded.{padded-back}
 use Rattle.laws.proofs.Revokes.{revoke-exactly}
@@ -42,6 +43,11 @@ bytes-back : (rs : List Revoke) → AllWithin rs → map revokeOf (map byteOf rs
 unfolding AllWithin
 bytes-back [] w = refl
 bytes-back (r ∷ rs) w = ap₂ (λ (x : Revoke) (xs : List Revoke). x ∷ xs) (byte-back r (w .0)) (bytes-back rs (w .1))
+
+plain : (rs : List Revoke) → AllWithin rs → map byteOf rs ≡ map Judgement.revokeByte rs
+unfolding AllWithin revokeByte Judgement.revokeByte
+plain [] w = refl
+plain (r ∷ rs) w = ap₂ (λ (x : ℕ) (xs : List ℕ). x ∷ xs) (omega (arith, w .0)) (plain rs (w .1))
 
 all-append : (rs ss : List Revoke) → AllWithin rs → AllWithin ss → AllWithin (rs ++ ss)
 unfolding AllWithin
@@ -90,3 +96,7 @@ module _ (deal : List ℕ) (trump opening : ℕ) (all : length deal ≡ 52) (dea
       ≡ transferredTricks (partnerOf declarer) (winners trump opening g) (claimedBy declarer claim left) (revokes trump opening deal g)
   unfolding transferredIn
   transferred-law g w declarer claim left = rw (revokes-back g w, winners-back g w)
+
+  -- the bytes of the list are the revokes' numbers as they are, since each part fits its bits
+  pub plain-bytes : (g : List ℕ) → AllPlayed deal trump opening g → map byteOf (revokes trump opening deal g) ≡ map Judgement.revokeByte (revokes trump opening deal g)
+  plain-bytes g w = plain (revokes trump opening deal g) (all-within g w)

@@ -169,14 +169,14 @@ pub fn transferred(rs: Revokes, ts: Tricks, declarer: u8, claim: u8, left: u8) -
 }
 
 // Declarer's tricks after the transfer.
-pub fn tricks_after(rs: Revokes, declarer: u8, won: u8, moved: u8) -> u16
+pub fn tricks_after(rs: Revokes, declarer: u8, won: u16, moved: u16) -> u32
     ensures { λ r. ⌜ r ≡ tricksAfter declarer (revokesIn rs) won moved ⌝ }
 {
     if side_revoked(rs, declarer % 2) {
         if won < moved {
             return 0;
         }
-        return (won - moved) as u16;
+        return (won - moved) as u32;
     }
-    won as u16 + moved as u16
+    won as u32 + moved as u32
 }

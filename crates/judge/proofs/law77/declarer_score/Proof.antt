@@ -1,23 +1,23 @@
--- `declarer_score` meets its contract: made, or so many down. Assumes nothing.
+-- `declarer_score` meets its contract: made, or so many down; its size is far below what 32 bits hold. Assumes nothing.
 use Prim.Native.Nat.{ℕ, suc, _≤_, _<_, _+_, _-_, _*_, _^_}
 use mathlib.Core.Path.{_≡_, refl, sym, ap, _∙_}
 use native.Mathlib.Omega.{arith}
-use lib.IntN.{ℤ, pos, negℤ, _-ℤ_, +ℤ-idl}
+use mathlib.Core.Path.{subst}
+use lib.IntN.{ℤ, pos, negℤ, natAbs, _-ℤ_, +ℤ-idl}
 use mir.Syntax.{w32}
 use mir.Val.{SFits, toZ, ofZ}
 use mir.Facts.{toZ-ofZ, toZ-pos}
 use Rattle.laws.proofs.Integers.{size-neg, mag-le-size}
-use Rattle.laws.specs.Law77.{undertricks}
 use Rattle.judge.proofs.Points.{undertricks-le, made-score, down-score, made-le}
 use Rattle.judge.specs.Scoring.{stakeOf}
 use borrow.Author.Needs.{needs}
 use Rattle.judge.proofs.law77.declarer_score.Statement.{statement}
 use Rattle.judge.proofs.law77.declarer_score.Tie as tie
 
-small : (n : ℕ) → n < 400000 → n < 2 ^ 31
+small : (n : ℕ) → n < 100000000 → n < 2 ^ 31
 small n h = omega arith
 
-negative : (n : ℕ) → n < 400000 → SFits w32 (negℤ (pos n))
+negative : (n : ℕ) → n < 100000000 → SFits w32 (negℤ (pos n))
 negative n h = record { sfits = omega (arith, mag-le-size (negℤ (pos n)), size-neg (pos n)) }
 
 cast-needed : tie.Need-cast-needed
@@ -33,16 +33,15 @@ cast-result : tie.Need-cast-result
 cast-result c = let st = c .before .before .before in
     let s = stakeOf (st .args .s) in
     let l : st .args .s .level < 256 = search needs in
-    let t : st .args .tricks < 256 = search needs in
-    record { sfits = omega (arith, c .made .ensures, made-le s (st .args .tricks - (s .level + 6)) l (omega arith)) }
+    let n : c .made .result < 100000000 = omega (arith, c .made .ensures, made-le s (st .args .tricks - (s .level + 6)) l (omega (arith, st .pre))) in
+    record { sfits = omega arith }
 
 returns : tie.Need-returns
 returns c = let st = c .before .before .before in
     let s = stakeOf (st .args .s) in
     let l : st .args .s .level < 256 = search needs in
-    let t : st .args .tricks < 256 = search needs in
-    toZ-pos w32 (omega (arith, c .made .ensures, made-le s (st .args .tricks - (s .level + 6)) l (omega arith)))
-    ∙ ap pos (c .made .ensures) ∙ made-score s (st .args .tricks) (c .before .if1 .taken)
+    let n : c .made .result < 100000000 = omega (arith, c .made .ensures, made-le s (st .args .tricks - (s .level + 6)) l (omega (arith, st .pre))) in
+    rw (toZ-pos w32 (small (c .made .result) n)) (ap pos (c .made .ensures) ∙ made-score s (st .args .tricks) (c .before .if1 .taken), n)
 
 sub-undertricks : tie.Need-sub-undertricks
 sub-undertricks c = search needs
@@ -54,22 +53,23 @@ cast-result-2 : tie.Need-cast-result-2
 cast-result-2 c = let st = c .before .before .before in
     let s = stakeOf (st .args .s) in
     let l : st .args .s .level < 256 = search needs in
-    record { sfits = omega (arith, c .undertricks .ensures, undertricks-le s (s .level + 6 - st .args .tricks)) }
+    let n : c .undertricks .result < 100000000 = omega (arith, c .undertricks .ensures, undertricks-le s (s .level + 6 - st .args .tricks)) in
+    record { sfits = omega arith }
 
 sub-result : tie.Need-sub-result
 sub-result c = let st = c .before .before .before in
     let s = stakeOf (st .args .s) in
     let l : st .args .s .level < 256 = search needs in
-    let n : c .undertricks .result < 400000 = omega (arith, c .undertricks .ensures, undertricks-le s (s .level + 6 - st .args .tricks)) in
+    let n : c .undertricks .result < 100000000 = omega (arith, c .undertricks .ensures, undertricks-le s (s .level + 6 - st .args .tricks)) in
     rw (toZ-pos w32 (small (c .undertricks .result) n), +ℤ-idl) (negative (c .undertricks .result) n)
 
 returns-2 : tie.Need-returns-2
 returns-2 c = let st = c .before .before .before in
     let s = stakeOf (st .args .s) in
     let l : st .args .s .level < 256 = search needs in
-    let n : c .undertricks .result < 400000 = omega (arith, c .undertricks .ensures, undertricks-le s (s .level + 6 - st .args .tricks)) in
-    rw (toZ-pos w32 (small (c .undertricks .result) n), +ℤ-idl, toZ-ofZ (negative (c .undertricks .result) n), c .undertricks .ensures)
-    (down-score s (st .args .tricks) (c .before .if1 .left))
+    let n : c .undertricks .result < 100000000 = omega (arith, c .undertricks .ensures, undertricks-le s (s .level + 6 - st .args .tricks)) in
+    rw (toZ-pos w32 (small (c .undertricks .result) n), +ℤ-idl, toZ-ofZ (negative (c .undertricks .result) n))
+    (ap (λ (k : ℕ). negℤ (pos k)) (c .undertricks .ensures) ∙ down-score s (st .args .tricks) (c .before .if1 .left), rw (size-neg (pos (c .undertricks .result))) n)
 
 pub declarer-score-spec : {M : Type 1} → statement M
 declarer-score-spec =

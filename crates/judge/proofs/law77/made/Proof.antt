@@ -42,20 +42,20 @@ mul-result : tie.Need-mul-result
 mul-result c = let st = c .before .before .before .before .before in
     let s = stakeOf (st .args .s) in
     let l : st .args .s .level < 256 = search needs in
-    record { fits = rw (c .overtrick-value .ensures) (omega (arith, mul-le-mul {n₁ = st .args .over} {n₂ = 511} (omega arith) (overtrick-le s))) }
+    record { fits = rw (c .overtrick-value .ensures) (omega (arith, mul-le-mul {n₁ = st .args .over} {n₂ = 131072} (omega arith) (overtrick-le s))) }
 
 add-result : tie.Need-add-result
 add-result c = let st = c .before .before .before .before .before in
     let s = stakeOf (st .args .s) in
     let l : st .args .s .level < 256 = search needs in
-    record { fits = rw (c .overtrick-value .ensures) (omega (arith, c .before .trick-points .ensures, points-le s l, mul-le-mul {n₁ = st .args .over} {n₂ = 511} (omega arith) (overtrick-le s))) }
+    record { fits = rw (c .overtrick-value .ensures) (omega (arith, c .before .trick-points .ensures, points-le s l, mul-le-mul {n₁ = st .args .over} {n₂ = 131072} (omega arith) (overtrick-le s))) }
 
 add-result-2 : tie.Need-add-result-2
 unfolding doublingPoints
 add-result-2 c = let st = c .before .before .before .before .before in
     let s = stakeOf (st .args .s) in
     let l : st .args .s .level < 256 = search needs in
-    record { fits = rw (c .overtrick-value .ensures) (omega (arith, c .before .trick-points .ensures, points-le s l, c .before .before .before .before .part-score-or-game .ensures, c .before .before .before .slam-points .ensures, c .before .before .by-doubling .ensures, part-le s, game-le s, slam-le s, insult-le s, mul-le-mul {n₁ = st .args .over} {n₂ = 511} (omega arith) (overtrick-le s))) }
+    record { fits = rw (c .overtrick-value .ensures) (omega (arith, c .before .trick-points .ensures, points-le s l, c .before .before .before .before .part-score-or-game .ensures, c .before .before .before .slam-points .ensures, c .before .before .by-doubling .ensures, part-le s, game-le s, slam-le s, insult-le s, mul-le-mul {n₁ = st .args .over} {n₂ = 131072} (omega arith) (overtrick-le s))) }
 
 returns : tie.Need-returns
 unfolding madePoints doublingPoints

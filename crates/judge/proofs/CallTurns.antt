@@ -1,0 +1,50 @@
+-- The loop over the calls: the auction's position is that of the history, and its refusal is the Law's. Assumes nothing.
+use Prim.Native.Nat.{ℕ, _≤_, _<_, _+_, _*_}
+use mathlib.Core.Path.{_≡_, refl, sym, ap, _∙_}
+use mathlib.Core.Bool.{true}
+use mathlib.Core.List.{List, [], _∷_}
+use lib.ListN.{length}
+use Rattle.laws.specs.Auction.{callPlace}
+use Rattle.laws.specs.CallRefusal.{callRefusal}
+use Rattle.laws.specs.Reading.{Reading, Reading.refused, Reading.found, read, readEach}
+use Rattle.auction.specs.declared.Auction.{Auction}
+use Rattle.auction.specs.Position.{positionOf, afterCall}
+use Rattle.auction.specs.Asked.{refusalOf}
+use Rattle.auction.proofs.Laws.{refusal-is}
+use Rattle.judge.specs.declared.reading.Called.{Called}
+use Rattle.judge.specs.Sections.{faultOf, noCalls, calledOf}
+use Rattle.judge.proofs.Turns.{Reached, begins, ends, short, stops, goes}
+
+placed : (h : List ℕ) → callPlace h ≡ length h
+unfolding callPlace
+placed h = refl
+
+module _ (bytes : List ℕ) (d at n : ℕ) where
+  abbrev pub CallsAt : Auction → ℕ → ℕ → Type 0
+  CallsAt a here i = Reached 6 callPlace (callRefusal d) bytes at n (positionOf d) a here i
+
+  abbrev calls : Reading (List ℕ)
+  calls = readEach 6 callPlace (callRefusal d) n [] bytes at
+
+  pub call-begins : {a : Auction} → a ≡ positionOf d [] → CallsAt a at 0
+  call-begins e = begins 6 callPlace (callRefusal d) placed bytes at n (positionOf d) e
+
+  pub call-ends : {a : Auction} {here i : ℕ} → CallsAt a here i → n ≤ i → record { ok = true; fault = 0; next = here; after = a } ≡ calledOf d calls
+  call-ends {a} {here} r t =
+      ap (λ (x : Auction). record { ok = true; fault = 0; next = here; after = x }) (r .position)
+      ∙ sym (ap (calledOf d) (ends 6 callPlace (callRefusal d) placed bytes at n (positionOf d) r t))
+
+  module _ {a : Auction} {here i : ℕ} (r : CallsAt a here i) (t : i < n) where
+    pub call-short : read 6 bytes here ≡ refused 2 0 → noCalls 2048 ≡ calledOf d calls
+    call-short q = sym (ap (calledOf d) (short 6 callPlace (callRefusal d) placed bytes at n (positionOf d) r t q))
+
+    module _ {c f : ℕ} (q : read 6 bytes here ≡ found c (here + 6)) (e : f ≡ refusalOf a c) where
+      law : f ≡ callRefusal d (r .history) c
+      law = e ∙ ap (λ (x : Auction). refusalOf x c) (r .position) ∙ refusal-is d (r .history) c
+
+      pub call-stops : (f ≡ 0 → ⊥) → noCalls (faultOf f i) ≡ calledOf d calls
+      call-stops z = sym (ap (calledOf d) (stops 6 callPlace (callRefusal d) placed bytes at n (positionOf d) r t q law z))
+
+      pub call-goes : f ≡ 0 → {b : Auction} → b ≡ afterCall a c → CallsAt b (here + 6) (i + 1)
+      unfolding positionOf
+      call-goes z p = goes 6 callPlace (callRefusal d) placed bytes at n (positionOf d) r t q law z (p ∙ ap (λ (x : Auction). afterCall x c) (r .position))

@@ -1,0 +1,68 @@
+-- The loop over the cards: the play's position is that of the history, and its refusal is the Law's. Assumes nothing.
+use Prim.Native.Nat.{ℕ, _≤_, _<_, _+_, _*_}
+use mathlib.Core.Path.{_≡_, refl, sym, ap, _∙_}
+use mathlib.Core.Bool.{true}
+use mathlib.Core.List.{List, [], _∷_}
+use lib.ListN.{length}
+use Rattle.laws.specs.Law44.{cardsPlayed}
+use Rattle.laws.specs.CardRefusal.{cardRefusal}
+use Rattle.laws.specs.Reading.{Reading, Reading.refused, Reading.found, read, readEach}
+use Rattle.play.specs.declared.Play.{Play}
+use Rattle.play.specs.Position.{startOf, step, verdictOf, verdictNumber}
+use Rattle.play.specs.History.{positionOf, AllPlayed}
+use Rattle.play.proofs.Holders.{verdict-law}
+use Rattle.judge.specs.declared.reading.Carded.{Carded}
+use Rattle.judge.specs.Sections.{faultOf, noCards, cardedOf}
+use Rattle.judge.proofs.Turns.{Clean, Reached, begins, ends, short, stops, goes}
+
+placed : (g : List ℕ) → cardsPlayed g ≡ length g
+unfolding cardsPlayed
+placed g = refl
+
+-- a history without a refused card
+pub all-played : (deal : List ℕ) (trump opening : ℕ) (g : List ℕ) → Clean (cardRefusal trump opening deal) g → AllPlayed deal trump opening g
+unfolding Clean AllPlayed
+all-played deal trump opening [] w = tt
+all-played deal trump opening (c ∷ g) w = (w .0, all-played deal trump opening g (w .1))
+
+-- the deal is what the position starts with
+pub starts-with : {p : Play} (deal : List ℕ) (trump opening : ℕ) → p ≡ startOf deal trump opening → p .holders ≡ deal
+unfolding startOf
+starts-with deal trump opening e = ap (λ (x : Play). x .holders) e
+
+pub starts-itself : {p : Play} (deal : List ℕ) (trump opening : ℕ) → p ≡ startOf deal trump opening → p ≡ startOf (p .holders) trump opening
+starts-itself deal trump opening e = e ∙ ap (λ (d : List ℕ). startOf d trump opening) (sym (starts-with deal trump opening e))
+
+module _ (bytes deal : List ℕ) (trump opening at n : ℕ) where
+  abbrev pub CardsAt : Play → ℕ → ℕ → Type 0
+  CardsAt p here i = Reached 6 cardsPlayed (cardRefusal trump opening deal) bytes at n (positionOf deal trump opening) p here i
+
+  abbrev cards : Reading (List ℕ)
+  cards = readEach 6 cardsPlayed (cardRefusal trump opening deal) n [] bytes at
+
+  pub card-begins : {p : Play} → p ≡ startOf deal trump opening → CardsAt p at 0
+  unfolding positionOf
+  card-begins e = begins 6 cardsPlayed (cardRefusal trump opening deal) placed bytes at n (positionOf deal trump opening) e
+
+  pub card-ends : {p : Play} {here i : ℕ} → CardsAt p here i → n ≤ i → record { ok = true; fault = 0; next = here; after = p } ≡ cardedOf deal trump opening cards
+  card-ends {p} {here} r t =
+      ap (λ (x : Play). record { ok = true; fault = 0; next = here; after = x }) (r .position)
+      ∙ sym (ap (cardedOf deal trump opening) (ends 6 cardsPlayed (cardRefusal trump opening deal) placed bytes at n (positionOf deal trump opening) r t))
+
+  module _ {p : Play} {here i : ℕ} (r : CardsAt p here i) (t : i < n) where
+    pub card-short : read 6 bytes here ≡ refused 2 0 → noCards 2048 ≡ cardedOf deal trump opening cards
+    card-short q = sym (ap (cardedOf deal trump opening) (short 6 cardsPlayed (cardRefusal trump opening deal) placed bytes at n (positionOf deal trump opening) r t q))
+
+    module _ (all : length deal ≡ 52) {c f : ℕ} (q : read 6 bytes here ≡ found c (here + 6)) (e : f ≡ verdictNumber (verdictOf p c)) where
+      law : f ≡ cardRefusal trump opening deal (r .history) c
+      law =
+          e ∙ ap (λ (x : Play). verdictNumber (verdictOf x c)) (r .position)
+          ∙ verdict-law deal trump opening all (r .history) (all-played deal trump opening (r .history) (r .clean)) c
+
+      pub card-stops : (f ≡ 0 → ⊥) → noCards (faultOf f i) ≡ cardedOf deal trump opening cards
+      card-stops z = sym (ap (cardedOf deal trump opening) (stops 6 cardsPlayed (cardRefusal trump opening deal) placed bytes at n (positionOf deal trump opening) r t q law z))
+
+      pub card-goes : f ≡ 0 → {b : Play} → b ≡ step p c → CardsAt b (here + 6) (i + 1)
+      unfolding positionOf
+      card-goes z s =
+          goes 6 cardsPlayed (cardRefusal trump opening deal) placed bytes at n (positionOf deal trump opening) r t q law z (s ∙ ap (λ (x : Play). step x c) (r .position))

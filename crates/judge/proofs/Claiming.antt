@@ -1,0 +1,82 @@
+-- The claim in the code is the Laws' section: a law for each way out, over what was read. Assumes nothing.
+use Prim.Native.Nat.{ℕ, _≤_, _<_, _+_, _-_, _*_, _/_, _%_}
+use mathlib.Core.Path.{_≡_, refl}
+use mathlib.Core.Bool.{Bool, true, false, not, _&&_, _||_}
+use mathlib.Core.List.{List, []}
+use borrow.Author.Tests.{eq-eqb, ne-eqb, le-leb, lt-leb, leb-true}
+use lib.Dec.{eqb, leb}
+use Rattle.laws.specs.Law68.{Claim, none, agreed}
+use Rattle.laws.specs.Reading.{Reading, Reading.refused, Reading.found, read, refuse}
+use Rattle.laws.proofs.Tests.{and-right}
+use Rattle.judge.specs.declared.reading.Claimed.{Claimed}
+use Rattle.judge.specs.Sections.{noClaim, claimOf, pointAt, noClaimBy, markedBy, claimBy}
+
+none-left : (b : Bool) → (not b && false) ≡ false
+none-left true = refl
+none-left false = refl
+
+-- ---- no claim
+module _ (out : Bool) (played : ℕ) (bytes : List ℕ) (at : ℕ) where
+  abbrev unclaimed : Claimed
+  unclaimed = record { ok = true; fault = 0; next = at; marked = false; tricks = 0 }
+
+  pub unfinished : out ≡ false → (played ≡ 52 → ⊥) → noClaim (13312 + played) ≡ claimOf (noClaimBy out played bytes at)
+  unfolding noClaimBy refuse
+  unfinished e n = rw (e, ne-eqb played 52 n)
+
+  pub complete : played ≡ 52 → unclaimed ≡ claimOf (noClaimBy out played bytes at)
+  unfolding noClaimBy refuse
+  complete e = rw (eq-eqb played 52 e, none-left out)
+
+  pub passed : out ≡ true → unclaimed ≡ claimOf (noClaimBy out played bytes at)
+  unfolding noClaimBy refuse
+  passed e = rw e
+
+  -- ---- a marked claim
+  pub claim-passed : out ≡ true → noClaim (14336 + played) ≡ claimOf (markedBy out played bytes at)
+  unfolding markedBy refuse
+  claim-passed e = rw e
+
+  module _ (e : out ≡ false) where
+    pub claim-elsewhere : pointAt played ≡ false → noClaim (14336 + played) ≡ claimOf (markedBy out played bytes at)
+    unfolding markedBy refuse
+    claim-elsewhere p = rw (e, p)
+
+    module _ (p : pointAt played ≡ true) where
+      pub claim-short : read 4 bytes at ≡ refused 2 0 → noClaim 2048 ≡ claimOf (markedBy out played bytes at)
+      unfolding markedBy refuse
+      claim-short q = rw (e, p, q)
+
+      module _ (tricks : ℕ) (q : read 4 bytes at ≡ found tricks (at + 4)) where
+        pub claim-too-many : 13 - played / 4 < tricks → noClaim (15360 + tricks) ≡ claimOf (markedBy out played bytes at)
+        unfolding markedBy refuse
+        claim-too-many h = rw (e, p, q, lt-leb tricks (13 - played / 4) h)
+
+        pub claim-agreed : tricks ≤ 13 - played / 4 → record { ok = true; fault = 0; next = at + 4; marked = true; tricks = tricks } ≡ claimOf (markedBy out played bytes at)
+        unfolding markedBy refuse
+        claim-agreed h = rw (e, p, q, le-leb tricks (13 - played / 4) h)
+
+  -- ---- the mark
+  pub mark-short : read 1 bytes at ≡ refused 2 0 → noClaim 2048 ≡ claimOf (claimBy out played bytes at)
+  unfolding claimBy
+  mark-short q = rw q
+
+  module _ (mark : ℕ) (q : read 1 bytes at ≡ found mark (at + 1)) where
+    pub unmarked : mark ≡ 0 → claimOf (noClaimBy out played bytes (at + 1)) ≡ claimOf (claimBy out played bytes at)
+    unfolding claimBy
+    unmarked z = rw (q, eq-eqb mark 0 z)
+
+    pub marked : (mark ≡ 0 → ⊥) → claimOf (markedBy out played bytes (at + 1)) ≡ claimOf (claimBy out played bytes at)
+    unfolding claimBy
+    marked z = rw (q, ne-eqb mark 0 z)
+
+-- a point for a claim has at most 48 cards played
+pub point-le : (played : ℕ) → pointAt played ≡ true → played ≤ 48
+unfolding pointAt
+point-le played e =
+    leb-true played 48 (and-right (leb 4 played) (leb played 48) (and-right (eqb (played % 4) 0) (leb 4 played && leb played 48) e))
+
+-- where no claim is marked, nothing more is read
+pub reads-none : (out : Bool) (played at : ℕ) (bytes : List ℕ) → noClaimBy out played [] at ≡ noClaimBy out played bytes at
+unfolding noClaimBy refuse
+reads-none out played at bytes = refl

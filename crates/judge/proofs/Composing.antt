@@ -1,0 +1,175 @@
+-- The sections one after the other: what a reading that succeeds tells, and the whole from its parts. Assumes nothing.
+use Prim.Native.Nat.{ℕ, zero, suc, _≤_, _<_, _+_, _-_, _*_, _/_, _%_}
+use native.Mathlib.Nat.{mul-zero, mul-suc}
+use native.Mathlib.Omega.{arith}
+use mathlib.Core.Path.{_≡_, refl, sym, ap, ap₂, _∙_, subst}
+use mathlib.Core.Bool.{Bool, true, false, not, _&&_, _||_}
+use mathlib.Core.List.{List, [], _∷_}
+use borrow.Author.Tests.{eqb-true, not-false, not-true}
+use lib.Dec.{eqb, ltb}
+use lib.ListN.{length}
+use Rattle.laws.specs.Choice.{if_then_else_}
+use Rattle.laws.specs.Reading.{Reading, Reading.refused, Reading.found, onward, numberAt, read, refuse, readEach}
+use Rattle.laws.specs.Law44.{cardsPlayed}
+use Rattle.laws.specs.Refusals.{auctionUnfinished, playCount}
+use Rattle.laws.specs.CallRefusal.{callRefusal}
+use Rattle.laws.specs.CardRefusal.{cardRefusal}
+use Rattle.laws.specs.Law2.{dealer}
+use Rattle.laws.specs.Auction as Law
+use Rattle.laws.specs.Judge as Judge
+use Rattle.laws.proofs.Tests.{by-test, not-both}
+use Rattle.laws.proofs.Bits.{number-lt}
+use Rattle.laws.proofs.Readings.{refused-found, first-of, first-read, first-test}
+use Rattle.laws.specs.Cards.{clockwise}
+use Rattle.laws.specs.Law44.{tricksComplete}
+use Rattle.laws.specs.Record.{Parts}
+use Rattle.auction.specs.declared.Auction.{Auction}
+use Rattle.auction.specs.declared.Contract.{Contract}
+use Rattle.auction.specs.Asked.{passedOutOf, contractOf, asLaw}
+use Rattle.auction.proofs.History.{passed-out-is}
+use Rattle.auction.proofs.Laws.{contract-is}
+use Rattle.play.specs.History.{AllPlayed, positionOf, trickOf, tricksOf}
+use Rattle.play.proofs.Cards.{fewer-than-four}
+use Rattle.play.proofs.Holders.{trick-law}
+use Rattle.play.proofs.Thirteen.{at-most-52}
+use Rattle.play.proofs.Complete.{tricks-law}
+use Rattle.judge.specs.declared.reading.Carded.{Carded}
+use Rattle.judge.specs.declared.whole.Judged.{Judged}
+use Rattle.judge.specs.Sections.{cardsBy, cardedOf}
+use Rattle.judge.specs.Whole.{Good, CardsTold, CallsTold, afterCards, afterCalls, afterDeal, noJudgement, judgedOf}
+use Rattle.judge.proofs.Turns.{Clean}
+use Rattle.judge.proofs.CardTurns.{all-played}
+
+-- ---- a reading of codes that succeeds: none was refused, and the bit behind them
+pub found-same : {A : Type 0} {h g : A} {at e : ℕ} → _≡_ {A = Reading A} (found h at) (found g e) → (h ≡ g) × (at ≡ e)
+found-same q = (cc, cc)
+
+each-found : (w : ℕ) (place : List ℕ → ℕ) (rule : List ℕ → ℕ → ℕ) (bytes : List ℕ) (n : ℕ) (h : List ℕ) (at : ℕ) {g : List ℕ} {e : ℕ}
+    → readEach w place rule n h bytes at ≡ found g e → Clean rule h → Clean rule g × (e ≡ at + w * n)
+unfolding readEach Clean
+each-found w place rule bytes zero h at q c =
+    let s = found-same q in
+    (subst (Clean rule) (s .0) c, omega (arith, s .1, mul-zero w))
+each-found w place rule bytes (suc n) h at q c =
+    let r = first-read w bytes at _ q in
+    let code = numberAt bytes at w in
+    let t = first-test (rule h code) (place h) (not (eqb (rule h code) 0)) bytes (at + w) _ (r .1) in
+    let f = each-found w place rule bytes n (code ∷ h) (at + w) (t .1) (eqb-true (rule h code) 0 (not-false (eqb (rule h code) 0) (t .0)), c) in
+    (f .0, omega (arith, f .1, mul-suc w n))
+
+-- ---- the calls that were read end soon enough
+pub calls-next : (d : ℕ) (bytes : List ℕ) (at : ℕ) {h : List ℕ} {e : ℕ} → Judge.readCalls d bytes at ≡ found h e → e ≤ at + 3075
+unfolding Judge.readCalls Clean
+calls-next d bytes at q =
+    let r = first-read 9 bytes at _ q in
+    let count = numberAt bytes at 9 in
+    let s = first-of (readEach 6 Law.callPlace (callRefusal d) count [] bytes (at + 9)) _ (r .1) in
+    let t = first-test auctionUnfinished count (not (Law.isOver (s .0))) bytes (s .1) _ (s .3) in
+    let f = each-found 6 Law.callPlace (callRefusal d) bytes count [] (at + 9) (s .2) tt in
+    let z = found-same (t .1) in
+    omega (arith, f .1, z .1, number-lt bytes at 9)
+
+-- ---- the cards that were read: none was refused, and they end soon enough
+pub record Cards (trump opening : ℕ) (deal g : List ℕ) (at e : ℕ) : Type 0 where
+  pub played : AllPlayed deal trump opening g
+  pub next : e ≤ at + 384
+
+pub cards-found : (out : Bool) (trump opening : ℕ) (deal bytes : List ℕ) (at : ℕ) {g : List ℕ} {e : ℕ} → cardsBy out trump opening deal bytes at ≡ found g e
+    → Cards trump opening deal g at e
+unfolding cardsBy Clean
+cards-found out trump opening deal bytes at {g} {e} q =
+    let r = first-read 6 bytes at _ q in
+    let count = numberAt bytes at 6 in
+    let t = first-test playCount count (ltb 52 count || (out && ltb 0 count)) bytes (at + 6) _ (r .1) in
+    let f = each-found 6 cardsPlayed (cardRefusal trump opening deal) bytes count [] (at + 6) (t .1) tt in
+    record { played = all-played deal trump opening g (f .0); next = omega (arith, f .1, number-lt bytes at 6) }
+
+-- ---- the cards in the code: bounds on the position, whatever the calls were
+module _ (out : Bool) (trump opening : ℕ) (deal bytes : List ℕ) (at : ℕ) (all : length deal ≡ 52) where
+  abbrev cards : Reading (List ℕ)
+  cards = cardsBy out trump opening deal bytes at
+
+  record Bounded (k : Carded) : Type 0 where
+    count : k .after .tricks .count ≤ 13
+    few : k .after .trick .cards ≤ 3
+    next : k .next ≤ at + 384
+
+  bounded : (r : Reading (List ℕ)) → cards ≡ r → cardedOf deal trump opening r .ok ≡ true → Bounded (cardedOf deal trump opening r)
+  unfolding tricksOf trickOf tricksComplete
+  bounded (refused n place) q e = not-both false e refl
+  bounded (found g next) q e =
+      let f = cards-found out trump opening deal bytes at q in
+      let n = at-most-52 deal trump opening all g (f .played) in
+      record {
+        count = rw (tricks-law deal trump opening all g (f .played)) (omega arith);
+        few = rw (trick-law deal trump opening all g (f .played)) (omega (arith, fewer-than-four g));
+        next = f .next;
+      }
+
+  pub card-bounds : (k : Carded) → k ≡ cardedOf deal trump opening cards → k .ok ≡ true → at < 16384
+      → (k .after .tricks .count ≤ 13) × (k .after .trick .cards ≤ 3) × (k .next < 32768)
+  card-bounds k ek e h =
+      let b = subst (λ (x : Carded). Bounded x) (sym ek) (bounded cards refl (rw ek at e)) in
+      (b .count, b .few, omega (arith, b .next))
+
+-- ---- from the calls on
+pub section-cards : (d : ℕ) (deal h bytes : List ℕ) (at : ℕ) → cardsBy (Law.passedOut h) (Law.trumpAfter h) (Law.openingAfter d h) deal bytes at ≡ Judge.readCards d deal h bytes at
+unfolding cardsBy Judge.readCards
+section-cards d deal h bytes at = refl
+
+module _ (board table : ℕ) (a : Auction) (deal h : List ℕ) (told : CallsTold board a deal h) (bytes : List ℕ) (at : ℕ)
+    (out : Bool) (eo : out ≡ passedOutOf a) (k : Contract) (ek : k ≡ contractOf a) (opening : ℕ) (ep : opening ≡ clockwise (k .declarer) 1) where
+  passed : out ≡ Law.passedOut h
+  passed = eo ∙ ap passedOutOf (told .position) ∙ passed-out-is (dealer board) h
+
+  contracted : asLaw k ≡ Law.contract (dealer board) h
+  contracted = ap asLaw (ek ∙ ap contractOf (told .position)) ∙ contract-is (dealer board) h
+
+  trumped : k .strain ≡ Law.trumpAfter h
+  unfolding Law.contract Law.trumpAfter
+  trumped = ap (λ (x : Law.Contract). x .strain) contracted
+
+  led : opening ≡ Law.openingAfter (dealer board) h
+  unfolding Law.contract Law.openingAfter
+  led = ep ∙ ap (λ (x : Law.Contract). clockwise (x .declarer) 1) contracted
+
+  cards-law : cardsBy out (k .strain) opening deal bytes at ≡ Judge.readCards (dealer board) deal h bytes at
+  cards-law = rw (passed, trumped, led) (section-cards (dealer board) deal h bytes at)
+
+  abbrev rest : Reading (List ℕ) → Reading Parts
+  rest r = onward r (λ g next. afterCards board table deal h g bytes next)
+
+  whole : afterCalls board table deal h bytes at ≡ rest (cardsBy out (k .strain) opening deal bytes at)
+  unfolding afterCalls
+  whole = rw cards-law
+
+  module _ (c : Carded) (ec : c ≡ cardedOf deal (k .strain) opening (cardsBy out (k .strain) opening deal bytes at)) where
+    stopped : (r : Reading (List ℕ)) → cardedOf deal (k .strain) opening r .ok ≡ false → noJudgement (cardedOf deal (k .strain) opening r .fault) ≡ judgedOf (rest r)
+    stopped (refused n place) e = refl
+    stopped (found g next) e = not-both true refl e
+
+    pub cards-refused : c .ok ≡ false → noJudgement (c .fault) ≡ judgedOf (afterCalls board table deal h bytes at)
+    cards-refused e = rw (whole, ec) (stopped (cardsBy out (k .strain) opening deal bytes at) (rw ec at e))
+
+    module _ (r : Judged) where
+      -- the answer, given any histories that these positions are of
+      abbrev Tells : Carded → Type 0
+      Tells x = (dealt calls cards : List ℕ) → CardsTold board out k dealt calls cards (x .after) → r ≡ judgedOf (afterCards board table dealt calls cards bytes (x .next))
+
+      goes-on : (q : Reading (List ℕ)) → cardsBy out (k .strain) opening deal bytes at ≡ q → cardedOf deal (k .strain) opening q .ok ≡ true
+          → Tells (cardedOf deal (k .strain) opening q)
+          → r ≡ judgedOf (rest q)
+      goes-on (refused n place) e o f = not-both false o refl
+      goes-on (found g next) e o f =
+          f deal h g (record {
+            passed = passed;
+            contract = contracted;
+            good = told .good;
+            position = ap₂ (λ (t l : ℕ). positionOf deal t l g) trumped led;
+            played = rw (sym trumped, sym led) (cards-found out (k .strain) opening deal bytes at e .played);
+          })
+
+      pub cards-read : c .ok ≡ true
+          → Tells c
+          → r ≡ judgedOf (afterCalls board table deal h bytes at)
+      cards-read e f = rw whole (goes-on (cardsBy out (k .strain) opening deal bytes at) refl (rw ec at e) (subst (λ (x : Carded). Tells x) ec f))

@@ -1,0 +1,139 @@
+-- A section of the record in the code is the Laws' section: a law for each way out, over what was read. Assumes nothing.
+use Prim.Native.Nat.{ℕ, _≤_, _<_, _+_, _-_, _*_, _/_, _%_}
+use mathlib.Core.Path.{_≡_, refl, sym, ap, _∙_}
+use mathlib.Core.Bool.{Bool, true, false, not, _&&_, _||_}
+use mathlib.Core.List.{List, []}
+use native.Mathlib.Omega.{arith}
+use borrow.Author.Tests.{eq-eqb, ne-eqb, lt-ltb, le-ltb, le-leb, lt-leb, ltb-true, eqb-true, eqb-false}
+use lib.Dec.{eqb, ltb, leb}
+use lib.ListN.{length}
+use Rattle.laws.specs.Choice.{if_then_else_}
+use Rattle.laws.specs.Refusals.{auctionUnfinished}
+use Rattle.laws.specs.Auction.{callPlace, isOver}
+use Rattle.laws.specs.CallRefusal.{callRefusal}
+use Rattle.laws.specs.Law44.{cardsPlayed}
+use Rattle.laws.specs.CardRefusal.{cardRefusal}
+use Rattle.laws.specs.Reading.{Reading, Reading.refused, Reading.found, onward, numberAt, read, refuse, readEach, overfull}
+use Rattle.laws.specs.Judge as Law
+use Rattle.laws.proofs.Tests.{by-test, not-both}
+use Rattle.auction.specs.Asked.{overOf}
+use Rattle.auction.proofs.History.{over-is}
+use Rattle.judge.specs.declared.reading.Heading.{Heading}
+use Rattle.judge.specs.declared.reading.Called.{Called}
+use Rattle.judge.specs.Sections.{noHeading, headingOf, noCalls, calledOf, noCards, cardedOf, cardsBy}
+
+-- ---- board and table
+module _ (bytes : List ℕ) where
+  pub heading-short : read 7 bytes 0 ≡ refused 2 0 → noHeading 2048 ≡ headingOf (Law.readHeading bytes 0)
+  unfolding Law.readHeading
+  heading-short e = rw e
+
+  module _ (board : ℕ) (eb : read 7 bytes 0 ≡ found board 7) where
+    pub table-short : read 9 bytes 7 ≡ refused 2 0 → noHeading 2048 ≡ headingOf (Law.readHeading bytes 0)
+    unfolding Law.readHeading
+    table-short e = rw (eb, e)
+
+    module _ (table : ℕ) (et : read 9 bytes 7 ≡ found table 16) where
+      pub no-board : board ≡ 0 → noHeading 3072 ≡ headingOf (Law.readHeading bytes 0)
+      unfolding Law.readHeading refuse
+      no-board z = rw (eb, et, eq-eqb board 0 z)
+
+      pub no-table : (board ≡ 0 → ⊥) → table ≡ 0 → noHeading 3073 ≡ headingOf (Law.readHeading bytes 0)
+      unfolding Law.readHeading refuse
+      no-table n z = rw (eb, et, ne-eqb board 0 n, eq-eqb table 0 z)
+
+      pub heading-read : (board ≡ 0 → ⊥) → (table ≡ 0 → ⊥) → record { ok = true; fault = 0; board = board; table = table } ≡ headingOf (Law.readHeading bytes 0)
+      unfolding Law.readHeading refuse
+      heading-read n m = rw (eb, et, ne-eqb board 0 n, ne-eqb table 0 m)
+
+-- ---- calls: the count, each call, and the end of the auction
+module _ (d : ℕ) (bytes : List ℕ) (at : ℕ) where
+  pub calls-short : read 9 bytes at ≡ refused 2 0 → noCalls 2048 ≡ calledOf d (Law.readCalls d bytes at)
+  unfolding Law.readCalls
+  calls-short e = rw e
+
+  module _ (count : ℕ) (ec : read 9 bytes at ≡ found count (at + 9)) where
+    abbrev each : Reading (List ℕ)
+    each = readEach 6 callPlace (callRefusal d) count [] bytes (at + 9)
+
+    -- what follows the reading of each call
+    abbrev ended : Reading (List ℕ) → Reading (List ℕ)
+    ended r = onward r (λ h next. onward (refuse auctionUnfinished count (not (isOver h)) bytes next) (λ _ behind. found h behind))
+
+    whole : Law.readCalls d bytes at ≡ ended each
+    unfolding Law.readCalls
+    whole = rw ec
+
+    stopped : (r : Reading (List ℕ)) → calledOf d r .ok ≡ false → calledOf d r ≡ calledOf d (ended r)
+    stopped (refused n place) e = refl
+    stopped (found h next) e = not-both true refl e
+
+    open-end : (r : Reading (List ℕ)) → calledOf d r .ok ≡ true → overOf (calledOf d r .after) ≡ false → noCalls (9216 + count) ≡ calledOf d (ended r)
+    unfolding refuse
+    open-end (refused n place) e o = not-both false e refl
+    open-end (found h next) e o = rw (sym (over-is d h) ∙ o)
+
+    at-end : (r : Reading (List ℕ)) → calledOf d r .ok ≡ true → overOf (calledOf d r .after) ≡ true → calledOf d r ≡ calledOf d (ended r)
+    unfolding refuse
+    at-end (refused n place) e o = not-both false e refl
+    at-end (found h next) e o = rw (sym (over-is d h) ∙ o)
+
+    module _ (k : Called) (ek : k ≡ calledOf d each) where
+      pub calls-stopped : k .ok ≡ false → k ≡ calledOf d (Law.readCalls d bytes at)
+      calls-stopped e = ek ∙ stopped each (rw ek at e) ∙ ap (calledOf d) (sym whole)
+
+      pub calls-open : k .ok ≡ true → overOf (k .after) ≡ false → noCalls (9216 + count) ≡ calledOf d (Law.readCalls d bytes at)
+      calls-open e o = open-end each (rw ek at e) (rw ek at o) ∙ ap (calledOf d) (sym whole)
+
+      pub calls-over : k .ok ≡ true → overOf (k .after) ≡ true → k ≡ calledOf d (Law.readCalls d bytes at)
+      calls-over e o = ek ∙ at-end each (rw ek at e) (rw ek at o) ∙ ap (calledOf d) (sym whole)
+
+-- more cards than may be played, as one test
+over-most : (out : Bool) (count : ℕ) → (ltb 52 count || (out && ltb 0 count)) ≡ ltb (if out then 0 else 52) count
+over-most true count =
+    by-test (ltb 52 count)
+    (λ (q : ltb 52 count ≡ true). rw (q, lt-ltb 0 count (omega (arith, ltb-true 52 count q))))
+    (λ (q : ltb 52 count ≡ false). rw q)
+over-most false count =
+    by-test (ltb 52 count) (λ (q : ltb 52 count ≡ true). rw q) (λ (q : ltb 52 count ≡ false). rw q)
+
+-- ---- cards: the count, then each card
+module _ (out : Bool) (trump opening : ℕ) (deal bytes : List ℕ) (at : ℕ) where
+  pub cards-short : read 6 bytes at ≡ refused 2 0 → noCards 2048 ≡ cardedOf deal trump opening (cardsBy out trump opening deal bytes at)
+  unfolding cardsBy
+  cards-short e = rw e
+
+  module _ (count : ℕ) (ec : read 6 bytes at ≡ found count (at + 6)) where
+    pub too-many-cards : (if out then 0 else 52) < count → noCards (10240 + count) ≡ cardedOf deal trump opening (cardsBy out trump opening deal bytes at)
+    unfolding cardsBy refuse
+    too-many-cards h = rw (ec, over-most out count ∙ lt-ltb (if out then 0 else 52) count h)
+
+    pub cards-read : count ≤ (if out then 0 else 52) → cardedOf deal trump opening (readEach 6 cardsPlayed (cardRefusal trump opening deal) count [] bytes (at + 6))
+        ≡ cardedOf deal trump opening (cardsBy out trump opening deal bytes at)
+    unfolding cardsBy refuse
+    cards-read h = rw (ec, over-most out count ∙ le-ltb (if out then 0 else 52) count h)
+
+twice-not : (b : Bool) → not (not b) ≡ b
+twice-not true = refl
+twice-not false = refl
+
+-- ---- padding
+module _ (bytes : List ℕ) (at : ℕ) where
+  pub none-behind : length bytes ≤ at / 8 → true ≡ not (overfull bytes at)
+  unfolding overfull numberAt
+  none-behind h = let none : 8 * length bytes - at ≡ 0 = omega arith in rw none
+
+  module _ (h : at / 8 < length bytes) where
+    pub whole-bytes : at % 8 ≡ 0 → false ≡ not (overfull bytes at)
+    unfolding overfull
+    whole-bytes z = rw (le-leb 8 (8 * length bytes - at) (omega arith))
+
+    pub more-bytes : (length bytes ≡ at / 8 + 1 → ⊥) → false ≡ not (overfull bytes at)
+    unfolding overfull
+    more-bytes n = rw (le-leb 8 (8 * length bytes - at) (omega arith))
+
+    pub bits-left : (at % 8 ≡ 0 → ⊥) → length bytes ≡ at / 8 + 1 → (rest : ℕ) → rest ≡ numberAt bytes at (8 - at % 8) → eqb rest 0 ≡ not (overfull bytes at)
+    unfolding overfull
+    bits-left u n rest e =
+        let left : 8 * length bytes - at ≡ 8 - at % 8 = omega arith in
+        rw (left, lt-leb 8 (8 - at % 8) (omega arith), sym e) (sym (twice-not (eqb rest 0)))

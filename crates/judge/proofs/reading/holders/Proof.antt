@@ -1,0 +1,61 @@
+-- `holders` meets its contract: the first i of the row are those of the record. Assumes nothing.
+use Prim.Native.Nat.{ℕ, suc, _≤_, _<_, _+_, _-_, _*_}
+use mathlib.Core.Path.{_≡_, refl, sym, ap, _∙_}
+use native.Mathlib.Omega.{arith}
+use borrow.Author.Needs.{needs}
+use lib.ListN.{length, getD, take, set, length-set}
+use native.Mathlib.Numerals.{add-one}
+use lib.Seq.{take-suc-set, take-length}
+use Rattle.judge.specs.Sections.{rowAt}
+use Rattle.judge.proofs.Dealing.{row-last}
+use Rattle.judge.proofs.reading.holders.Statement.{statement}
+use Rattle.judge.proofs.reading.holders.Tie as tie
+
+abbrev Inv-loop : tie.InvT-loop
+Inv-loop bytes row₀ i₀ row i = (i ≤ 52) × (length row ≡ 52) × (take i row ≡ rowAt bytes 16 2 i)
+
+abbrev μ-loop : tie.MeasureT-loop
+μ-loop bytes row₀ i₀ row i = 52 - i
+
+loop-holds : tie.Need-loop-holds Inv-loop μ-loop
+unfolding rowAt
+loop-holds c = (omega arith, refl, refl)
+
+holder-requires : tie.Need-holder-requires Inv-loop μ-loop
+holder-requires c κs = search needs
+
+array-write-row : tie.Need-array-write-row Inv-loop μ-loop
+array-write-row c = search needs
+
+add-i : tie.Need-add-i Inv-loop μ-loop
+add-i c = search needs
+
+loop-less : tie.Need-loop-less Inv-loop μ-loop
+loop-less c = search needs
+
+loop-again : tie.Need-loop-again Inv-loop μ-loop
+loop-again c = let l = c .before .before .loop in
+    let bytes = c .before .before .before .before .args .bytes .now in (
+      omega arith,
+      length-set (l .row) (l .i) _ ∙ l .inv .1,
+      rw add-one (take-suc-set (l .row) (l .i) _ (omega (arith, l .inv .1)) ∙ rw (l .inv .2, c .holder .ensures) (sym (row-last bytes 2 (l .i) 16))),
+    )
+
+returns : tie.Need-returns Inv-loop μ-loop
+returns c = let l = c .before .loop in
+    let e : l .i ≡ 52 = omega arith in
+    sym (take-length (l .row)) ∙ rw (l .inv .1) (rw e at (l .inv .2))
+
+pub holders-spec : {M : Type 1} → statement M
+holders-spec =
+    tie.close
+    (tie.spec
+    Inv-loop
+    μ-loop
+    loop-holds
+    holder-requires
+    array-write-row
+    add-i
+    loop-less
+    loop-again
+    returns)

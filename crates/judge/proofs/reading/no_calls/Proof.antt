@@ -1,0 +1,13 @@
+-- `no_calls` meets its contract. Assumes nothing.
+use borrow.Author.Needs.{needs}
+use Rattle.judge.proofs.reading.no_calls.Statement.{statement}
+use Rattle.judge.proofs.reading.no_calls.Tie as tie
+
+new-requires : tie.Need-new-requires
+new-requires c κs = search needs
+
+returns : tie.Need-returns
+returns c = simp (c .new .ensures)
+
+pub no-calls-spec : {M : Type 1} → statement M
+no-calls-spec = tie.close (tie.spec new-requires returns)

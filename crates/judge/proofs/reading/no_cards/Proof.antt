@@ -1,0 +1,15 @@
+-- `no_cards` meets its contract. Assumes nothing.
+use Rattle.play.specs.History.{positionOf}
+use borrow.Author.Needs.{needs}
+use Rattle.judge.proofs.reading.no_cards.Statement.{statement}
+use Rattle.judge.proofs.reading.no_cards.Tie as tie
+
+new-requires : tie.Need-new-requires
+new-requires c κs = search needs
+
+returns : tie.Need-returns
+unfolding positionOf
+returns c = simp (c .new .ensures)
+
+pub no-cards-spec : {M : Type 1} → statement M
+no-cards-spec = tie.close (tie.spec new-requires returns)

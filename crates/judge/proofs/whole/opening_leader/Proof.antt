@@ -1,0 +1,17 @@
+-- `opening_leader` meets its contract. Assumes nothing.
+use Prim.Native.Nat.{ℕ, suc, _≤_, _<_, _+_, _-_, _*_}
+use native.Mathlib.Omega.{arith}
+use borrow.Author.Needs.{needs}
+use Rattle.laws.specs.Cards.{clockwise}
+use Rattle.judge.proofs.whole.opening_leader.Statement.{statement}
+use Rattle.judge.proofs.whole.opening_leader.Tie as tie
+
+add-result : tie.Need-add-result
+add-result c = search needs
+
+returns : tie.Need-returns
+unfolding clockwise
+returns c = omega arith
+
+pub opening-leader-spec : {M : Type 1} → statement M
+opening-leader-spec = tie.close (tie.spec add-result returns)

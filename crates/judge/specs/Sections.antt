@@ -1,0 +1,99 @@
+-- What the structs of the code say of a section's reading: a refusal as number × 1024 + place, or what was read, with positions for histories.
+-- Assumes nothing.
+use Prim.Native.Nat.{ℕ, zero, suc, _+_, _-_, _*_, _/_, _%_}
+use mathlib.Core.Bool.{Bool, true, false, not, _&&_, _||_}
+use mathlib.Core.List.{List, [], _∷_}
+use lib.Dec.{eqb, ltb, leb}
+use lib.ListN.{replicate}
+use Rattle.laws.specs.Choice.{if_then_else_}
+use Rattle.laws.specs.Refusals.{playCount, playUnfinished, noClaimPoint, claimTooMany}
+use Rattle.laws.specs.Law44.{cardsPlayed}
+use Rattle.laws.specs.CardRefusal.{cardRefusal}
+use Rattle.laws.specs.Law68.{Claim, none, agreed}
+use Rattle.laws.specs.Reading.{Reading, Reading.refused, Reading.found, Reader, onward, _>>=_, _>>_, give, numberAt, read, refuse, readEach}
+use Rattle.laws.specs.Judge as Law
+use Rattle.auction.specs.Position.{positionOf}
+use Rattle.play.specs.History as Play
+use Rattle.judge.specs.declared.reading.Heading.{Heading}
+use Rattle.judge.specs.declared.reading.Called.{Called}
+use Rattle.judge.specs.declared.reading.Dealt.{Dealt}
+use Rattle.judge.specs.declared.reading.Carded.{Carded}
+use Rattle.judge.specs.declared.reading.Claimed.{Claimed}
+
+-- a refusal's number and place as one number
+abbrev pub faultOf : ℕ → ℕ → ℕ
+faultOf n place = n * 1024 + place
+
+-- ---- board and table
+abbrev pub noHeading : ℕ → Heading
+noHeading fault = record { ok = false; fault = fault; board = 0; table = 0 }
+
+abbrev pub headingOf : Reading Law.Heading → Heading
+headingOf (refused n place) = noHeading (faultOf n place)
+headingOf (found top at) = record { ok = true; fault = 0; board = top .board; table = top .table }
+
+-- ---- calls
+abbrev pub noCalls : ℕ → Called
+noCalls fault = record { ok = false; fault = fault; next = 0; after = positionOf 0 [] }
+
+abbrev pub calledOf : ℕ → Reading (List ℕ) → Called
+calledOf dealer (refused n place) = noCalls (faultOf n place)
+calledOf dealer (found h at) = record { ok = true; fault = 0; next = at; after = positionOf dealer h }
+
+-- ---- deal
+-- n fields of w bits from a bit on
+unfoldable pub rowAt : List ℕ → ℕ → ℕ → ℕ → List ℕ
+rowAt bytes at w zero = []
+rowAt bytes at w (suc n) = numberAt bytes at w ∷ rowAt bytes (at + w) w n
+
+abbrev pub noDeal : ℕ → Dealt
+noDeal fault = record { ok = false; fault = fault; holders = replicate 52 0 }
+
+abbrev pub dealtOf : Reading (List ℕ) → Dealt
+dealtOf (refused n place) = noDeal (faultOf n place)
+dealtOf (found deal at) = record { ok = true; fault = 0; holders = deal }
+
+-- ---- cards
+abbrev pub noCards : ℕ → Carded
+noCards fault = record { ok = false; fault = fault; next = 0; after = Play.positionOf (replicate 52 0) 0 0 [] }
+
+abbrev pub cardedOf : List ℕ → ℕ → ℕ → Reading (List ℕ) → Carded
+cardedOf deal trump opening (refused n place) = noCards (faultOf n place)
+cardedOf deal trump opening (found g at) = record { ok = true; fault = 0; next = at; after = Play.positionOf deal trump opening g }
+
+-- the Laws' section by what it takes of the calls: whether they passed the board out, the trump and the opening leader
+unfoldable pub cardsBy : Bool → ℕ → ℕ → List ℕ → Reader (List ℕ)
+cardsBy out trump opening deal = do
+  count ← read 6
+  refuse playCount count (ltb 52 count || (out && ltb 0 count))
+  readEach 6 cardsPlayed (cardRefusal trump opening deal) count []
+
+-- ---- claim
+abbrev pub noClaim : ℕ → Claimed
+noClaim fault = record { ok = false; fault = fault; next = 0; marked = false; tricks = 0 }
+
+abbrev pub claimOf : Reading Claim → Claimed
+claimOf (refused n place) = noClaim (faultOf n place)
+claimOf (found none at) = record { ok = true; fault = 0; next = at; marked = false; tricks = 0 }
+claimOf (found (agreed tricks) at) = record { ok = true; fault = 0; next = at; marked = true; tricks = tricks }
+
+-- the Laws' section by the number of cards played
+unfoldable pub pointAt : ℕ → Bool
+pointAt played = eqb (played % 4) 0 && (leb 4 played && leb played 48)
+
+unfoldable pub noClaimBy : Bool → ℕ → Reader Claim
+noClaimBy out played = do
+  refuse playUnfinished played (not out && not (eqb played 52))
+  give none
+
+unfoldable pub markedBy : Bool → ℕ → Reader Claim
+markedBy out played = do
+  refuse noClaimPoint played (out || not (pointAt played))
+  tricks ← read 4
+  refuse claimTooMany tricks (not (leb tricks (13 - played / 4)))
+  give (agreed tricks)
+
+unfoldable pub claimBy : Bool → ℕ → Reader Claim
+claimBy out played = do
+  mark ← read 1
+  if eqb mark 0 then noClaimBy out played else markedBy out played

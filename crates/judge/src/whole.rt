@@ -1,0 +1,169 @@
+// The whole record judged: its sections in order, then the answer's bits and the revokes.
+use crate::reading::Claimed;
+use crate::reading::is_padding;
+use crate::reading::read_calls;
+use crate::reading::read_cards;
+use crate::reading::read_claim;
+use crate::reading::read_deal;
+use crate::reading::read_heading;
+use crate::settle::settle;
+use crate::settle::settle_passed_out;
+use auction::Auction;
+use auction::Contract;
+use play::Play;
+use play::Revokes;
+use play::Tricks;
+ghost use mathlib.Core.Path.{_≡_};
+ghost use mathlib.Core.List.{List};
+ghost use Prim.Native.Nat.{ℕ, _+_, _-_, _*_, _/_, _<_, _≤_};
+ghost use lib.ListN.{length};
+ghost use Rattle.laws.specs.Cards.{clockwise};
+ghost use Rattle.laws.specs.Record.{number};
+ghost use Rattle.laws.specs.Judge.{readRecord};
+ghost use Rattle.judge.specs.Whole.{noJudgement, judgedOf, boardFields, CardsTold, CallsTold, afterCards, afterCalls, afterDeal};
+
+// The answer's bits and the revokes, or why the record is refused.
+pub struct Judged {
+    pub ok: bool,
+    pub fault: u32,
+    pub pack: u64,
+    pub revokes: Revokes,
+}
+
+fn refused(fault: u32) -> Judged
+    ensures { λ r. ⌜ r ≡ noJudgement fault ⌝ }
+{
+    let revokes = Revokes {
+        count: 0,
+        list: [0u8; 36],
+    };
+    Judged {
+        ok: false,
+        fault,
+        pack: 0,
+        revokes,
+    }
+}
+
+// The tricks left after so many cards.
+fn tricks_left(played: u8) -> u8
+    ensures { λ r. ⌜ r ≡ 13 - played / 4 ⌝ }
+{
+    let complete = played / 4;
+    if 13 < complete {
+        return 0;
+    }
+    13 - complete
+}
+
+// The answer's bits, passed out or with a contract, with a claim or without one.
+fn settle_board(
+    board: u8,
+    table: u16,
+    out: bool,
+    k: Contract,
+    ts: Tricks,
+    rs: Revokes,
+    claimed: Claimed,
+    left: u8,
+) -> u64
+    ensures { λ r. ⌜ r ≡ number (boardFields board table out k ts rs claimed left) ⌝ }
+{
+    if out {
+        return settle_passed_out(board, table);
+    }
+    if claimed.marked {
+        return settle(board, table, k, ts, rs, claimed.tricks, left);
+    }
+    settle(board, table, k, ts, rs, 0, 0)
+}
+
+// The claim and the padding, and then the judgement.
+fn judge_claim(
+    bytes: &[u8],
+    board: u8,
+    table: u16,
+    out: bool,
+    k: Contract,
+    p: Play,
+    at: usize,
+) -> Judged
+    requires { ⌜ (p .tricks .count ≤ 13) × (p .trick .cards ≤ 3) × (at < 32768) ⌝ }
+    ensures { λ r. ⌜ ((deal h g : List ℕ) → CardsTold board out k deal h g p → r ≡ judgedOf (afterCards board table deal h g (now (bytes .entry)) at)) ⌝ }
+{
+    let ts = p.tricks;
+    let t = p.trick;
+    let rs = p.revokes;
+    let played = ts.count * 4 + t.cards;
+    let claimed = read_claim(bytes, out, played, at);
+    if !claimed.ok {
+        return refused(claimed.fault);
+    }
+    if !is_padding(bytes, claimed.next) {
+        return refused(16384);
+    }
+    let pack = settle_board(board, table, out, k, ts, rs, claimed, tricks_left(played));
+    Judged {
+        ok: true,
+        fault: 0,
+        pack,
+        revokes: rs,
+    }
+}
+
+// The seat that leads first: the one after declarer.
+fn opening_leader(declarer: u8) -> u8
+    ensures { λ r. ⌜ r ≡ clockwise declarer 1 ⌝ }
+{
+    (declarer % 4 + 1) % 4
+}
+
+// The cards, and what follows them.
+fn judge_play(
+    bytes: &[u8],
+    board: u8,
+    table: u16,
+    holders: [u8; 52],
+    a: Auction,
+    at: usize,
+) -> Judged
+    requires { ⌜ at < 16384 ⌝ }
+    ensures { λ r. ⌜ ((h : List ℕ) → CallsTold board a holders h → r ≡ judgedOf (afterCalls board table holders h (now (bytes .entry)) at)) ⌝ }
+{
+    let out = a.is_passed_out();
+    let k = a.contract();
+    let carded = read_cards(
+        bytes,
+        holders,
+        out,
+        k.strain,
+        opening_leader(k.declarer),
+        at,
+    );
+    if !carded.ok {
+        return refused(carded.fault);
+    }
+    let p = carded.after;
+    judge_claim(bytes, board, table, out, k, p, carded.next)
+}
+
+// The whole record.
+pub fn judge(bytes: &[u8]) -> Judged
+    ensures { λ r. ⌜ r ≡ judgedOf (readRecord (now (bytes .entry)) 0) ⌝ }
+{
+    let top = read_heading(bytes);
+    if !top.ok {
+        return refused(top.fault);
+    }
+    let dealt = read_deal(bytes);
+    if !dealt.ok {
+        return refused(dealt.fault);
+    }
+    let called = read_calls(bytes, deal::dealer(top.board), 120);
+    if !called.ok {
+        return refused(called.fault);
+    }
+    let holders = dealt.holders;
+    let a = called.after;
+    judge_play(bytes, top.board, top.table, holders, a, called.next)
+}

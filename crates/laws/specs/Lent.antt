@@ -1,0 +1,22 @@
+-- What the judge leaves in the two buffers that it is lent.
+-- Assumes nothing.
+use mathlib.Core.List.{List, _++_}
+use Prim.Native.Nat.{ℕ}
+use lib.ListN.{length, drop}
+use Rattle.laws.specs.Judge.{Outcome, Outcome.refused, Outcome.accepted}
+use Rattle.laws.specs.Judgement.{answerBytes, revokeBytes}
+
+infixr 5 _over_
+-- bytes over the front of a buffer; the buffer's bytes behind them stay
+unfoldable pub _over_ : List ℕ → List ℕ → List ℕ
+_over_ front old = front ++ drop (length front) old
+
+-- the answer's buffer: as it was where the judge refuses, else the seven bytes of the answer over its front
+unfoldable pub answerLeft : Outcome → List ℕ → List ℕ
+answerLeft (refused n place) old = old
+answerLeft (accepted p) old = answerBytes p over old
+
+-- the revoke list's buffer: as it was where the judge refuses, else a byte for each revoke over its front
+unfoldable pub listLeft : Outcome → List ℕ → List ℕ
+listLeft (refused n place) old = old
+listLeft (accepted p) old = revokeBytes p over old
