@@ -4,7 +4,7 @@
 # make bench     the proved judge's speed beside the Rust judge's
 # make fuzz      compares on random records, trees and sheets for FUZZ_SECONDS, from SEED where it is given
 # What is built beside the proofs stands in build/, since `rt ci` removes target/.
-.PHONY: test demo install bench fuzz outside clean tools rt-tool FORCE
+.PHONY: test demo install install-files bench fuzz outside clean tools rt-tool FORCE
 
 PREFIX = /usr/local
 FUZZ_SECONDS = 60
@@ -45,10 +45,12 @@ tools: rt-tool
 
 $(ARCHIVE) $(TREE) $(SHEET) $(MERGES): | rt-tool
 
-target/staticlib/libjudge.a: FORCE
+SOURCES = crates.txt $(shell find crates -name '*.rt' -o -name '*.antt')
+
+target/staticlib/libjudge.a: $(SOURCES)
 	rt staticlib judge
 
-target/bin/%: FORCE
+target/bin/%: $(SOURCES)
 	rt check $*
 
 build/stand-in/libjudge.a: FORCE
@@ -70,6 +72,9 @@ demo: build/terminal $(SHEET)
 	@$(SHEET) <samples/scores
 
 install: $(ARCHIVE)
+	@$(MAKE) --no-print-directory install-files
+
+install-files:
 	mkdir -p $(DESTDIR)$(PREFIX)/include $(DESTDIR)$(PREFIX)/lib/pkgconfig
 	cp include/judge.h $(DESTDIR)$(PREFIX)/include/judge.h
 	cp $(ARCHIVE) $(DESTDIR)$(PREFIX)/lib/libjudge.a
@@ -88,7 +93,7 @@ outside: tools build/rust-built build/terminal $(TREE) $(SHEET)
 	@mkdir -p build/work
 	tests/terminal.sh build/terminal build/work
 	rm -rf build/installed
-	$(MAKE) --no-print-directory install PREFIX=$(abspath build/installed) ARCHIVE=$(ARCHIVE)
+	@$(MAKE) --no-print-directory install-files PREFIX=$(abspath build/installed)
 	tests/install.sh $(abspath build/installed) $(CC)
 	$(CARGO) test --release --offline --locked --quiet --test examples --test faults
 	$(RUST)/records --count $(RECORDS) $(SEED_WORDS)
