@@ -1,0 +1,114 @@
+/* The judge of table records of duplicate bridge, for C99 and C++.
+ *
+ * The library libjudge.a has one function, judge_record. It is proved to do what this header says of it, for every record and every
+ * buffer. The helpers below it are plain C and are tested, not proved. docs/01-scope.md has the record's layout and the rules. */
+#ifndef JUDGE_H
+#define JUDGE_H
+
+#include <stddef.h>
+#include <stdint.h>
+
+#ifdef __cplusplus
+extern "C" {
+#endif
+
+/* The least lengths of the two buffers, and the most bytes that an accepted record can have. */
+enum { JUDGE_ANSWER_BYTES = 7, JUDGE_REVOKE_BYTES = 36, JUDGE_RECORD_MOST = 296 };
+
+/* Judges one table record.
+ *
+ * Returns 0 if the record is accepted: seven bytes of `answer` are filled, and one byte of `revokes` for each revoke, in order of play.
+ * Their other bytes stay as they were. Otherwise returns refusal * 1024 + place, and no byte of either buffer is changed. The record
+ * is never changed. Nothing is kept between calls, so calls may run at the same time.
+ *
+ * No record and no length is trusted. What C has to see to is this, and nothing else:
+ *   - each pointer has as many bytes as the length beside it says, the two buffers writable;
+ *   - no two of the three overlap;
+ *   - no pointer is null, not even beside the length 0. judge_record_or_null takes null pointers. */
+uint32_t judge_record(const uint8_t *record, size_t record_len, uint8_t *answer, size_t answer_len, uint8_t *revokes,
+                      size_t revokes_len);
+
+/* The refusals, in the order of the checks: the first one that applies is returned. Calls and plays count from 0. */
+enum judge_refusal {
+    JUDGE_ACCEPTED = 0,
+    JUDGE_BUFFER_TOO_SHORT = 1,      /* place 0: answer under 7 bytes; 1: revokes under 36 */
+    JUDGE_RECORD_ENDS = 2,           /* the record ends before a field is whole; place 0 */
+    JUDGE_NO_BOARD_OR_TABLE = 3,     /* place 0: board 0; 1: table 0 */
+    JUDGE_NOT_THIRTEEN_CARDS = 4,    /* Law 1; place: the first such seat */
+    JUDGE_NO_SUCH_CALL = 5,          /* call code 38 to 63; place: the call */
+    JUDGE_BID_NOT_ABOVE = 6,         /* Law 27: bid not above the last bid; place: the call */
+    JUDGE_DOUBLE_NOT_ALLOWED = 7,    /* Law 36: double or redouble not allowed; place: the call */
+    JUDGE_CALL_AFTER_END = 8,        /* Law 39; place: the call */
+    JUDGE_AUCTION_NOT_OVER = 9,      /* Law 22; place: the number of calls */
+    JUDGE_PLAY_COUNT = 10,           /* over 52, or over 0 when passed out; place: the play count */
+    JUDGE_NO_SUCH_CARD = 11,         /* card code 52 to 63; place: the play */
+    JUDGE_CARD_NOT_HELD = 12,        /* Law 44: card not in that hand; place: the play */
+    JUDGE_CARDS_MISSING = 13,        /* a contract, no claim, under 52 cards; place: the play count */
+    JUDGE_CLAIM_NOT_ALLOWED = 14,    /* Law 68: claim at another point, or passed out; place: the play count */
+    JUDGE_CLAIM_TOO_HIGH = 15,       /* Law 68: more tricks than are left; place: the claim */
+    JUDGE_NOT_ENDED = 16             /* a padding bit is 1, or a byte follows; place 0 */
+};
+
+/* The two parts of a number that is not 0. */
+static inline enum judge_refusal judge_refusal_of(uint32_t number) { return (enum judge_refusal)(number / 1024u); }
+static inline unsigned judge_place_of(uint32_t number) { return (unsigned)(number % 1024u); }
+
+/* judge_record, for callers that may have a null pointer: a null pointer is a slice of length 0, whatever length is given with it. */
+static inline uint32_t judge_record_or_null(const uint8_t *record, size_t record_len, uint8_t *answer, size_t answer_len,
+                                            uint8_t *revokes, size_t revokes_len) {
+    uint8_t no_record = 0, no_answer = 0, no_revokes = 0;
+    return judge_record(record ? record : &no_record, record ? record_len : 0, answer ? answer : &no_answer,
+                        answer ? answer_len : 0, revokes ? revokes : &no_revokes, revokes ? revokes_len : 0);
+}
+
+/* Seats: N 0, E 1, S 2, W 3. Strains: clubs 0, diamonds 1, hearts 2, spades 3, notrump 4. */
+struct judge_judgement {
+    unsigned board;           /* 1 to 127 */
+    unsigned table;           /* 1 to 511 */
+    unsigned level;           /* 1 to 7, or 0 if passed out; then all below are 0 */
+    unsigned strain;
+    unsigned doubling;        /* 0, 1 doubled, 2 redoubled */
+    unsigned declarer;        /* seat */
+    unsigned tricks;          /* won by declarer's side */
+    unsigned tricks_after_64; /* the same after Law 64 */
+    unsigned revokes;         /* bytes filled in the list */
+    int score;                /* for NS */
+};
+
+/* The seven bytes of an accepted record, apart. */
+static inline struct judge_judgement judge_unpack(const uint8_t answer[JUDGE_ANSWER_BYTES]) {
+    struct judge_judgement j;
+    unsigned score = (unsigned)answer[5] << 8 | answer[6];
+    j.board = answer[0] >> 1;
+    j.table = (answer[0] & 1u) << 8 | answer[1];
+    j.level = answer[2] >> 5;
+    j.strain = answer[2] >> 2 & 7u;
+    j.doubling = answer[2] & 3u;
+    j.declarer = answer[3] >> 6;
+    j.tricks = answer[3] >> 2 & 15u;
+    j.tricks_after_64 = (answer[3] & 3u) << 2 | answer[4] >> 6;
+    j.revokes = answer[4] & 63u;
+    j.score = (int)score - (score >= 0x8000u ? 0x10000 : 0);
+    return j;
+}
+
+struct judge_revoke {
+    unsigned trick; /* 1 to 13 */
+    unsigned seat;
+    unsigned suit;  /* the suit led */
+};
+
+/* One byte of the list of revokes, apart. */
+static inline struct judge_revoke judge_unpack_revoke(uint8_t byte) {
+    struct judge_revoke r;
+    r.trick = byte >> 4;
+    r.seat = byte >> 2 & 3u;
+    r.suit = byte & 3u;
+    return r;
+}
+
+#ifdef __cplusplus
+}
+#endif
+
+#endif

@@ -1,0 +1,55 @@
+#include "words.h"
+
+#include "judge.h"
+
+static const char *const SEATS[] = {"N", "E", "S", "W"};
+static const char *const STRAINS[] = {"C", "D", "H", "S", "NT"};
+static const char *const SUITS[] = {"clubs", "diamonds", "hearts", "spades"};
+static const char *const DOUBLINGS[] = {"", " doubled", " redoubled"};
+
+static void print_revokes(FILE *out, const uint8_t *revokes, unsigned count) {
+    for (unsigned k = 0; k < count; k++) {
+        struct judge_revoke r = judge_unpack_revoke(revokes[k]);
+        const char *before = k > 0 ? "; " : count > 1 ? "; revokes: " : "; revoke: ";
+        fprintf(out, "%strick %u, %s, %s", before, r.trick, SEATS[r.seat], SUITS[r.suit]);
+    }
+}
+
+void print_judgement(FILE *out, const uint8_t *answer, const uint8_t *revokes) {
+    struct judge_judgement j = judge_unpack(answer);
+    fprintf(out, "Board %u table %u: ", j.board, j.table);
+    if (j.level == 0) {
+        fprintf(out, "passed out, NS %d\n", j.score);
+        return;
+    }
+    fprintf(out, "%u%s%s by %s, ", j.level, STRAINS[j.strain], DOUBLINGS[j.doubling], SEATS[j.declarer]);
+    fprintf(out, "%u trick%s, ", j.tricks, j.tricks == 1 ? "" : "s");
+    if (j.revokes > 0) fprintf(out, "%u after Law 64, ", j.tricks_after_64);
+    fprintf(out, "NS %d", j.score);
+    print_revokes(out, revokes, j.revokes);
+    fprintf(out, "\n");
+}
+
+void print_refusal(FILE *out, uint32_t number) {
+    unsigned place = judge_place_of(number);
+    switch (judge_refusal_of(number)) {
+    case JUDGE_ACCEPTED: fprintf(out, "accepted\n"); return;
+    case JUDGE_BUFFER_TOO_SHORT: fprintf(out, place ? "list of revokes under 36 bytes\n" : "answer under 7 bytes\n"); return;
+    case JUDGE_RECORD_ENDS: fprintf(out, "the record ends before a field is whole\n"); return;
+    case JUDGE_NO_BOARD_OR_TABLE: fprintf(out, place ? "table 0\n" : "board 0\n"); return;
+    case JUDGE_NOT_THIRTEEN_CARDS: fprintf(out, "deal: %s does not have 13 cards\n", SEATS[place & 3u]); return;
+    case JUDGE_NO_SUCH_CALL: fprintf(out, "call %u: no such call\n", place); return;
+    case JUDGE_BID_NOT_ABOVE: fprintf(out, "call %u: bid not above the last bid\n", place); return;
+    case JUDGE_DOUBLE_NOT_ALLOWED: fprintf(out, "call %u: double or redouble not allowed\n", place); return;
+    case JUDGE_CALL_AFTER_END: fprintf(out, "call %u: the auction was over\n", place); return;
+    case JUDGE_AUCTION_NOT_OVER: fprintf(out, "after %u calls: the auction is not over\n", place); return;
+    case JUDGE_PLAY_COUNT: fprintf(out, "play count %u: over 52, or cards for a passed-out board\n", place); return;
+    case JUDGE_NO_SUCH_CARD: fprintf(out, "play %u: no such card\n", place); return;
+    case JUDGE_CARD_NOT_HELD: fprintf(out, "play %u: card not in that hand\n", place); return;
+    case JUDGE_CARDS_MISSING: fprintf(out, "after %u cards: no claim, and not all 52 cards\n", place); return;
+    case JUDGE_CLAIM_NOT_ALLOWED: fprintf(out, "after %u cards: a claim cannot stand here\n", place); return;
+    case JUDGE_CLAIM_TOO_HIGH: fprintf(out, "claim of %u: more tricks than are left\n", place); return;
+    case JUDGE_NOT_ENDED: fprintf(out, "a padding bit is 1, or a byte follows the record\n"); return;
+    }
+    fprintf(out, "unknown refusal %lu\n", (unsigned long)number);
+}

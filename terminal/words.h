@@ -1,0 +1,14 @@
+/* A judgement or a refusal in the words that people read. */
+#ifndef WORDS_H
+#define WORDS_H
+
+#include <stdint.h>
+#include <stdio.h>
+
+/* `Board 7 table 12: 4S doubled by N, 10 tricks, 9 after Law 64, NS -200; revoke: trick 5, N, hearts`, and a newline. */
+void print_judgement(FILE *out, const uint8_t *answer, const uint8_t *revokes);
+
+/* `call 7: bid not above the last bid`, and a newline. */
+void print_refusal(FILE *out, uint32_t number);
+
+#endif

@@ -1,0 +1,130 @@
+/* Tries include/judge.h as C99 and as C++: the helpers on bytes worked out by hand, null pointers, short buffers, and document 01's
+ * example of bytes. */
+#include "judge.h"
+
+#include <stdio.h>
+#include <string.h>
+
+static int failed = 0;
+
+static void expect(const char *what, long is, long due) {
+    if (is == due) return;
+    failed = 1;
+    printf("%s: %ld, to be %ld\n", what, is, due);
+}
+
+/* Board 7 table 12: 4S doubled by N, 10 tricks, 9 after Law 64, NS -200, one revoke:
+ * 0000111 000001100 100 011 01 00 1010 1001 000001 1111111100111000 */
+static void unpacks_the_answer(void) {
+    const uint8_t bytes[JUDGE_ANSWER_BYTES] = {0x0E, 0x0C, 0x8D, 0x2A, 0x41, 0xFF, 0x38};
+    const struct judge_judgement j = judge_unpack(bytes);
+    expect("board", (long)j.board, 7);
+    expect("table", (long)j.table, 12);
+    expect("level", (long)j.level, 4);
+    expect("strain", (long)j.strain, 3);
+    expect("doubling", (long)j.doubling, 1);
+    expect("declarer", (long)j.declarer, 0);
+    expect("tricks", (long)j.tricks, 10);
+    expect("tricks after Law 64", (long)j.tricks_after_64, 9);
+    expect("revokes", (long)j.revokes, 1);
+    expect("score", j.score, -200);
+}
+
+/* Board 127 table 511: 7NT redoubled by W, 13 tricks, 0 after, 36 revokes, NS 7600:
+ * 1111111 111111111 111 100 10 11 1101 0000 100100 0001110110110000 */
+static void unpacks_the_largest(void) {
+    const uint8_t bytes[JUDGE_ANSWER_BYTES] = {0xFF, 0xFF, 0xF2, 0xF4, 0x24, 0x1D, 0xB0};
+    const struct judge_judgement j = judge_unpack(bytes);
+    expect("board", (long)j.board, 127);
+    expect("table", (long)j.table, 511);
+    expect("level", (long)j.level, 7);
+    expect("strain", (long)j.strain, 4);
+    expect("doubling", (long)j.doubling, 2);
+    expect("declarer", (long)j.declarer, 3);
+    expect("tricks", (long)j.tricks, 13);
+    expect("tricks after Law 64", (long)j.tricks_after_64, 0);
+    expect("revokes", (long)j.revokes, 36);
+    expect("score", j.score, 7600);
+}
+
+/* Trick 5, N, hearts: 0101 00 10; trick 12, W, spades: 1100 11 11. */
+static void unpacks_a_revoke(void) {
+    struct judge_revoke r = judge_unpack_revoke(0x52);
+    expect("trick", (long)r.trick, 5);
+    expect("seat", (long)r.seat, 0);
+    expect("suit", (long)r.suit, 2);
+    r = judge_unpack_revoke(0xCF);
+    expect("trick", (long)r.trick, 12);
+    expect("seat", (long)r.seat, 3);
+    expect("suit", (long)r.suit, 3);
+}
+
+static void unpacks_a_number(void) {
+    expect("refusal of 6151", judge_refusal_of(6151), JUDGE_BID_NOT_ABOVE);
+    expect("place of 6151", (long)judge_place_of(6151), 7);
+    expect("the last refusal", JUDGE_NOT_ENDED, 16);
+}
+
+/* N all clubs, E diamonds, S hearts, W spades, four passes; and a byte that is no part of it. */
+static const uint8_t PASSED_OUT[21] = {0x02, 0x01, 0x00, 0x00, 0x00, 0x15, 0x55, 0x55, 0x5A, 0xAA, 0xAA,
+                                       0xAB, 0xFF, 0xFF, 0xFF, 0x02, 0x00, 0x00, 0x00, 0x00, 0x00};
+static const uint8_t PASSED_OUT_ANSWER[7] = {0x02, 0x01, 0, 0, 0, 0, 0};
+
+static uint8_t answer[40], revokes[80], all_fives[80];
+
+static void fill(void) {
+    memset(answer, 0x55, sizeof answer);
+    memset(revokes, 0x55, sizeof revokes);
+    memset(all_fives, 0x55, sizeof all_fives);
+}
+
+static void expect_untouched(const char *what) {
+    expect(what, memcmp(answer, all_fives, sizeof answer) != 0 || memcmp(revokes, all_fives, sizeof revokes) != 0, 0);
+}
+
+static void judges_the_example(void) {
+    fill();
+    expect("the example", (long)judge_record(PASSED_OUT, 20, answer, 40, revokes, 80), 0);
+    expect("its answer", memcmp(answer, PASSED_OUT_ANSWER, 7), 0);
+    expect("the bytes after it", memcmp(answer + 7, all_fives, 33), 0);
+    expect("its list", memcmp(revokes, all_fives, 80), 0);
+    fill();
+    expect("one byte less", (long)judge_record(PASSED_OUT, 19, answer, 40, revokes, 80), 2 * 1024);
+    expect("one byte more", (long)judge_record(PASSED_OUT, 21, answer, 40, revokes, 80), 16 * 1024);
+    expect("no byte", (long)judge_record(PASSED_OUT, 0, answer, 40, revokes, 80), 2 * 1024);
+    expect_untouched("buffers after a refusal");
+}
+
+static void refuses_short_buffers(void) {
+    fill();
+    expect("answer of 6", (long)judge_record(PASSED_OUT, 20, answer, 6, revokes, 36), 1024);
+    expect("answer of 0", (long)judge_record(PASSED_OUT, 20, answer, 0, revokes, 36), 1024);
+    expect("list of 35", (long)judge_record(PASSED_OUT, 20, answer, 7, revokes, 35), 1025);
+    expect("both short", (long)judge_record(PASSED_OUT, 20, answer, 6, revokes, 35), 1024);
+    expect_untouched("buffers that are too short");
+}
+
+static void takes_null_pointers(void) {
+    fill();
+    expect("null record", (long)judge_record_or_null(NULL, 0, answer, 40, revokes, 80), 2 * 1024);
+    expect("null record with a length", (long)judge_record_or_null(NULL, 20, answer, 40, revokes, 80), 2 * 1024);
+    expect("null answer", (long)judge_record_or_null(PASSED_OUT, 20, NULL, 0, revokes, 80), 1024);
+    expect("null answer with a length", (long)judge_record_or_null(PASSED_OUT, 20, NULL, 7, revokes, 80), 1024);
+    expect("null list", (long)judge_record_or_null(PASSED_OUT, 20, answer, 40, NULL, 0), 1025);
+    expect("null list with a length", (long)judge_record_or_null(PASSED_OUT, 20, answer, 40, NULL, 36), 1025);
+    expect("all null", (long)judge_record_or_null(NULL, 0, NULL, 0, NULL, 0), 1024);
+    expect_untouched("buffers beside null pointers");
+    expect("no null", (long)judge_record_or_null(PASSED_OUT, 20, answer, 40, revokes, 80), 0);
+    expect("its answer", memcmp(answer, PASSED_OUT_ANSWER, 7), 0);
+}
+
+int main(void) {
+    unpacks_the_answer();
+    unpacks_the_largest();
+    unpacks_a_revoke();
+    unpacks_a_number();
+    judges_the_example();
+    refuses_short_buffers();
+    takes_null_pointers();
+    return failed;
+}

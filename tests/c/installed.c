@@ -1,0 +1,15 @@
+#include <judge.h>
+#include <stdio.h>
+
+int main(void) {
+    uint8_t record[512], answer[JUDGE_ANSWER_BYTES], revokes[JUDGE_REVOKE_BYTES];
+    size_t length = fread(record, 1, sizeof record, stdin);
+    uint32_t number = judge_record(record, length, answer, sizeof answer, revokes, sizeof revokes);
+    if (number != 0) {
+        printf("refused: number %d, place %u\n", judge_refusal_of(number), judge_place_of(number));
+        return 1;
+    }
+    struct judge_judgement j = judge_unpack(answer);
+    printf("board %u: NS %d, %u revokes\n", j.board, j.score, j.revokes);
+    return 0;
+}

@@ -1,0 +1,113 @@
+//! Times the proved judge and the Rust judge on the same records in one run, and merges of tallies. docs/PERFORMANCE.md says what it measures.
+use outside::compare::Judge;
+use outside::making::{self, Made};
+use outside::random::Random;
+use outside::run::{output_of, stop, Words};
+use outside::tally::Tally;
+use outside::{judge, proved};
+use std::hint::black_box;
+use std::time::{Duration, Instant};
+
+/// Records of a set: many enough that no branch is learnt by heart.
+const RECORDS: usize = 5_000;
+/// Each judge is timed so often, in turns; the figure is the middle one.
+const TURNS: usize = 15;
+const TURN: Duration = Duration::from_millis(150);
+
+fn main() {
+    let words = Words::given();
+    let mut random = Random::new(words.number("--seed").unwrap_or(2017));
+    println!("| records | proved, a second | Rust, a second | proved / Rust |");
+    println!("|---|---|---|---|");
+    line("52 cards, 4 to 16 calls", &set(&mut random, |r| full(r, 4, 16)));
+    line("all shapes that are accepted", &set(&mut random, making::lawful));
+    for calls in [4, 20, 80, 160, 319] {
+        line(&format!("52 cards, {calls} calls"), &set(&mut random, |r| full(r, calls, calls)));
+    }
+    for tricks in [1, 4, 8, 12] {
+        let claim = |r: &mut Random| making::with_claim_after(r, tricks);
+        line(&format!("{} cards and a claim, 4 to 7 calls", 4 * tricks), &set(&mut random, claim));
+    }
+    let program = words.text("--merges").unwrap_or_else(|| stop("--merges needs the path of the program merge_speed"));
+    merges(program);
+}
+
+fn full(random: &mut Random, least: usize, most: usize) -> Made {
+    let calls = random.between(least, most);
+    making::with_calls(random, calls)
+}
+
+fn set(random: &mut Random, make: impl Fn(&mut Random) -> Made) -> Vec<Vec<u8>> {
+    (0..RECORDS).map(|_| make(random).parts.bytes()).collect()
+}
+
+/// Records judged a second by each judge.
+fn line(what: &str, records: &[Vec<u8>]) {
+    let mut rates = [Vec::new(), Vec::new()];
+    for _ in 0..TURNS {
+        for (rates, judge) in rates.iter_mut().zip([proved::judge as Judge, judge::judge]) {
+            rates.push(rate(judge, records));
+        }
+    }
+    let [proved, rust] = rates.map(middle);
+    println!("| {what} | {proved:.0} | {rust:.0} | {:.2} |", proved / rust);
+}
+
+fn rate(judge: Judge, records: &[Vec<u8>]) -> f64 {
+    let (mut answer, mut list) = ([0; 7], [0; 36]);
+    let start = Instant::now();
+    let mut judged = 0;
+    while start.elapsed() < TURN {
+        for record in records {
+            let number = black_box(judge)(black_box(record), black_box(&mut answer), black_box(&mut list));
+            assert_eq!(number, 0, "a record that is accepted");
+        }
+        judged += records.len();
+    }
+    judged as f64 / start.elapsed().as_secs_f64()
+}
+
+fn middle(mut figures: Vec<f64>) -> f64 {
+    figures.sort_by(f64::total_cmp);
+    figures[figures.len() / 2]
+}
+
+/// Bytes given to the program, which merges a thousand times for each.
+const MERGE_BYTES: usize = 1_000;
+const MERGES: usize = 1_000 * MERGE_BYTES;
+
+/// 64 distinct scores, each 20 below the one before it.
+fn filled(top: i32) -> Tally {
+    let mut tally = Tally::fresh(1).expect("board 1 has a tally");
+    for k in 0..64 {
+        tally.add(top - 20 * k).expect("a valid score");
+    }
+    tally
+}
+
+/// Merges of two tallies of 64 results into one of 128.
+fn merges(program: &str) {
+    let (a, b) = (filled(1290), filled(1280));
+    let timed = |work: &dyn Fn()| {
+        let start = Instant::now();
+        work();
+        start.elapsed().as_secs_f64()
+    };
+    let merge = |checked: bool| {
+        for _ in 0..MERGES {
+            let (a, b) = (black_box(&a), black_box(&b));
+            assert!(!checked || (a.described() && b.described()), "a tally as document 01 describes it");
+            black_box(a.merge(b)).expect("a merge that is accepted");
+        }
+    };
+    let input = vec![0; MERGE_BYTES];
+    let started = |input: &[u8]| timed(&|| drop(black_box(output_of(program, input))));
+    let figures = |one: &dyn Fn() -> f64| middle((0..5).map(|_| one()).collect()) * 1e6 / MERGES as f64;
+    let proved = figures(&|| started(&input) - started(&[]));
+    let rust = figures(&|| timed(&|| merge(false)));
+    let checked = figures(&|| timed(&|| merge(true)));
+    println!("\n| merging two tallies of 64 results | microseconds | proved / this, in speed |\n|---|---|---|");
+    println!("| proved, both tallies tested for 17 | {proved:.3} | 1 |");
+    println!("| Rust, both tallies tested for 17 | {checked:.3} | {:.2} |", checked / proved);
+    println!("| Rust, no test | {rust:.3} | {:.2} |", rust / proved);
+}

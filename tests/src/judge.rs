@@ -1,0 +1,183 @@
+//! The judge: a record read in document 01's order, judged as it is read.
+use crate::auction::{Auction, Contract, NO_CALL};
+use crate::deal;
+use crate::law64;
+use crate::play::{Play, MOST_REVOKES, NO_CARD};
+use crate::reader::Reader;
+use crate::score;
+
+pub const ANSWER_BYTES: usize = 7;
+
+/// What is returned for a refusal: its number times 1024, and its place.
+pub type Refused = u32;
+
+fn refused(number: u32, place: u64) -> Refused {
+    number * 1024 + place as u32
+}
+
+/// The bytes that the judge writes.
+pub struct Judgement {
+    pub answer: [u8; ANSWER_BYTES],
+    revokes: usize,
+    list: [u8; MOST_REVOKES],
+}
+
+impl Judgement {
+    pub fn revokes(&self) -> &[u8] {
+        &self.list[..self.revokes]
+    }
+}
+
+/// Judges a record: 0 and the bytes written, or a refusal and nothing written.
+pub fn judge(record: &[u8], answer: &mut [u8], list: &mut [u8]) -> u32 {
+    if answer.len() < ANSWER_BYTES {
+        return refused(1, 0);
+    }
+    if list.len() < MOST_REVOKES {
+        return refused(1, 1);
+    }
+    match read(record) {
+        Ok(judgement) => {
+            answer[..ANSWER_BYTES].copy_from_slice(&judgement.answer);
+            list[..judgement.revokes].copy_from_slice(judgement.revokes());
+            0
+        }
+        Err(number) => number,
+    }
+}
+
+#[inline]
+fn field(bits: &mut Reader, width: u32) -> Result<u64, Refused> {
+    bits.take(width).ok_or(refused(2, 0))
+}
+
+/// A record's judgement, with buffers of the sizes that it needs.
+pub fn read(record: &[u8]) -> Result<Judgement, Refused> {
+    let mut bits = Reader::new(record);
+    let place = field(&mut bits, 16)?;
+    let (board, table) = ((place >> 9) as u8, place & 511);
+    if board == 0 {
+        return Err(refused(3, 0));
+    }
+    if table == 0 {
+        return Err(refused(3, 1));
+    }
+    let hands = deal::hands(field(&mut bits, 52)?, field(&mut bits, 52)?);
+    if let Some(seat) = deal::without_thirteen(&hands) {
+        return Err(refused(4, u64::from(seat)));
+    }
+    let Some(contract) = calls(&mut bits, score::dealer(board))? else {
+        passed_out(&mut bits)?;
+        return Ok(Judgement { answer: pack(place, 0), revokes: 0, list: [0; MOST_REVOKES] });
+    };
+    let mut play = Play::new(hands, contract.strain, contract.declarer);
+    let claimed = cards(&mut bits, &mut play)?;
+    padding(&bits)?;
+    Ok(judgement(place, &contract, &play, claimed))
+}
+
+/// The calls, and the contract they reach, nothing where the board is passed out.
+fn calls(bits: &mut Reader, dealer: u8) -> Result<Option<Contract>, Refused> {
+    let count = field(bits, 9)?;
+    let mut auction = Auction::new(dealer);
+    for k in 0..count {
+        let code = field(bits, 6)?;
+        if code >= NO_CALL {
+            return Err(refused(5, k));
+        }
+        auction.call(code).map_err(|fault| refused(fault as u32, k))?;
+    }
+    if !auction.over() {
+        return Err(refused(9, count));
+    }
+    Ok(auction.contract())
+}
+
+/// What follows the calls of a passed-out board.
+fn passed_out(bits: &mut Reader) -> Result<(), Refused> {
+    let count = field(bits, 6)?;
+    if count > 0 {
+        return Err(refused(10, count));
+    }
+    if field(bits, 1)? == 1 {
+        return Err(refused(14, 0));
+    }
+    padding(bits)
+}
+
+/// The cards and the claim: the tricks claimed for declarer's side, 0 where there is no claim.
+fn cards(bits: &mut Reader, play: &mut Play) -> Result<u8, Refused> {
+    let count = field(bits, 6)?;
+    if count > 52 {
+        return Err(refused(10, count));
+    }
+    let mut trick = play.trick;
+    for k in 0..count {
+        let card = field(bits, 6)?;
+        if card >= NO_CARD {
+            return Err(refused(11, k));
+        }
+        if !trick.card(&mut play.cards, card) {
+            return Err(refused(12, k));
+        }
+    }
+    play.trick = trick;
+    if field(bits, 1)? == 0 {
+        return if count < 52 { Err(refused(13, count)) } else { Ok(0) };
+    }
+    if count == 0 || count == 52 || count % 4 != 0 {
+        return Err(refused(14, count));
+    }
+    let claim = field(bits, 4)?;
+    if claim > 13 - count / 4 {
+        return Err(refused(15, claim));
+    }
+    Ok(claim as u8)
+}
+
+fn padding(bits: &Reader) -> Result<(), Refused> {
+    if bits.only_padding_left() {
+        Ok(())
+    } else {
+        Err(refused(16, 0))
+    }
+}
+
+fn judgement(place: u64, contract: &Contract, play: &Play, claim: u8) -> Judgement {
+    let side = contract.declarer & 1;
+    let winners = play.winners();
+    let left = 13 - winners.len() as u8;
+    let tricks = claim + winners.iter().map(|w| u8::from(w & 1 == side)).sum::<u8>();
+    let claimed = if side == 0 { [claim, left - claim] } else { [left - claim, claim] };
+    let after = match law64::transferred(play.revokes(), winners, contract.declarer, claimed) {
+        None => tricks,
+        Some((loser, n)) if loser == side => tricks - n,
+        Some((_, n)) => tricks + n,
+    };
+    let vulnerable = score::vulnerable((place >> 9) as u8, contract.declarer);
+    let points = score::contract_score(contract, vulnerable, after);
+    let north_south = if side == 0 { points } else { -points } as i16;
+    let revokes = play.revokes();
+    let from_level = [
+        (u64::from(contract.level), 3),
+        (u64::from(contract.strain), 3),
+        (u64::from(contract.doubling), 2),
+        (u64::from(contract.declarer), 2),
+        (u64::from(tricks), 4),
+        (u64::from(after), 4),
+        (revokes.len() as u64, 6),
+        (u64::from(north_south as u16), 16),
+    ]
+    .iter()
+    .fold(0, |word, &(value, width)| word << width | value);
+    let mut list = [0; MOST_REVOKES];
+    list[..revokes.len()].copy_from_slice(revokes);
+    Judgement { answer: pack(place, from_level), revokes: revokes.len(), list }
+}
+
+/// The seven bytes: board and table, and the forty bits from the level on.
+fn pack(place: u64, from_level: u64) -> [u8; ANSWER_BYTES] {
+    let word = place << 40 | from_level;
+    let bytes = word.to_be_bytes();
+    bytes[1..].try_into().expect("seven of eight bytes")
+}

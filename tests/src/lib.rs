@@ -1,0 +1,26 @@
+//! A judge, a tally and a sheet for duplicate bridge, written from document 01 alone (docs/01-scope.md), and what is needed to compare
+//! the proved library with them: records of all shapes, damaged records, trees of tally calls, sheets.
+
+pub mod auction;
+pub mod compare;
+pub mod damage;
+pub mod deal;
+pub mod judge;
+pub mod law64;
+pub mod making;
+pub mod parts;
+pub mod play;
+pub mod random;
+pub mod reader;
+pub mod run;
+pub mod score;
+pub mod scripts;
+pub mod sheet;
+pub mod tally;
+pub mod tree;
+pub mod trial;
+
+#[cfg(not(feature = "stand_in"))]
+pub mod proved;
+#[cfg(feature = "stand_in")]
+pub mod stand_in;

@@ -1,0 +1,112 @@
+//! Records that the Laws allow, of all shapes.
+mod calls;
+mod cards;
+
+use crate::auction::{Auction, Contract};
+use crate::deal::Hands;
+use crate::parts::Parts;
+use crate::random::Random;
+use crate::score;
+
+/// A lawful record, with what was known when it was made.
+#[derive(Clone, Debug)]
+pub struct Made {
+    pub parts: Parts,
+    pub contract: Option<Contract>,
+    pub hands: Hands,
+}
+
+impl Made {
+    pub fn dealer(&self) -> u8 {
+        score::dealer(self.parts.board as u8)
+    }
+
+    fn new(board: u64, table: u64, deal: Vec<u64>, calls: Vec<u64>) -> Made {
+        let mut auction = Auction::new(score::dealer(board as u8));
+        for &call in &calls {
+            auction.call(call).expect("a lawful call");
+        }
+        assert!(auction.over(), "an auction that is over");
+        let mut hands = [0; 4];
+        for (card, &holder) in deal.iter().enumerate() {
+            hands[holder as usize] |= 1 << card;
+        }
+        let cards = Vec::new();
+        let mut parts =
+            Parts { board, table, deal, call_count: 0, calls, play_count: 0, cards, claim: None, padding: 0, after: Vec::new() };
+        parts.count();
+        Made { parts, contract: auction.contract(), hands }
+    }
+}
+
+/// A lawful record of a random shape.
+pub fn lawful(random: &mut Random) -> Made {
+    if random.percent(4) {
+        return passed_out(random);
+    }
+    if random.percent(2) {
+        return most_revokes(random);
+    }
+    let (board, table) = place(random);
+    let dealer = score::dealer(board as u8);
+    let target = random.between(3, 37) as u64;
+    let doubling = random.below(3) as u8;
+    let calls = match random.below(10) {
+        0..=2 => calls::short(dealer, random.below(4) as u8, target, doubling),
+        3..=4 => {
+            let count = random.between(4, 319);
+            calls::of_length(random, count)
+        }
+        _ => calls::towards(random, dealer, target, doubling),
+    };
+    let mut made = Made::new(board, table, cards::deal(random), calls);
+    cards::fill(random, &mut made);
+    made
+}
+
+/// A record of a short auction, a claim after so many tricks, and no card after it.
+pub fn with_claim_after(random: &mut Random, tricks: usize) -> Made {
+    let (board, table) = place(random);
+    let calls = calls::short(score::dealer(board as u8), random.below(4) as u8, random.between(3, 37) as u64, 0);
+    let mut made = Made::new(board, table, cards::deal(random), calls);
+    cards::fill_up_to(random, &mut made, 4 * tricks);
+    made
+}
+
+/// A record of an auction of exactly so many calls, from 4 to 319, and all 52 cards.
+pub fn with_calls(random: &mut Random, count: usize) -> Made {
+    let (board, table) = place(random);
+    let calls = calls::of_length(random, count);
+    let mut made = Made::new(board, table, cards::deal(random), calls);
+    cards::fill_up_to(random, &mut made, 52);
+    made
+}
+
+fn place(random: &mut Random) -> (u64, u64) {
+    (random.between(1, 127) as u64, random.between(1, 511) as u64)
+}
+
+fn passed_out(random: &mut Random) -> Made {
+    let (board, table) = place(random);
+    Made::new(board, table, cards::deal(random), vec![0; 4])
+}
+
+/// A record with 36 revokes, or with those before a claim.
+fn most_revokes(random: &mut Random) -> Made {
+    let (board, table) = place(random);
+    let leader = random.below(4) as u8;
+    let trumps = random.percent(50);
+    let (long, deal, cards) = cards::most_revokes(random, leader, trumps);
+    let strain = if trumps { long } else { 4 };
+    let bid = 3 + 5 * random.below(7) as u64 + strain;
+    let calls = calls::short(score::dealer(board as u8), (leader + 3) & 3, bid, random.below(3) as u8);
+    let mut made = Made::new(board, table, deal, calls);
+    made.parts.cards = cards;
+    if random.percent(30) {
+        let tricks = random.between(1, 12);
+        made.parts.cards.truncate(4 * tricks);
+        made.parts.claim = Some(random.between(0, 13 - tricks) as u64);
+    }
+    made.parts.count();
+    made
+}

@@ -1,0 +1,136 @@
+//! Rounds of records of all shapes, whole, damaged and random, on which a judge is compared with the independent one.
+use crate::compare::{Comparison, Judge, Room, Seen};
+use crate::damage;
+use crate::making::{self, Made};
+use crate::random::Random;
+use std::collections::BTreeSet;
+
+/// Lawful records in a round, beside the damaged ones.
+const LAWFUL: usize = 6;
+/// One round in so many has its record ended at every byte, and lent buffers of every length up to the least that serve.
+const EVERY_LENGTH: u64 = 100;
+/// How often each refusal has to occur.
+const LEAST: u64 = 100;
+
+pub struct Trial {
+    random: Random,
+    comparison: Comparison,
+    rounds: u64,
+    auctions: BTreeSet<usize>,
+    /// Tricks played, and tricks claimed of the rest.
+    claims: BTreeSet<(usize, u64)>,
+}
+
+impl Trial {
+    pub fn new(judge: Judge, seed: u64) -> Self {
+        let mut random = Random::new(seed);
+        let comparison = Comparison::new(judge, &mut random);
+        Trial { random, comparison, rounds: 0, auctions: BTreeSet::new(), claims: BTreeSet::new() }
+    }
+
+    /// The records compared so far.
+    pub fn records(&self) -> u64 {
+        self.comparison.seen.cases
+    }
+
+    /// One more round; the first difference, in words, where there is one.
+    pub fn round(&mut self) -> Result<(), String> {
+        let mut made: Vec<Made> = (0..LAWFUL).map(|_| making::lawful(&mut self.random)).collect();
+        for m in &made {
+            self.note(m);
+            self.case(&m.parts.bytes(), Some(0))?;
+        }
+        let (other, first) = (made.pop().expect("a record"), &made[0]);
+        let whole = first.parts.bytes();
+        let room = Room::shorter(&mut self.random);
+        self.comparison.case(&mut self.random, &whole, room, None)?;
+        for kind in damage::KINDS {
+            let damaged = made.iter().find_map(|m| damage::damaged(&mut self.random, m, kind));
+            if let Some(d) = damaged {
+                self.case(&d.bytes, d.number)?;
+            }
+        }
+        for m in &made[1..4] {
+            let bytes = damage::flipped(&mut self.random, &m.parts.bytes());
+            self.case(&bytes, None)?;
+        }
+        for m in &made[..2] {
+            let bytes = damage::mixed(&mut self.random, m, &other);
+            self.case(&bytes, None)?;
+        }
+        let noise = damage::noise(&mut self.random, &whole);
+        self.case(&noise, None)?;
+        self.rounds += 1;
+        if self.rounds % EVERY_LENGTH == 1 {
+            self.every_length(&whole)?;
+        }
+        Ok(())
+    }
+
+    fn case(&mut self, record: &[u8], number: Option<u32>) -> Result<(), String> {
+        let room = match self.random.below(20) {
+            0 => Room::shorter(&mut self.random),
+            1..=7 => Room::longer(&mut self.random),
+            _ => Room::EXACT,
+        };
+        self.comparison.case(&mut self.random, record, room, number)
+    }
+
+    /// The record ended at every byte, and whole with every length of both buffers that is too short.
+    fn every_length(&mut self, whole: &[u8]) -> Result<(), String> {
+        for end in 0..whole.len() {
+            self.comparison.case(&mut self.random, &whole[..end], Room::EXACT, Some(2 * 1024))?;
+        }
+        for answer in 0..7 {
+            self.comparison.case(&mut self.random, whole, Room { answer, list: 36 }, Some(1024))?;
+        }
+        for list in 0..36 {
+            self.comparison.case(&mut self.random, whole, Room { answer: 7, list }, Some(1025))?;
+        }
+        Ok(())
+    }
+
+    fn note(&mut self, made: &Made) {
+        self.auctions.insert(made.parts.calls.len());
+        if let Some(claim) = made.parts.claim {
+            self.claims.insert((made.parts.cards.len() / 4, claim));
+        }
+    }
+
+    /// What occurred, in words.
+    pub fn report(&self) -> String {
+        let seen = &self.comparison.seen;
+        [
+            format!("{} records, no difference: {} accepted, refused by number:", seen.cases, seen.refusals[0]),
+            counts(&seen.refusals[1..], 1),
+            format!("revokes in accepted records:\n{}", counts(&seen.revokes, 0)),
+            format!("tricks that changed sides:\n{}", counts(&seen.changed, 0)),
+            format!("{} of {} contracts (level, strain, doubling, vulnerability)", contracts(seen), seen.contracts.len()),
+            format!("{} of 316 lengths of auctions, {} of 90 claims", self.auctions.len(), self.claims.len()),
+        ]
+        .join("\n")
+    }
+
+    /// Whether every kind of case has occurred, and each refusal often enough; what is missing, in words.
+    pub fn enough(&self) -> Result<(), String> {
+        let seen = &self.comparison.seen;
+        if let Some(number) = (1..=16).find(|&number| seen.refusals[number] < LEAST) {
+            return Err(format!("refusal {number} occurred only {} times", seen.refusals[number]));
+        }
+        let whole = contracts(seen) == seen.contracts.len() && self.auctions.len() == 316 && self.claims.len() == 90;
+        if !whole || seen.revokes[0] == 0 || seen.revokes[36] == 0 || seen.changed[..4].contains(&0) {
+            return Err("some contract, length of auction, claim or number of revokes never occurred".to_string());
+        }
+        Ok(())
+    }
+}
+
+fn contracts(seen: &Seen) -> usize {
+    seen.contracts.iter().filter(|&&n| n > 0).count()
+}
+
+/// Numbers with how often each occurred.
+fn counts(numbers: &[u64], first: usize) -> String {
+    let each = numbers.iter().enumerate().filter(|(_, &n)| n > 0);
+    each.map(|(k, n)| format!("  {}: {n}", k + first)).collect()
+}

@@ -1,0 +1,82 @@
+//! A comparison that cannot fail shows nothing: judges with one fault each, every one of which it has to find.
+use outside::compare::Judge;
+use outside::judge::judge;
+use outside::trial::Trial;
+
+const FAULTS: [(&str, Judge); 10] = [
+    ("refuses all", |_, _, _| 2 * 1024),
+    ("writes nothing", |record, answer, list| judge(record, &mut answer.to_vec(), &mut list.to_vec())),
+    ("clears the answer on a refusal", |record, answer, list| {
+        let number = judge(record, answer, list);
+        if number != 0 {
+            answer.fill(0);
+        }
+        number
+    }),
+    ("clears the rest of the list", |record, answer, list| {
+        let number = judge(record, answer, list);
+        if number == 0 {
+            list[usize::from(answer[4] & 63)..].fill(0);
+        }
+        number
+    }),
+    ("clears the byte after the answer", |record, answer, list| {
+        let number = judge(record, answer, list);
+        if number == 0 && answer.len() > 7 {
+            answer[7] = 0;
+        }
+        number
+    }),
+    ("counts calls from 1", |record, answer, list| {
+        let number = judge(record, answer, list);
+        if number / 1024 == 6 {
+            number + 1
+        } else {
+            number
+        }
+    }),
+    ("lets one byte follow", |record, answer, list| match judge(record, answer, list) {
+        number if number == 16 * 1024 => judge(&record[..record.len() - 1], answer, list),
+        number => number,
+    }),
+    ("takes a list of 35", |record, answer, list| match list.len() {
+        35 => judge(record, answer, &mut [0; 36]),
+        _ => judge(record, answer, list),
+    }),
+    ("scores for declarer's side", |record, answer, list| {
+        let number = judge(record, answer, list);
+        if number == 0 && answer[3] >> 6 & 1 == 1 {
+            let score = -i16::from_be_bytes([answer[5], answer[6]]);
+            answer[5..7].copy_from_slice(&score.to_be_bytes());
+        }
+        number
+    }),
+    ("leaves out the last of 36 revokes", |record, answer, list| {
+        let last = list.last().copied();
+        let number = judge(record, answer, list);
+        if number == 0 && answer[4] & 63 == 36 && list.len() == 36 {
+            list[35] = last.unwrap_or(0);
+        }
+        number
+    }),
+];
+
+/// Records after which a fault must have been found: those of the gate.
+const RECORDS: u64 = 300_000;
+
+fn found(judge: Judge) -> bool {
+    let mut trial = Trial::new(judge, 64);
+    while trial.records() < RECORDS {
+        if trial.round().is_err() {
+            return true;
+        }
+    }
+    false
+}
+
+#[test]
+fn every_fault_is_found() {
+    for (fault, judge) in FAULTS {
+        assert!(found(judge), "a judge that {fault} was not found out");
+    }
+}
