@@ -15,6 +15,7 @@ use Rattle.laws.specs.Law78.{sameScore, occurrences, nsMatchpoints, ewMa
 use Rattle.laws.specs.Tally.{capacity}
 
 -- ---- lines
+-- the byte that ends a line
 abbrev pub newline : ℕ
 newline = 10
 

@@ -7,3 +7,4 @@ pub mod Enough
 pub mod Rows
 pub mod Results
 pub mod FirstBytes
+pub mod Example

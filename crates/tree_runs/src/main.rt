@@ -22,8 +22,8 @@ fn file(name: &[u8]) {
     script(name, &buffer[..n]);
 }
 
-// What ends a run at a line, and what does not.
-fn lines() {
+// Lines that are read.
+fn read() {
     script(b"no calls", b"");
     script(b"empty stack at the end", b"fresh 0\n");
     script(b"empty tally at the end", b"fresh 9\n");
@@ -36,15 +36,13 @@ fn lines() {
         b"the longest line",
         b"fresh 3\nmatchpoints -99999\nmatchpoints -999990\n",
     );
+}
+
+// Lines that cannot be read as calls.
+fn words() {
     script(b"an empty line", b"fresh 3\n\nadd 10\n");
     script(b"no such call", b"fresh 3\nsub 10\n");
     script(b"a capital", b"Fresh 3\n");
-    script(b"no board", b"fresh \n");
-    script(b"a board with a minus", b"fresh -3\n");
-    script(b"no score", b"fresh 3\nadd -\n");
-    script(b"a plus", b"fresh 3\nadd +10\n");
-    script(b"six digits", b"fresh 3\nadd 000010\n");
-    script(b"a space at the end", b"fresh 3\nadd 10 \n");
     script(b"two spaces", b"fresh  3\n");
     script(b"a carriage return", b"fresh 3\r\n");
     script(b"merge and a space", b"fresh 3\nfresh 3\nmerge \n");
@@ -52,6 +50,16 @@ fn lines() {
         b"a long line at the end",
         b"fresh 3\nadd 10\nmatchpoints 10 and more",
     );
+}
+
+// Numbers that cannot be read.
+fn numbers() {
+    script(b"no board", b"fresh \n");
+    script(b"a board with a minus", b"fresh -3\n");
+    script(b"no score", b"fresh 3\nadd -\n");
+    script(b"a plus", b"fresh 3\nadd +10\n");
+    script(b"six digits", b"fresh 3\nadd 000010\n");
+    script(b"a space at the end", b"fresh 3\nadd 10 \n");
 }
 
 // A stack that is too short for each call.
@@ -62,7 +70,9 @@ fn short() {
 }
 
 fn main() {
-    lines();
+    read();
+    words();
+    numbers();
     short();
     file(b"sixteen");
     file(b"seventeen");
