@@ -53,8 +53,11 @@ seven-bytes : (p : Parts) → answerBytes p ≡ bytesOf 7 (number (answerFields 
 unfolding answerBytes packed
 seven-bytes p = rw (answer-bits p)
 
+pub seven-long : (p : Parts) → length (answerBytes p) ≡ 7
+seven-long p = rw (seven-bytes p) (length-bytes 7 (number (answerFields p)))
+
 -- ---- at most 36 revokes in a record that was read
-few-revokes : (bytes : List ℕ) {p : Parts} {e : ℕ} → Judge.readRecord bytes 0 ≡ found p e → length (revokesOf p) ≤ 36
+pub few-revokes : (bytes : List ℕ) {p : Parts} {e : ℕ} → Judge.readRecord bytes 0 ≡ found p e → length (revokesOf p) ≤ 36
 unfolding Judge.readRecord revokesOf
 few-revokes bytes {p} q =
     let x = first-of (Judge.readHeading bytes 0) _ q in

@@ -133,7 +133,7 @@ fn made(s: Stake, over: u32) -> u32
 }
 
 // The score of declarer's side.
-pub fn declarer_score(s: Stake, tricks: u32) -> i32
+pub(crate) fn declarer_score(s: Stake, tricks: u32) -> i32
     requires { ⌜ tricks < 131072 ⌝ }
     ensures { λ r. ⌜ (r ≡ Law77.declarerScore (stakeOf s) tricks) × (natAbs r < 100000000) ⌝ }
 {

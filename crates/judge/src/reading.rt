@@ -76,7 +76,7 @@ fn no_heading(fault: u32) -> Heading
 }
 
 // Board and table, from the first bit on.
-pub fn read_heading(bytes: &[u8]) -> Heading
+pub(crate) fn read_heading(bytes: &[u8]) -> Heading
     ensures { λ r. ⌜ r ≡ headingOf (readHeading (now (bytes .entry)) 0) ⌝ }
 {
     let Field::Value(board) = field::read(bytes, 0, 7) else {
@@ -141,7 +141,7 @@ fn read_each_call(bytes: &[u8], dealer: u8, at: usize, count: u16) -> Called
 }
 
 // The calls, from their count on.
-pub fn read_calls(bytes: &[u8], dealer: u8, at: usize) -> Called
+pub(crate) fn read_calls(bytes: &[u8], dealer: u8, at: usize) -> Called
     requires { ⌜ at < 32768 ⌝ }
     ensures { λ r. ⌜ r ≡ calledOf dealer (readCalls dealer (now (bytes .entry)) at) ⌝ }
 {
@@ -194,7 +194,7 @@ fn holders(bytes: &[u8]) -> [u8; 52]
 }
 
 // The deal, which stands behind board and table.
-pub fn read_deal(bytes: &[u8]) -> Dealt
+pub(crate) fn read_deal(bytes: &[u8]) -> Dealt
     ensures { λ r. ⌜ r ≡ dealtOf (readDeal (now (bytes .entry)) 16) ⌝ }
 {
     if bytes.len() < 15 {
@@ -268,7 +268,7 @@ fn most_cards(out: bool) -> u8
 }
 
 // The cards, from their count on; `out` says that the board was passed out.
-pub fn read_cards(
+pub(crate) fn read_cards(
     bytes: &[u8],
     deal: [u8; 52],
     out: bool,
@@ -361,7 +361,7 @@ fn read_marked_claim(bytes: &[u8], out: bool, played: u8, at: usize) -> Claimed
 }
 
 // The claim's mark, and the claim.
-pub fn read_claim(bytes: &[u8], out: bool, played: u8, at: usize) -> Claimed
+pub(crate) fn read_claim(bytes: &[u8], out: bool, played: u8, at: usize) -> Claimed
     requires { ⌜ at < 32768 ⌝ }
     ensures { λ r. ⌜ r ≡ claimOf (claimBy out played (now (bytes .entry)) at) ⌝ }
 {
@@ -375,7 +375,7 @@ pub fn read_claim(bytes: &[u8], out: bool, played: u8, at: usize) -> Claimed
 }
 
 // Whether nothing but padding stands from a bit on.
-pub fn is_padding(bytes: &[u8], at: usize) -> bool
+pub(crate) fn is_padding(bytes: &[u8], at: usize) -> bool
     ensures { λ r. ⌜ r ≡ not (overfull (now (bytes .entry)) at) ⌝ }
 {
     let used = at % 8;

@@ -73,7 +73,7 @@ fn won(ts: Tricks, declarer: u8, claim: u8) -> u16
 }
 
 // The answer's bits on a board that was passed out.
-pub fn settle_passed_out(board: u8, table: u16) -> u64
+pub(crate) fn settle_passed_out(board: u8, table: u16) -> u64
     ensures { λ r. ⌜ r ≡ number (headFields board table) ⌝ }
 {
     let head = head_pack(board, table);
@@ -81,7 +81,7 @@ pub fn settle_passed_out(board: u8, table: u16) -> u64
 }
 
 // The answer's bits where there is a contract.
-pub fn settle(
+pub(crate) fn settle(
     board: u8,
     table: u16,
     k: Contract,

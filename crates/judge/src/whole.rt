@@ -148,7 +148,7 @@ fn judge_play(
 }
 
 // The whole record.
-pub fn judge(bytes: &[u8]) -> Judged
+pub(crate) fn judge(bytes: &[u8]) -> Judged
     ensures { λ r. ⌜ r ≡ judgedOf (readRecord (now (bytes .entry)) 0) ⌝ }
 {
     let top = read_heading(bytes);

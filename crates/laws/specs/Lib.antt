@@ -20,3 +20,5 @@ pub mod Judgement
 pub mod Lent
 pub mod Lawful
 pub mod Tally
+pub mod Decimal
+pub mod Sheet

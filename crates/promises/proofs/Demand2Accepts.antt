@@ -28,7 +28,7 @@ reached : (o : Outcome) → Ruled o → numberOf o ≡ 0 → (p : Parts) × (o �
 reached (refused n place) f z = absurd (omega arith)
 reached (accepted p) f z = (p, refl)
 
-either : (o : Outcome) → Ruled o → (numberOf o ≡ 0) ⊎ Refusal (numberOf o)
+pub either : (o : Outcome) → Ruled o → (numberOf o ≡ 0) ⊎ Refusal (numberOf o)
 either (refused n place) f = inr (record { refusal = n; place = place; is = refl; from-1 = f .0; to-16 = f .1; places = f .2 })
 either (accepted p) f = inl refl
 
@@ -45,14 +45,14 @@ module _ (bytes : List ℕ) (answer list : ℕ) where
   short-list h k = simp (le-ltb answer 7 h, lt-ltb list 36 k, test-is, test-stops)
 
   -- two constructors of an outcome
-  never : {P : Type 0} {n place : ℕ} {p : Parts} → judgeOf bytes answer list ≡ refused n place → judgeOf bytes answer list ≡ accepted p → P
+  pub never : {P : Type 0} {n place : ℕ} {p : Parts} → judgeOf bytes answer list ≡ refused n place → judgeOf bytes answer list ≡ accepted p → P
   never e f = absurd (let z : _≡_ {A = ℕ} 0 1 = clash (judgeOf bytes answer list) e f in omega arith)
     where
       clash : {n place : ℕ} {p : Parts} (o : Outcome) → o ≡ refused n place → o ≡ accepted p → _≡_ {A = ℕ} 0 1
       clash o e f = cc
 
   -- what is accepted was lent buffers of 01's sizes
-  lent-enough : (p : Parts) → judgeOf bytes answer list ≡ accepted p → (7 ≤ answer) × (36 ≤ list)
+  pub lent-enough : (p : Parts) → judgeOf bytes answer list ≡ accepted p → (7 ≤ answer) × (36 ≤ list)
   lent-enough p q =
       by-test (ltb answer 7)
       (λ (a : ltb answer 7 ≡ true). never (short-answer (ltb-true answer 7 a)) q)

@@ -9,3 +9,4 @@ pub mod Reached
 pub mod Comparing
 pub mod OfLists
 pub mod Shapes
+pub mod Tables

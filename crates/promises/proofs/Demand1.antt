@@ -1,0 +1,89 @@
+-- Demand 1 of the judge, proved. Assumes nothing.
+use Prim.Native.Nat.{ℕ, zero, suc, _+_, _-_, _≤_, _<_}
+use native.Mathlib.Omega.{arith}
+use mathlib.Core.Path.{_≡_, refl, sym, ap, _∙_}
+use mathlib.Core.List.{List, [], _∷_, _++_}
+use borrow.Author.Tests.{le-ltb}
+use lib.ListN.{length, take, drop, length-append, length-drop, length-map}
+use Rattle.laws.specs.Record.{Parts, packed}
+use Rattle.laws.specs.Reading.{Reading, Reading.refused as stopped, Reading.found}
+use Rattle.laws.specs.Judge.{Outcome, Outcome.refused, Outcome.accepted, outcome, readRecord, readLent, judgeOf, numberOf}
+use Rattle.laws.specs.Judgement.{answerBytes, answerFields, revokesOf, revokeByte, revokeBytes}
+use Rattle.laws.specs.Lent.{_over_, answerLeft, listLeft}
+use Rattle.laws.proofs.Readings.{test-is}
+use Rattle.laws.proofs.Numbered.{ruled}
+use Rattle.judge.proofs.Answering.{seven-long, few-revokes}
+use Rattle.promises.specs.Demand1.{saidOf, Demand1}
+use Rattle.promises.proofs.Demand2Accepts.{either, lent-enough, never}
+
+-- ---- bytes over the front of a buffer
+pub front-is : (front old : List ℕ) → take (length front) (front over old) ≡ front
+unfolding _over_
+front-is front old = go front (drop (length front) old)
+  where
+    go : (front rest : List ℕ) → take (length front) (front ++ rest) ≡ front
+    go [] rest = refl
+    go (x ∷ front) rest = ap (λ (l : List ℕ). x ∷ l) (go front rest)
+
+pub behind-is : (front old : List ℕ) → drop (length front) (front over old) ≡ drop (length front) old
+unfolding _over_
+behind-is front old = go front (drop (length front) old)
+  where
+    go : (front rest : List ℕ) → drop (length front) (front ++ rest) ≡ rest
+    go [] rest = refl
+    go (x ∷ front) rest = go front rest
+
+pub length-over : (front old : List ℕ) → length front ≤ length old → length (front over old) ≡ length old
+unfolding _over_
+length-over front old h = length-append front (drop (length front) old) ∙ rw (length-drop (length front) old) (omega arith)
+
+revoke-bytes-long : (p : Parts) → length (revokeBytes p) ≡ length (revokesOf p)
+unfolding revokeBytes
+revoke-bytes-long p = length-map (revokesOf p) revokeByte
+
+module _ (bytes answer list : List ℕ) where
+  abbrev said : Outcome
+  said = saidOf bytes answer list
+
+  -- ---- refused
+  untouched : (o : Outcome) → (numberOf o ≡ 0 → ⊥) → (answerLeft o answer ≡ answer) × (listLeft o list ≡ list)
+  unfolding answerLeft listLeft
+  untouched (refused n place) h = (refl, refl)
+  untouched (accepted p) h = absurd (h refl)
+
+  -- ---- accepted
+  was-read : (p : Parts) → said ≡ accepted p → (e : ℕ) × (readRecord bytes 0 ≡ found p e)
+  unfolding judgeOf readLent
+  was-read p q =
+      let lent = lent-enough bytes (length answer) (length list) p q in
+      go (readRecord bytes 0) refl (sym (simp (le-ltb (length answer) 7 (lent .0), le-ltb (length list) 36 (lent .1), test-is)) ∙ q)
+    where
+      go : (r : Reading Parts) → readRecord bytes 0 ≡ r → outcome r ≡ accepted p → (e : ℕ) × (readRecord bytes 0 ≡ found p e)
+      go (stopped n place) e o = let z : _≡_ {A = ℕ} 0 1 = cc in absurd (omega arith)
+      go (found a end) e o = let same : a ≡ p = cc in (end, e ∙ ap (λ (x : Parts). found x end) same)
+
+  few : (p : Parts) → said ≡ accepted p → length (revokesOf p) ≤ 36
+  few p q = few-revokes bytes (was-read p q .1)
+
+  lengths : (o : Outcome) → said ≡ o → (length (answerLeft o answer) ≡ length answer) × (length (listLeft o list) ≡ length list)
+  unfolding answerLeft listLeft
+  lengths (refused n place) q = (refl, refl)
+  lengths (accepted p) q =
+      let lent = lent-enough bytes (length answer) (length list) p q in (
+        length-over (answerBytes p) answer (omega (arith, seven-long p, lent .0)),
+        length-over (revokeBytes p) list (omega (arith, revoke-bytes-long p, few p q, lent .1)),
+      )
+
+  pub demand-1 : Demand1 bytes answer list
+  unfolding answerLeft listLeft
+  demand-1 =
+      record {
+        number = either said (ruled bytes (length answer) (length list));
+        refusal-leaves = untouched said;
+        answer-front = λ p q. rw q (rw (seven-long p) at (front-is (answerBytes p) answer));
+        answer-behind = λ p q. rw q (rw (seven-long p) at (behind-is (answerBytes p) answer));
+        list-front = λ p q. rw q (rw (revoke-bytes-long p) at (front-is (revokeBytes p) list));
+        list-behind = λ p q. rw q (rw (revoke-bytes-long p) at (behind-is (revokeBytes p) list));
+        at-most-36 = few;
+        same-lengths = lengths said refl;
+      }

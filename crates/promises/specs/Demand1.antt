@@ -1,0 +1,33 @@
+-- Demand 1 of the judge: its number, and what it leaves in the two lent buffers, for every list of bytes.
+-- `answer` and `list` are the buffers as they are lent; `judge_record` returns `numberOf` and leaves `answerLeft` and `listLeft` of what is said here.
+-- Assumes nothing.
+use Prim.Native.Nat.{ℕ, _≤_}
+use mathlib.Core.Path.{_≡_}
+use mathlib.Core.Logic.{_⊎_}
+use mathlib.Core.List.{List}
+use lib.ListN.{length, take, drop}
+use Rattle.laws.specs.Record.{Parts}
+use Rattle.laws.specs.Judge.{Outcome, Outcome.accepted, judgeOf, numberOf}
+use Rattle.laws.specs.Judgement.{answerBytes, revokesOf, revokeBytes}
+use Rattle.laws.specs.Lent.{answerLeft, listLeft}
+use Rattle.promises.specs.Demand2.{Refusal}
+
+module _ (bytes answer list : List ℕ) where
+  -- what the judge says of the bytes, given these buffers
+  abbrev pub saidOf : Outcome
+  saidOf = judgeOf bytes (length answer) (length list)
+
+  pub record Demand1 : Type 0 where
+    -- the number is 0, or a refusal from 1 to 16 × 1024 and a place below 1024
+    pub number : (numberOf saidOf ≡ 0) ⊎ Refusal (numberOf saidOf)
+    -- with any number but 0 both buffers are as they were
+    pub refusal-leaves : (numberOf saidOf ≡ 0 → ⊥) → (answerLeft saidOf answer ≡ answer) × (listLeft saidOf list ≡ list)
+    -- accepted: the seven bytes of the answer, and the bytes behind them as they were
+    pub answer-front : (p : Parts) → saidOf ≡ accepted p → take 7 (answerLeft saidOf answer) ≡ answerBytes p
+    pub answer-behind : (p : Parts) → saidOf ≡ accepted p → drop 7 (answerLeft saidOf answer) ≡ drop 7 answer
+    -- a byte for each revoke, at most 36, and the bytes behind them as they were
+    pub list-front : (p : Parts) → saidOf ≡ accepted p → take (length (revokesOf p)) (listLeft saidOf list) ≡ revokeBytes p
+    pub list-behind : (p : Parts) → saidOf ≡ accepted p → drop (length (revokesOf p)) (listLeft saidOf list) ≡ drop (length (revokesOf p)) list
+    pub at-most-36 : (p : Parts) → saidOf ≡ accepted p → length (revokesOf p) ≤ 36
+    -- no buffer grows or shrinks
+    pub same-lengths : (length (answerLeft saidOf answer) ≡ length answer) × (length (listLeft saidOf list) ≡ length list)

@@ -1,0 +1,9 @@
+pub mod Puts
+pub mod Printed
+pub mod Signs
+pub mod Saying
+pub mod Lines
+pub mod Enough
+pub mod Rows
+pub mod Results
+pub mod FirstBytes

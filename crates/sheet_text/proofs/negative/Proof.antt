@@ -1,0 +1,45 @@
+-- `sheet_text::negative` meets its contract. Assumes nothing.
+use mathlib.Core.Path.{sym, ap, _∙_}
+use borrow.Author.Needs.{needs}
+use Rattle.sheet_text.specs.Reading.{negativeOf}
+use Rattle.sheet_text.proofs.Saying.{negative-over, negative-said, minus-fits}
+use Rattle.sheet_text.proofs.negative.Statement.{statement}
+use Rattle.sheet_text.proofs.negative.Tie as tie
+
+enum-known-n : tie.Need-enum-known-n
+enum-known-n c = search needs
+
+enum-told : tie.Need-enum-told
+enum-told c = search needs
+
+returns : tie.Need-returns
+unfolding negativeOf
+returns c = rw (c .enum-told .given .1)
+
+returns-2 : tie.Need-returns-2
+returns-2 c = negative-over _ (c .if1 .taken) ∙ ap negativeOf (sym (c .before .before .n .given .1))
+
+cast-if-valid : tie.Need-cast-if-valid
+cast-if-valid c = search needs
+
+sub-if-valid : tie.Need-sub-if-valid
+sub-if-valid c = minus-fits _ (c .if1 .left)
+
+if-valid-requires : tie.Need-if-valid-requires
+if-valid-requires c κs = search needs
+
+returns-3 : tie.Need-returns-3
+returns-3 c = negative-said _ _ _ (c .before .before .before .n .given .1) (c .before .if1 .left) (c .if-valid .ensures)
+
+pub negative-spec : {M : Type 1} → statement M
+negative-spec =
+    tie.close
+    (tie.spec
+    enum-known-n
+    enum-told
+    returns
+    returns-2
+    cast-if-valid
+    sub-if-valid
+    if-valid-requires
+    returns-3)

@@ -1,0 +1,23 @@
+-- Bytes put into other bytes at a place, and what a lent slice holds after a sheet was written to it. Assumes nothing.
+use Prim.Native.Nat.{ℕ, _+_}
+use mathlib.Core.Path.{_≡_}
+use mathlib.Core.List.{List, _++_}
+use lib.Dec.{leb}
+use lib.ListN.{length, drop}
+use lib.Seq.{sets}
+use Rattle.laws.specs.Choice.{if_then_else_}
+use Rattle.sheet_text.specs.declared.whole.Outcome.{Outcome}
+use Rattle.sheet_text.specs.declared.whole.Outcome.the-variants.{Written, TooShort}
+
+-- a text was put at a place: each of its bytes stands there in turn, the others stay, and `next` is the place after it
+pub record Put (out : List ℕ) (at : ℕ) (text : List ℕ) (left : List ℕ) (next : ℕ) : Type 0 where
+  pub place : next ≡ at + length text
+  pub bytes : left ≡ sets out at text
+
+-- the answer for a text and so many bytes lent: its length, or that they are too few
+unfoldable pub outcomeFor : List ℕ → ℕ → Outcome
+outcomeFor text room = if leb (length text) room then Written (length text) else TooShort
+
+-- what the lent bytes are then: the text, with the other bytes as they were; or all as they were, where they are too few
+unfoldable pub leftIn : List ℕ → List ℕ → List ℕ
+leftIn out text = if leb (length text) (length out) then text ++ drop (length text) out else out

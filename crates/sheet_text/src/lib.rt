@@ -1,0 +1,171 @@
+// The sheet of a text of scores. Here: a line and the score on it are read, and the parts of the sheet are put into bytes at a place; each answers the
+// place after what it put. `whole` has the results of all lines, the table, and the sheet.
+mod whole;
+
+use decimal::Number;
+use decimal::read_number;
+use score::valid;
+pub use whole::Outcome;
+pub use whole::write;
+ghost use mathlib.Core.Path.{_≡_};
+ghost use mathlib.Core.Bool.{true};
+ghost use mathlib.Core.List.{[], _∷_};
+ghost use Prim.Native.Nat.{_+_, _≤_, _<_};
+ghost use lib.ListN.{length, drop};
+ghost use Rattle.laws.specs.Decimal.{digit, decimal, signedDecimal};
+ghost use Rattle.laws.specs.Law77.{validScore};
+ghost use Rattle.laws.specs.Sheet.{fields};
+ghost use Rattle.sheet_text.specs.Reading.{lineLength, sizeOn, ifValid, positiveOf, negativeOf, saidOn};
+ghost use Rattle.sheet_text.specs.Putting.{Put};
+
+// What a line says: a valid score, or none.
+enum Said {
+    Score(i16),
+    Nothing,
+}
+
+// The end of the line that starts at a place: its newline, or the end of the bytes.
+fn line_end(bytes: &[u8], at: usize) -> usize
+    requires { ⌜ at ≤ length (now bytes) ⌝ }
+    ensures { λ r. ⌜ r ≡ at + lineLength (drop at (now (bytes .entry))) ⌝ }
+{
+    let mut i = at;
+    while i < bytes.len() {
+        if bytes[i] == 10 {
+            return i;
+        }
+        i += 1;
+    }
+    i
+}
+
+// A digit 1 to 9 and at most three digits more.
+fn size_on(bytes: &[u8]) -> Number
+    ensures { λ r. ⌜ r ≡ sizeOn (now (bytes .entry)) ⌝ }
+{
+    if bytes.len() == 0 {
+        return Number::None;
+    }
+    if 4 < bytes.len() {
+        return Number::None;
+    }
+    if bytes[0] == 48 {
+        return Number::None;
+    }
+    read_number(bytes)
+}
+
+// A score, where it is valid.
+fn if_valid(score: i16) -> Said
+    ensures { λ r. ⌜ r ≡ ifValid score ⌝ }
+{
+    if valid(score) {
+        return Said::Score(score);
+    }
+    Said::Nothing
+}
+
+// A number as a score.
+fn positive(n: Number) -> Said
+    ensures { λ r. ⌜ r ≡ positiveOf n ⌝ }
+{
+    let Number::Is(size) = n else {
+        return Said::Nothing;
+    };
+    if 7600 < size {
+        return Said::Nothing;
+    }
+    if_valid(size as i16)
+}
+
+// A number with a minus as a score.
+fn negative(n: Number) -> Said
+    ensures { λ r. ⌜ r ≡ negativeOf n ⌝ }
+{
+    let Number::Is(size) = n else {
+        return Said::Nothing;
+    };
+    if 7600 < size {
+        return Said::Nothing;
+    }
+    if_valid(-(size as i16))
+}
+
+// The score on a line.
+fn said_on(line: &[u8]) -> Said
+    ensures { λ r. ⌜ r ≡ saidOn (now (line .entry)) ⌝ }
+{
+    if line.len() == 0 {
+        return Said::Nothing;
+    }
+    if line[0] == 45 {
+        let rest = &line[1..];
+        return negative(size_on(rest));
+    }
+    if 1 < line.len() {
+        return positive(size_on(line));
+    }
+    if line[0] == 48 {
+        return Said::Score(0);
+    }
+    positive(size_on(line))
+}
+
+fn put_bytes(out: &mut [u8], at: usize, bytes: &[u8]) -> usize
+    requires { ⌜ at + length (now bytes) ≤ length (now out) ⌝ }
+    ensures { λ r. ⌜ Put (now (out .entry)) at (now (bytes .entry)) (now (out .exit)) r ⌝ }
+{
+    let mut i: usize = 0;
+    while i < bytes.len() {
+        out[at + i] = bytes[i];
+        i += 1;
+    }
+    at + i
+}
+
+fn put_byte(out: &mut [u8], at: usize, b: u8) -> usize
+    requires { ⌜ at < length (now out) ⌝ }
+    ensures { λ r. ⌜ Put (now (out .entry)) at (b ∷ []) (now (out .exit)) r ⌝ }
+{
+    out[at] = b;
+    at + 1
+}
+
+fn put_digit(out: &mut [u8], at: usize, n: u32) -> usize
+    requires { ⌜ (at < length (now out)) × (n < 10) ⌝ }
+    ensures { λ r. ⌜ Put (now (out .entry)) at (digit n ∷ []) (now (out .exit)) r ⌝ }
+{
+    put_byte(out, at, 48 + n as u8)
+}
+
+fn put_decimal(out: &mut [u8], at: usize, n: u32) -> usize
+    requires { ⌜ at + length (decimal n) ≤ length (now out) ⌝ }
+    ensures { λ r. ⌜ Put (now (out .entry)) at (decimal n) (now (out .exit)) r ⌝ }
+{
+    if n < 10 {
+        return put_digit(out, at, n);
+    }
+    let next = put_decimal(out, at, n / 10);
+    put_digit(out, next, n % 10)
+}
+
+// A score in decimal, with a minus where it is negative.
+fn put_score(out: &mut [u8], at: usize, score: i16) -> usize
+    requires { ⌜ (at + length (signedDecimal score) ≤ length (now out)) × (validScore score ≡ true) ⌝ }
+    ensures { λ r. ⌜ Put (now (out .entry)) at (signedDecimal score) (now (out .exit)) r ⌝ }
+{
+    if score < 0 {
+        let next = put_byte(out, at, 45);
+        return put_decimal(out, next, (-score) as u32);
+    }
+    put_decimal(out, at, score as u32)
+}
+
+// A space and a number.
+fn put_field(out: &mut [u8], at: usize, n: u32) -> usize
+    requires { ⌜ at + length (32 ∷ decimal n) ≤ length (now out) ⌝ }
+    ensures { λ r. ⌜ Put (now (out .entry)) at (32 ∷ decimal n) (now (out .exit)) r ⌝ }
+{
+    let next = put_byte(out, at, 32);
+    put_decimal(out, next, n)
+}

@@ -1,0 +1,138 @@
+// The results of all lines, the table, and the sheet.
+use super::Said;
+use super::line_end;
+use super::put_byte;
+use super::put_bytes;
+use super::put_decimal;
+use super::put_field;
+use super::put_score;
+use super::said_on;
+use tally::MatchpointAnswer;
+use tally::Tally;
+ghost use mathlib.Core.Path.{_≡_};
+ghost use mathlib.Core.Bool.{true};
+ghost use Prim.Native.Nat.{_+_, _≤_};
+ghost use lib.ListN.{length};
+ghost use Rattle.laws.specs.Decimal.{decimal, signedDecimal};
+ghost use Rattle.laws.specs.Law77.{validScore};
+ghost use Rattle.laws.specs.Sheet.{fields, table, refusal, sheet};
+ghost use Rattle.tally.specs.Tallies.{scoresIn, wellFormed};
+ghost use Rattle.sheet_text.specs.Putting.{Put, outcomeFor, leftIn};
+ghost use Rattle.sheet_text.specs.Whole.{Found};
+
+// How the writing of a sheet went: so many bytes written, or too few lent and none written.
+pub enum Outcome {
+    Written(usize),
+    TooShort,
+}
+
+// The number of the line that is refused, 0 for none, and the tally of the lines' scores where none is.
+struct Results {
+    refused: u32,
+    tally: Tally,
+}
+
+// The scores on the lines, up to the first line that is refused.
+fn results_of(bytes: &[u8]) -> Results
+    ensures { λ r. ⌜ Found (now (bytes .entry)) r ⌝ }
+{
+    let first = tally::fresh(1);
+    let mut t = first.tally;
+    let mut k: u32 = 0;
+    let mut at: usize = 0;
+    while at < bytes.len() {
+        let end = line_end(bytes, at);
+        let line = &bytes[at..end];
+        k += 1;
+        let Said::Score(score) = said_on(line) else {
+            return Results {
+                refused: k,
+                tally: t,
+            };
+        };
+        let more = tally::add(t, score);
+        if more.refusal != 0 {
+            return Results {
+                refused: k,
+                tally: t,
+            };
+        }
+        t = more.tally;
+        at = end + 1;
+    }
+    Results {
+        refused: 0,
+        tally: t,
+    }
+}
+
+fn put_row(out: &mut [u8], at: usize, score: i16, count: u32, ns: u32, ew: u32) -> usize
+    requires { ⌜ (at + length (fields (signedDecimal score) (decimal count) (decimal ns) (decimal ew)) ≤ length (now out)) × (validScore score ≡ true) ⌝ }
+    ensures { λ r. ⌜ Put (now (out .entry)) at (fields (signedDecimal score) (decimal count) (decimal ns) (decimal ew)) (now (out .exit)) r ⌝ }
+{
+    let a = put_score(out, at, score);
+    let b = put_field(out, a, count);
+    let c = put_field(out, b, ns);
+    let d = put_field(out, c, ew);
+    put_byte(out, d, 10)
+}
+
+// The table of a tally that is well formed.
+fn put_table(out: &mut [u8], t: Tally) -> usize
+    requires { ⌜ (length (table (scoresIn t)) ≤ length (now out)) × (wellFormed t ≡ true) ⌝ }
+    ensures { λ r. ⌜ Put (now (out .entry)) 0 (table (scoresIn t)) (now (out .exit)) r ⌝ }
+{
+    let mut at = put_bytes(out, 0, b"NS-SCORE COUNT NS-MP EW-MP\n");
+    let mut i: usize = 0;
+    while i < 128 {
+        let count = t.counts[i];
+        if count == 0 {
+            return at;
+        }
+        let score = t.scores[i];
+        let points = tally::matchpoints(t, score);
+        let MatchpointAnswer::Points { ns, ew } = points else {
+            return at;
+        };
+        at = put_row(out, at, score, count as u32, ns.0, ew.0);
+        i += 1;
+    }
+    at
+}
+
+fn put_refusal(out: &mut [u8], k: u32) -> usize
+    requires { ⌜ length (refusal k) ≤ length (now out) ⌝ }
+    ensures { λ r. ⌜ Put (now (out .entry)) 0 (refusal k) (now (out .exit)) r ⌝ }
+{
+    let number = put_bytes(out, 0, b"line ");
+    let end = put_decimal(out, number, k);
+    put_bytes(out, end, b" refused\n")
+}
+
+// The sheet, where there is room for every sheet.
+fn put_sheet(out: &mut [u8], bytes: &[u8]) -> usize
+    requires { ⌜ 2331 ≤ length (now out) ⌝ }
+    ensures { λ r. ⌜ Put (now (out .entry)) 0 (sheet (now (bytes .entry))) (now (out .exit)) r ⌝ }
+{
+    let results = results_of(bytes);
+    let refused = results.refused;
+    if refused != 0 {
+        return put_refusal(out, refused);
+    }
+    let t = results.tally;
+    put_table(out, t)
+}
+
+// Writes the sheet of a text of scores to lent bytes. 2331 bytes are enough for every sheet.
+pub fn write(bytes: &[u8], out: &mut [u8]) -> Outcome
+    ensures answer { λ r. ⌜ r ≡ outcomeFor (sheet (now (bytes .entry))) (length (now (out .entry))) ⌝ }
+    ensures bytes { λ r. ⌜ now (out .exit) ≡ leftIn (now (out .entry)) (sheet (now (bytes .entry))) ⌝ }
+{
+    let mut text = [0u8; 2331];
+    let n = put_sheet(&mut text, bytes);
+    if out.len() < n {
+        return Outcome::TooShort;
+    }
+    put_bytes(out, 0, &text[..n]);
+    Outcome::Written(n)
+}

@@ -1,0 +1,73 @@
+-- A run of a script, byte by byte. What it writes on the way no contract can say; what it leaves is this. Assumes nothing.
+use Prim.Native.Nat.{ℕ, _+_}
+use mathlib.Core.Bool.{Bool, true, false}
+use mathlib.Core.List.{List, [], _∷_}
+use lib.Dec.{ltb, eqb}
+use lib.ListN.{set, take, replicate}
+use Rattle.laws.specs.Choice.{if_then_else_}
+use Rattle.laws.specs.Sheet.{newline}
+use Rattle.tally.specs.Tallies.{noTally}
+use Rattle.tree_script.specs.declared.Call.{Call}
+use Rattle.tree_script.specs.declared.Call.the-variants.{Unreadable}
+use Rattle.tree_stack.specs.declared.Said.{Said}
+use Rattle.tree_stack.specs.declared.Said.the-variants.{Done, Refused, Points, Stopped}
+use Rattle.tree_run.specs.declared.Run.{Run}
+use Rattle.tree_script.specs.Calls.{callOn}
+use Rattle.tree_stack.specs.Stacks.{stepOf}
+
+-- before the first byte: an empty stack and an empty line
+unfoldable pub startOf : Run
+startOf =
+    record {
+      stack = record { tallies = replicate 16 noTally; used = 0 };
+      line = replicate 18 0;
+      length = 0;
+      number = 0;
+      over = false;
+    }
+
+-- the number of the line after so many; the last that the type can hold stays
+unfoldable pub nextNumber : ℕ → ℕ
+nextNumber n = if ltb n 18446744073709551615 then n + 1 else n
+
+-- an answer ends the run
+abbrev pub isStopped : Said → Bool
+isStopped Done = false
+isStopped (Refused n) = false
+isStopped (Points ns ew) = false
+isStopped Stopped = true
+
+-- a byte at the end of the line; a line of more than 18 bytes is longer than any call, and its length stays 19
+unfoldable pub withByte : Run → ℕ → Run
+withByte r b =
+    if ltb (r .length) 18
+    then record { stack = r .stack; line = set (r .line) (r .length) b; length = r .length + 1; number = r .number; over = r .over }
+    else record { stack = r .stack; line = r .line; length = 19; number = r .number; over = r .over }
+
+-- the call on the line so far
+unfoldable pub callIn : Run → Call
+callIn r = if ltb 18 (r .length) then Unreadable else callOn (take (r .length) (r .line))
+
+-- the line is whole: its call is made on the stack
+unfoldable pub lineDone : Run → Run
+lineDone r =
+    record {
+      stack = stepOf (r .stack) (callIn r) .stack;
+      line = r .line;
+      length = 0;
+      number = nextNumber (r .number);
+      over = isStopped (stepOf (r .stack) (callIn r) .said);
+    }
+
+-- one byte more; a run that is over takes none
+unfoldable pub takenByte : Run → ℕ → Run
+takenByte r b = if r .over then r else if eqb b newline then lineDone r else withByte r b
+
+-- more bytes
+unfoldable pub fedOf : Run → List ℕ → Run
+fedOf r [] = r
+fedOf r (b ∷ bytes) = fedOf (takenByte r b) bytes
+
+-- the end of the script: its last line may lack a newline
+unfoldable pub finishedOf : Run → Run
+finishedOf r = if r .over then r else if eqb (r .length) 0 then r else lineDone r

@@ -1,0 +1,73 @@
+// Runs many scripts, each under a line that names it: short ones that stand here, and longer ones from files.
+use libc::STDOUT_FILENO;
+
+// A script by its bytes.
+fn script(name: &[u8], bytes: &[u8]) {
+    io::write_all(STDOUT_FILENO, name);
+    io::write_all(STDOUT_FILENO, b":\n");
+    let run = tree_run::feed(tree_run::start(), bytes);
+    tree_run::finish(run);
+}
+
+// A script in a file of that name.
+fn file(name: &[u8]) {
+    let fd = os::open_read(name);
+    if fd < 0 {
+        os::fail(name);
+        return;
+    }
+    let mut buffer = io::buffer();
+    let n = io::read_full(fd, &mut buffer);
+    libc::close(fd);
+    script(name, &buffer[..n]);
+}
+
+// What ends a run at a line, and what does not.
+fn lines() {
+    script(b"no calls", b"");
+    script(b"empty stack at the end", b"fresh 0\n");
+    script(b"empty tally at the end", b"fresh 9\n");
+    script(b"no last newline", b"fresh 3\nadd 10\nmatchpoints 10");
+    script(
+        b"leading zeros",
+        b"fresh 00003\nadd 00010\nadd -0\nadd -00010\nmatchpoints -00010\n",
+    );
+    script(
+        b"the longest line",
+        b"fresh 3\nmatchpoints -99999\nmatchpoints -999990\n",
+    );
+    script(b"an empty line", b"fresh 3\n\nadd 10\n");
+    script(b"no such call", b"fresh 3\nsub 10\n");
+    script(b"a capital", b"Fresh 3\n");
+    script(b"no board", b"fresh \n");
+    script(b"a board with a minus", b"fresh -3\n");
+    script(b"no score", b"fresh 3\nadd -\n");
+    script(b"a plus", b"fresh 3\nadd +10\n");
+    script(b"six digits", b"fresh 3\nadd 000010\n");
+    script(b"a space at the end", b"fresh 3\nadd 10 \n");
+    script(b"two spaces", b"fresh  3\n");
+    script(b"a carriage return", b"fresh 3\r\n");
+    script(b"merge and a space", b"fresh 3\nfresh 3\nmerge \n");
+    script(
+        b"a long line at the end",
+        b"fresh 3\nadd 10\nmatchpoints 10 and more",
+    );
+}
+
+// A stack that is too short for each call.
+fn short() {
+    script(b"add to nothing", b"add 10\nfresh 3\n");
+    script(b"merge of one", b"fresh 3\nadd 10\nmerge\nadd 20\n");
+    script(b"matchpoints of nothing", b"fresh 128\nmatchpoints 10\n");
+}
+
+fn main() {
+    lines();
+    short();
+    file(b"sixteen");
+    file(b"seventeen");
+    file(b"a_before_b");
+    file(b"b_before_a");
+    file(b"every_refusal");
+    file(b"results_129");
+}

@@ -1,0 +1,20 @@
+-- `tree_script::board_in` meets its contract. Assumes nothing.
+use borrow.Author.Needs.{needs}
+use borrow.Author.Tests.{lt-ltb, le-ltb}
+use Rattle.tree_script.specs.Calls.{boardIn}
+use Rattle.tree_script.proofs.board_in.Statement.{statement}
+use Rattle.tree_script.proofs.board_in.Tie as tie
+
+returns : tie.Need-returns
+unfolding boardIn
+returns c = rw (lt-ltb _ _ (c .if1 .taken))
+
+cast-result : tie.Need-cast-result
+cast-result c = search needs
+
+returns-2 : tie.Need-returns-2
+unfolding boardIn
+returns-2 c = rw (le-ltb _ _ (c .if1 .left))
+
+pub board-in-spec : {M : Type 1} → statement M
+board-in-spec = tie.close (tie.spec returns cast-result returns-2)

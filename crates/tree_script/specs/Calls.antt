@@ -1,0 +1,73 @@
+-- The call that a line of a script asks for. Bytes are ASCII codes.
+-- Assumes nothing.
+use Prim.Native.Nat.{ℕ}
+use mathlib.Core.Bool.{Bool, true, false, _&&_}
+use mathlib.Core.List.{List, [], _∷_}
+use lib.Dec.{eqb, ltb}
+use lib.IntN.{ℤ, pos, negsuc, negℤ}
+use lib.ListN.{length, drop}
+use Rattle.laws.specs.Choice.{if_then_else_}
+use Rattle.laws.specs.Decimal.{minus, isNumber, value}
+use Rattle.tree_script.specs.declared.Call.{Call}
+use Rattle.tree_script.specs.declared.Call.the-variants.{Fresh, Add, Merge, Matchpoints, Unreadable}
+use Rattle.tree_script.specs.declared.Score.{Score}
+use Rattle.tree_script.specs.declared.Score.the-variants.{Of, Nothing}
+
+-- bytes start with a word
+unfoldable pub isPrefix : List ℕ → List ℕ → Bool
+isPrefix [] bytes = true
+isPrefix (w ∷ word) [] = false
+isPrefix (w ∷ word) (b ∷ bytes) = eqb b w && isPrefix word bytes
+
+-- a number as a board: one beyond the parameter's type is passed as 0, which is refused with 3
+unfoldable pub boardIn : ℕ → ℕ
+boardIn n = if ltb 255 n then 0 else n
+
+-- a number as a score: one beyond the parameter's type is passed as the largest of the type, which is refused with 20
+unfoldable pub plusIn : ℕ → ℤ
+plusIn n = if ltb 32767 n then pos 32767 else pos n
+
+-- a number with a minus as a score: one beyond the type is passed as the least of the type
+unfoldable pub minusIn : ℕ → ℤ
+minusIn n = if ltb 32767 n then negsuc 32767 else negℤ (pos n)
+
+-- a fresh tally of a board: one to five digits
+unfoldable pub freshOn : List ℕ → Call
+freshOn bytes = if isNumber bytes then Fresh (boardIn (value bytes)) else Unreadable
+
+-- a score: an optional minus and one to five digits
+unfoldable pub scoreOn : List ℕ → Score
+scoreOn bytes =
+    if isPrefix (minus ∷ []) bytes then (if isNumber (drop 1 bytes) then Of (minusIn (value (drop 1 bytes))) else Nothing)
+    else if isNumber bytes then Of (plusIn (value bytes))
+    else Nothing
+
+-- a call with a score
+unfoldable pub withScore : (ℤ → Call) → Score → Call
+withScore call (Of s) = call s
+withScore call Nothing = Unreadable
+
+-- `fresh `
+abbrev pub freshWord : List ℕ
+freshWord = 102 ∷ 114 ∷ 101 ∷ 115 ∷ 104 ∷ 32 ∷ []
+
+-- `add `
+abbrev pub addWord : List ℕ
+addWord = 97 ∷ 100 ∷ 100 ∷ 32 ∷ []
+
+-- `matchpoints `
+abbrev pub matchpointsWord : List ℕ
+matchpointsWord = 109 ∷ 97 ∷ 116 ∷ 99 ∷ 104 ∷ 112 ∷ 111 ∷ 105 ∷ 110 ∷ 116 ∷ 115 ∷ 32 ∷ []
+
+-- `merge`
+abbrev pub mergeWord : List ℕ
+mergeWord = 109 ∷ 101 ∷ 114 ∷ 103 ∷ 101 ∷ []
+
+-- the call on a line: `fresh B`, `add S`, `matchpoints S` or `merge`
+unfoldable pub callOn : List ℕ → Call
+callOn line =
+    if isPrefix freshWord line then freshOn (drop 6 line)
+    else if isPrefix addWord line then withScore Add (scoreOn (drop 4 line))
+    else if isPrefix matchpointsWord line then withScore Matchpoints (scoreOn (drop 12 line))
+    else if eqb (length line) 5 && isPrefix mergeWord line then Merge
+    else Unreadable

@@ -1,0 +1,135 @@
+// A line of a script of tally calls, read as a call.
+use decimal::Number;
+use decimal::read_number;
+ghost use mathlib.Core.Path.{_≡_};
+ghost use Rattle.tree_script.specs.Calls.{isPrefix, boardIn, plusIn, minusIn, freshOn, scoreOn, withScore, callOn};
+
+// A call that a line asks for, with its board or its score; or that no call can be read.
+pub enum Call {
+    Fresh(u8),
+    Add(i16),
+    Merge,
+    Matchpoints(i16),
+    Unreadable,
+}
+
+// A score that is read, or none.
+enum Score {
+    Of(i16),
+    Nothing,
+}
+
+// Whether bytes start with a word.
+fn starts(bytes: &[u8], word: &[u8]) -> bool
+    ensures { λ r. ⌜ r ≡ isPrefix (now (word .entry)) (now (bytes .entry)) ⌝ }
+{
+    let mut i: usize = 0;
+    while i < word.len() {
+        if bytes.len() <= i {
+            return false;
+        }
+        if bytes[i] != word[i] {
+            return false;
+        }
+        i += 1;
+    }
+    true
+}
+
+// A number as a board; 0 where it is beyond the type.
+fn board_in(n: u32) -> u8
+    ensures { λ r. ⌜ r ≡ boardIn n ⌝ }
+{
+    if 255 < n {
+        return 0;
+    }
+    n as u8
+}
+
+// A number as a score; the largest of the type where it is beyond it.
+fn plus_in(n: u32) -> i16
+    ensures { λ r. ⌜ r ≡ plusIn n ⌝ }
+{
+    if 32767 < n {
+        return 32767;
+    }
+    n as i16
+}
+
+// A number with a minus as a score; the least of the type where it is beyond it.
+fn minus_in(n: u32) -> i16
+    ensures { λ r. ⌜ r ≡ minusIn n ⌝ }
+{
+    if 32767 < n {
+        return -32768;
+    }
+    -(n as i16)
+}
+
+// A fresh tally of the board that the bytes say.
+fn fresh_on(bytes: &[u8]) -> Call
+    ensures { λ r. ⌜ r ≡ freshOn (now (bytes .entry)) ⌝ }
+{
+    let Number::Is(n) = read_number(bytes) else {
+        return Call::Unreadable;
+    };
+    Call::Fresh(board_in(n))
+}
+
+// The score that the bytes say, with an optional minus.
+fn score_on(bytes: &[u8]) -> Score
+    ensures { λ r. ⌜ r ≡ scoreOn (now (bytes .entry)) ⌝ }
+{
+    if starts(bytes, b"-") {
+        let Number::Is(n) = read_number(&bytes[1..]) else {
+            return Score::Nothing;
+        };
+        return Score::Of(minus_in(n));
+    }
+    let Number::Is(n) = read_number(bytes) else {
+        return Score::Nothing;
+    };
+    Score::Of(plus_in(n))
+}
+
+// A score to add.
+fn add_on(bytes: &[u8]) -> Call
+    ensures { λ r. ⌜ r ≡ withScore Call.Add (scoreOn (now (bytes .entry))) ⌝ }
+{
+    let Score::Of(s) = score_on(bytes) else {
+        return Call::Unreadable;
+    };
+    Call::Add(s)
+}
+
+// A score whose matchpoints are asked.
+fn matchpoints_on(bytes: &[u8]) -> Call
+    ensures { λ r. ⌜ r ≡ withScore Call.Matchpoints (scoreOn (now (bytes .entry))) ⌝ }
+{
+    let Score::Of(s) = score_on(bytes) else {
+        return Call::Unreadable;
+    };
+    Call::Matchpoints(s)
+}
+
+// The call on a line.
+pub fn read_call(line: &[u8]) -> Call
+    ensures { λ r. ⌜ r ≡ callOn (now (line .entry)) ⌝ }
+{
+    if starts(line, b"fresh ") {
+        return fresh_on(&line[6..]);
+    }
+    if starts(line, b"add ") {
+        return add_on(&line[4..]);
+    }
+    if starts(line, b"matchpoints ") {
+        return matchpoints_on(&line[12..]);
+    }
+    if line.len() != 5 {
+        return Call::Unreadable;
+    }
+    if starts(line, b"merge") {
+        return Call::Merge;
+    }
+    Call::Unreadable
+}
