@@ -102,6 +102,8 @@ outside: tools build/rust-built build/terminal $(TREE) $(SHEET)
 	$(RUST)/blocks $(or $(SEED),64) $(BLOCKS) >build/blocks.records
 	$(CC) $(CFLAGS) -g -Iinclude tests/c/blocks.c $(ARCHIVE) -o build/blocks
 	valgrind --quiet --error-exitcode=1 --leak-check=full build/blocks build/blocks.records
+	$(CC) $(CFLAGS) -Iinclude tests/c/stack.c $(ARCHIVE) -o build/stack
+	build/stack build/blocks.records
 
 # Half the time for records, a quarter for trees and a quarter for sheets.
 fuzz: build/rust-built $(TREE) $(SHEET)
