@@ -95,7 +95,7 @@ outside: tools build/rust-built build/terminal $(TREE) $(SHEET)
 	rm -rf build/installed
 	@$(MAKE) --no-print-directory install-files PREFIX=$(abspath build/installed)
 	tests/install.sh $(abspath build/installed) $(CC)
-	$(CARGO) test --release --offline --locked --quiet --test examples --test faults
+	$(CARGO) test --release --offline --locked --quiet --test examples --test refusals --test faults
 	$(RUST)/records --count $(RECORDS) $(SEED_WORDS)
 	$(RUST)/trees --program $(TREE) --count $(TREES) $(SEED_WORDS)
 	$(RUST)/sheets --program $(SHEET) --count $(SHEETS) $(SEED_WORDS)
