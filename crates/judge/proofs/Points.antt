@@ -91,7 +91,7 @@ pub down-score : (s : Stake) (tricks : ℕ) → tricks < s .level + 6 → negℤ
 unfolding declarerScore isMade undertrickPoints
 down-score s tricks h = rw (lt-leb (s .level + 6) tricks h)
 
-pub made-le : (s : Stake) (over : ℕ) → s .level < 256 → over < 131072 → madePoints s over ≤ 60000000
+pub made-le : (s : Stake) (over : ℕ) → s .level < 256 → over < 4294967296 → madePoints s over ≤ 2000000000000
 unfolding madePoints
 made-le s over h k =
-    omega (arith, points-le s h, mul-le-mul {n₁ = over} {n₂ = 131072} (omega arith) (overtrick-le s), part-le s, game-le s, slam-le s, insult-le s)
+    omega (arith, points-le s h, mul-le-mul {n₁ = over} {n₂ = 4294967296} (omega arith) (overtrick-le s), part-le s, game-le s, slam-le s, insult-le s)

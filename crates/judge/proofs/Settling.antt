@@ -15,7 +15,7 @@ use Rattle.laws.specs.Record.{Field, field, bits, number}
 use Rattle.laws.specs.Judgement.{twosComplement}
 use Rattle.laws.proofs.Tests.{by-test, not-both}
 use Rattle.auction.specs.declared.Contract.{Contract}
-use mir.Syntax.{w32}
+use mir.Syntax.{w64}
 use mir.Val.{toZ, ofZ}
 use mir.Facts.{toZ-ofZ}
 use Rattle.laws.proofs.Integers.{mag-le-size}
@@ -87,6 +87,6 @@ unfolding settledFields afterIn
 settled board table k ts rs claim left taken moved after v score ns word head play et em ea ev es en ew eh ep =
     rw (eh, ep, ew, en, es, ev, ea, em, et) (join-number board table k _ _ (rs .count) _)
 
--- a small number, read back from its 32 bits
-pub read-small : (z : ℤ) → natAbs z < 100000000 → toZ w32 (ofZ w32 z) ≡ z
-read-small z h = toZ-ofZ {w = w32} (record { sfits = omega (arith, mag-le-size z) })
+-- a small number, read back from its 64 bits
+pub read-small : (z : ℤ) → natAbs z < 10000000000000 → toZ w64 (ofZ w64 z) ≡ z
+read-small z h = toZ-ofZ {w = w64} (record { sfits = omega (arith, mag-le-size z) })

@@ -89,15 +89,14 @@ fn undertrick_value(s: Stake, k: u32) -> u32
     by_doubling(s, undoubled, doubled, 2 * doubled)
 }
 
-fn undertricks(s: Stake, n: u32) -> u32
-    requires { ⌜ n < 512 ⌝ }
+fn undertricks(s: Stake, n: u32) -> u64
     ensures { λ r. ⌜ r ≡ Law77.undertricks (stakeOf s) n ⌝ }
 {
-    let mut points: u32 = 0;
+    let mut points: u64 = 0;
     let mut k: u32 = 0;
     while k < n {
         k += 1;
-        points += undertrick_value(s, k);
+        points += undertrick_value(s, k) as u64;
     }
     points
 }
@@ -124,22 +123,20 @@ fn slam_points(s: Stake) -> u32
 }
 
 // The points of a contract made with so many overtricks.
-fn made(s: Stake, over: u32) -> u32
-    requires { ⌜ over < 131072 ⌝ }
+fn made(s: Stake, over: u32) -> u64
     ensures { λ r. ⌜ r ≡ madePoints (stakeOf s) over ⌝ }
 {
     let premiums = part_score_or_game(s) + slam_points(s) + by_doubling(s, 0, 50, 100);
-    trick_points(s) + over * overtrick_value(s) + premiums
+    trick_points(s) as u64 + over as u64 * overtrick_value(s) as u64 + premiums as u64
 }
 
 // The score of declarer's side.
-pub(crate) fn declarer_score(s: Stake, tricks: u32) -> i32
-    requires { ⌜ tricks < 131072 ⌝ }
-    ensures { λ r. ⌜ (r ≡ Law77.declarerScore (stakeOf s) tricks) × (natAbs r < 100000000) ⌝ }
+pub(crate) fn declarer_score(s: Stake, tricks: u32) -> i64
+    ensures { λ r. ⌜ (r ≡ Law77.declarerScore (stakeOf s) tricks) × (natAbs r < 10000000000000) ⌝ }
 {
     let needed = s.level as u32 + 6;
     if needed <= tricks {
-        return made(s, tricks - needed) as i32;
+        return made(s, tricks - needed) as i64;
     }
-    -(undertricks(s, needed - tricks) as i32)
+    -(undertricks(s, needed - tricks) as i64)
 }

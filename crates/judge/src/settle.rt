@@ -13,9 +13,9 @@ ghost use Rattle.laws.specs.Judgement.{twosComplement};
 ghost use Rattle.judge.specs.Settled.{headFields, playFields, wonIn, settledFields};
 
 // The score from North-South.
-fn ns_score(score: i32, declarer: u8) -> i32
-    requires { ⌜ natAbs score < 100000000 ⌝ }
-    ensures { λ r. ⌜ (r ≡ nsScore declarer score) × (natAbs r < 100000000) ⌝ }
+fn ns_score(score: i64, declarer: u8) -> i64
+    requires { ⌜ natAbs score < 10000000000000 ⌝ }
+    ensures { λ r. ⌜ (r ≡ nsScore declarer score) × (natAbs r < 10000000000000) ⌝ }
 {
     if declarer % 2 == 0 {
         return score;
@@ -24,14 +24,14 @@ fn ns_score(score: i32, declarer: u8) -> i32
 }
 
 // A score as 16 bits, two's complement.
-fn score_word(score: i32) -> u32
-    requires { ⌜ natAbs score < 100000000 ⌝ }
-    ensures { λ r. ⌜ (r ≡ twosComplement score) × (r < 100000000) ⌝ }
+fn score_word(score: i64) -> u64
+    requires { ⌜ natAbs score < 10000000000000 ⌝ }
+    ensures { λ r. ⌜ (r ≡ twosComplement score) × (r < 10000000000000) ⌝ }
 {
     if 0 <= score {
-        return score as u32;
+        return score as u64;
     }
-    let size = (-score) as u32;
+    let size = (-score) as u64;
     if 65536 < size {
         return 0;
     }
@@ -46,8 +46,8 @@ fn head_pack(board: u8, table: u16) -> u64
 }
 
 // What follows them where there is a contract.
-fn play_pack(k: Contract, won: u16, after: u32, revokes: u8, word: u32) -> u64
-    requires { ⌜ (after < 131072) × (word < 100000000) ⌝ }
+fn play_pack(k: Contract, won: u16, after: u32, revokes: u8, word: u64) -> u64
+    requires { ⌜ (after < 131072) × (word < 10000000000000) ⌝ }
     ensures { λ r. ⌜ (r ≡ number (playFields k won after revokes word)) × (r < 2 ^ 60) ⌝ }
 {
     let contract = k.level as u64 * 137438953472
@@ -55,7 +55,7 @@ fn play_pack(k: Contract, won: u16, after: u32, revokes: u8, word: u32) -> u64
         + k.doubling as u64 * 4294967296
         + k.declarer as u64 * 1073741824;
     let tricks = won as u64 * 67108864 + after as u64 * 4194304;
-    contract + tricks + revokes as u64 * 65536 + word as u64
+    contract + tricks + revokes as u64 * 65536 + word
 }
 
 fn wide(x: u8) -> u16

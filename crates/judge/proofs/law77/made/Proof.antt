@@ -35,27 +35,39 @@ add-premiums-2 c = let st = c .before .before .before in
 trick-points-requires : tie.Need-trick-points-requires
 trick-points-requires c κs = search needs
 
+cast-result : tie.Need-cast-result
+cast-result c = search needs
+
 overtrick-value-requires : tie.Need-overtrick-value-requires
 overtrick-value-requires c κs = search needs
+
+cast-result-2 : tie.Need-cast-result-2
+cast-result-2 c = search needs
 
 mul-result : tie.Need-mul-result
 mul-result c = let st = c .before .before .before .before .before in
     let s = stakeOf (st .args .s) in
     let l : st .args .s .level < 256 = search needs in
-    record { fits = rw (c .overtrick-value .ensures) (omega (arith, mul-le-mul {n₁ = st .args .over} {n₂ = 131072} (omega arith) (overtrick-le s))) }
+    let o : st .args .over < 4294967296 = search needs in
+    record { fits = rw (c .overtrick-value .ensures) (omega (arith, mul-le-mul {n₁ = st .args .over} {n₂ = 4294967296} (omega arith) (overtrick-le s))) }
 
 add-result : tie.Need-add-result
 add-result c = let st = c .before .before .before .before .before in
     let s = stakeOf (st .args .s) in
     let l : st .args .s .level < 256 = search needs in
-    record { fits = rw (c .overtrick-value .ensures) (omega (arith, c .before .trick-points .ensures, points-le s l, mul-le-mul {n₁ = st .args .over} {n₂ = 131072} (omega arith) (overtrick-le s))) }
+    let o : st .args .over < 4294967296 = search needs in
+    record { fits = rw (c .overtrick-value .ensures) (omega (arith, c .before .trick-points .ensures, points-le s l, mul-le-mul {n₁ = st .args .over} {n₂ = 4294967296} (omega arith) (overtrick-le s))) }
+
+cast-result-3 : tie.Need-cast-result-3
+cast-result-3 c = search needs
 
 add-result-2 : tie.Need-add-result-2
 unfolding doublingPoints
 add-result-2 c = let st = c .before .before .before .before .before in
     let s = stakeOf (st .args .s) in
     let l : st .args .s .level < 256 = search needs in
-    record { fits = rw (c .overtrick-value .ensures) (omega (arith, c .before .trick-points .ensures, points-le s l, c .before .before .before .before .part-score-or-game .ensures, c .before .before .before .slam-points .ensures, c .before .before .by-doubling .ensures, part-le s, game-le s, slam-le s, insult-le s, mul-le-mul {n₁ = st .args .over} {n₂ = 131072} (omega arith) (overtrick-le s))) }
+    let o : st .args .over < 4294967296 = search needs in
+    record { fits = rw (c .overtrick-value .ensures) (omega (arith, c .before .trick-points .ensures, points-le s l, c .before .before .before .before .part-score-or-game .ensures, c .before .before .before .slam-points .ensures, c .before .before .by-doubling .ensures, part-le s, game-le s, slam-le s, insult-le s, mul-le-mul {n₁ = st .args .over} {n₂ = 4294967296} (omega arith) (overtrick-le s))) }
 
 returns : tie.Need-returns
 unfolding madePoints doublingPoints
@@ -71,8 +83,11 @@ made-spec =
     by-doubling-requires
     add-premiums-2
     trick-points-requires
+    cast-result
     overtrick-value-requires
+    cast-result-2
     mul-result
     add-result
+    cast-result-3
     add-result-2
     returns)

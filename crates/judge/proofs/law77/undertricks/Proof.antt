@@ -26,10 +26,14 @@ add-k c = search needs
 undertrick-value-requires : tie.Need-undertrick-value-requires Inv-loop μ-loop
 undertrick-value-requires c κs = search needs
 
+cast-points : tie.Need-cast-points Inv-loop μ-loop
+cast-points c = search needs
+
 add-points : tie.Need-add-points Inv-loop μ-loop
 add-points c = let l = c .before .before .loop in
     let s = stakeOf (c .before .before .before .args .s) in
-    record { fits = omega (arith, l .inv .1, c .undertrick-value .ensures, undertricks-le s (l .k), undertrick-le s (l .k + 1), c .before .before .before .pre) }
+    let n : c .before .before .before .args .n < 4294967296 = search needs in
+    record { fits = omega (arith, l .inv .1, c .undertrick-value .ensures, undertricks-le s (l .k), undertrick-le s (l .k + 1), n) }
 
 loop-less : tie.Need-loop-less Inv-loop μ-loop
 loop-less c = search needs
@@ -53,6 +57,7 @@ undertricks-spec =
     loop-holds
     add-k
     undertrick-value-requires
+    cast-points
     add-points
     loop-less
     loop-again

@@ -3,7 +3,7 @@ use Prim.Native.Nat.{ℕ, suc, _≤_, _<_, _+_, _-_, _*_}
 use mathlib.Core.Path.{_≡_, refl, sym, ap, _∙_}
 use native.Mathlib.Omega.{arith}
 use lib.IntN.{ℤ, pos, negℤ, natAbs, _-ℤ_, +ℤ-idl}
-use mir.Syntax.{w32}
+use mir.Syntax.{w64}
 use mir.Val.{SFits, toZ, ofZ}
 use mir.Facts.{toZ-ofZ}
 use Rattle.laws.proofs.Integers.{size-neg, mag-le-size}
@@ -12,7 +12,7 @@ use Rattle.judge.proofs.Settling.{word-up, up-nonNeg, down-nonNeg, word
 use Rattle.judge.proofs.settle.score_word.Statement.{statement}
 use Rattle.judge.proofs.settle.score_word.Tie as tie
 
-small : (z : ℤ) → natAbs z < 100000000 → SFits w32 (negℤ z)
+small : (z : ℤ) → natAbs z < 10000000000000 → SFits w64 (negℤ z)
 small z h = record { sfits = omega (arith, mag-le-size (negℤ z), size-neg z) }
 
 cast-result : tie.Need-cast-result
