@@ -41,7 +41,7 @@ unfolding bytesOf
 seven x p q r s t u v = rw (p, q, r, s, t, u, v, div-one x)
 
 -- ---- the answer's fields make seven bytes
-answer-bits : (p : Parts) → bits (answerFields p) ≡ 56
+pub answer-bits : (p : Parts) → bits (answerFields p) ≡ 56
 unfolding answerFields playedFields bits
 answer-bits p = go (passedOut (callsOf p)) refl
   where
@@ -49,7 +49,7 @@ answer-bits p = go (passedOut (callsOf p)) refl
     go true e = rw e
     go false e = rw e
 
-seven-bytes : (p : Parts) → answerBytes p ≡ bytesOf 7 (number (answerFields p))
+pub seven-bytes : (p : Parts) → answerBytes p ≡ bytesOf 7 (number (answerFields p))
 unfolding answerBytes packed
 seven-bytes p = rw (answer-bits p)
 

@@ -52,7 +52,7 @@ module _ (bytes answer list : List ℕ) where
   untouched (accepted p) h = absurd (h refl)
 
   -- ---- accepted
-  was-read : (p : Parts) → said ≡ accepted p → (e : ℕ) × (readRecord bytes 0 ≡ found p e)
+  pub was-read : (p : Parts) → said ≡ accepted p → (e : ℕ) × (readRecord bytes 0 ≡ found p e)
   unfolding judgeOf readLent
   was-read p q =
       let lent = lent-enough bytes (length answer) (length list) p q in

@@ -3,12 +3,16 @@
 use Prim.Native.Nat.{ℕ, _≤_}
 use mathlib.Core.Path.{_≡_}
 use mathlib.Core.Logic.{_↔_}
+use mathlib.Core.Bool.{true, false}
 use mathlib.Core.List.{List, _∷_, _++_, List·Memᴰ}
 use lib.ListN.{length}
 use Rattle.laws.specs.Law61.{Revoke, RevokedAt, revokeAt}
 use Rattle.laws.specs.Record.{Parts, encode}
 use Rattle.laws.specs.Judge.{Outcome.accepted, numberOf}
-use Rattle.laws.specs.Judgement.{trumpOf, openingOf, cardsOf, revokesOf, answerBytes, revokeBytes}
+use Rattle.laws.specs.Auction.{passedOut}
+use Rattle.laws.specs.Law77.{validScore}
+use Rattle.laws.specs.Reading.{numberAt}
+use Rattle.laws.specs.Judgement.{callsOf, contractOf, declarerOf, trumpOf, openingOf, cardsOf, wonOf, afterOf, revokesOf, scoreOf, twosComplement, answerBytes, revokeBytes}
 use Rattle.laws.specs.Lawful.{Lawful}
 use Rattle.laws.specs.Lent.{_over_, answerLeft, listLeft}
 use Rattle.promises.specs.Demand1.{saidOf}
@@ -30,3 +34,27 @@ pub record Demand2Judgement : Type 0 where
       × (listLeft (saidOf (encode p) answer list) list ≡ revokeBytes p over list)
   -- a revoke is listed exactly when it is one
   pub revokes : (p : Parts) (r : Revoke) → List·Memᴰ r (revokesOf p) ↔ RevokeOf p r
+
+-- the answer's bits behind board and table, read as numbers, where there is a contract
+pub record ContractBits (p : Parts) : Type 0 where
+  pub level : numberAt (answerBytes p) 16 3 ≡ contractOf p .level
+  pub strain : numberAt (answerBytes p) 19 3 ≡ contractOf p .strain
+  pub doubling : numberAt (answerBytes p) 22 2 ≡ contractOf p .doubling
+  pub declarer : numberAt (answerBytes p) 24 2 ≡ declarerOf p
+  pub won : numberAt (answerBytes p) 26 4 ≡ wonOf p
+  pub after : numberAt (answerBytes p) 30 4 ≡ afterOf p
+  pub revokes : numberAt (answerBytes p) 34 6 ≡ length (revokesOf p)
+  pub score : numberAt (answerBytes p) 40 16 ≡ twosComplement (scoreOf p)
+  -- a valid score, so that its 16 bits tell it from every other
+  pub valid : validScore (scoreOf p) ≡ true
+
+-- every bit of the answer
+pub record AnswerBits (p : Parts) : Type 0 where
+  pub board : numberAt (answerBytes p) 0 7 ≡ p .board
+  pub table : numberAt (answerBytes p) 7 9 ≡ p .table
+  pub passed-out : passedOut (callsOf p) ≡ true → numberAt (answerBytes p) 16 40 ≡ 0
+  pub contract : passedOut (callsOf p) ≡ false → ContractBits p
+
+-- no field of the answer is cut: read back, each has its value
+abbrev pub Demand2Bits : Type 0
+Demand2Bits = (p : Parts) → Lawful p → AnswerBits p
