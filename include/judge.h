@@ -12,7 +12,7 @@
 extern "C" {
 #endif
 
-/* The least lengths of the two buffers, and the most bytes that an accepted record can have. */
+/* The least lengths of the two buffers, and the most bytes that an accepted record has by document 01; this last number is not proved. */
 enum { JUDGE_ANSWER_BYTES = 7, JUDGE_REVOKE_BYTES = 36, JUDGE_RECORD_MOST = 296 };
 
 /* Judges one table record.
