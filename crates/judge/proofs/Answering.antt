@@ -18,9 +18,9 @@ use Rattle.laws.specs.Law2.{dealer}
 use Rattle.laws.specs.Judge as Judge
 use Rattle.laws.specs.Judgement.{answerFields, answerBytes, playedFields, callsOf, revokesOf, revokeByte, revokeBytes}
 use Rattle.laws.specs.Lent.{_over_, answerLeft, listLeft}
-use Rattle.laws.proofs.Tests.{not-both}
 use Rattle.laws.proofs.Bytes.{length-bytes}
 use Rattle.laws.proofs.Padded.{padded-back}
+use Rattle.laws.proofs.Numbered.{Ruled, ruled}
 use Rattle.laws.proofs.Readings.{first-of, first-ending}
 use Rattle.play.proofs.Listed.{at-most-36}
 use Rattle.judge.specs.declared.whole.Judged.{Judged}
@@ -88,6 +88,10 @@ module _ (bytes : List ℕ) (answer list : List ℕ) where
   unfolding answerLeft listLeft
   kept o = record { number = rw o; answered = rw o; listed = rw o }
 
+  -- a refusal's number is not 0
+  not-0 : {n place : ℕ} → said ≡ Judge.Outcome.refused n place → n * 1024 + place ≡ 0 → ⊥
+  not-0 o z = let f = subst Ruled o (ruled bytes (length answer) (length list)) in omega (arith, z, f .0)
+
   answer-said : length answer < 7 → said ≡ Judge.Outcome.refused 1 0
   unfolding Judge.judgeOf Judge.readLent refuse
   answer-said h = rw (lt-ltb (length answer) 7 h)
@@ -107,28 +111,28 @@ module _ (bytes : List ℕ) (answer list : List ℕ) where
     unfolding Judge.judgeOf Judge.readLent refuse
     said-is = rw (le-ltb (length answer) 7 h, le-ltb (length list) 36 k)
 
-    stops : (r : Reading Parts) → judgedOf r .ok ≡ false → said ≡ Judge.outcome r → Left (judgedOf r .fault) answer list
+    stops : (r : Reading Parts) → (judgedOf r .fault ≡ 0 → ⊥) → said ≡ Judge.outcome r → Left (judgedOf r .fault) answer list
     stops (refused n place) e o = kept o
-    stops (found p at) e o = not-both true refl e
+    stops (found p at) e o = absurd (e refl)
 
-    pub judge-refuses : j .ok ≡ false → Left (j .fault) answer list
+    pub judge-refuses : (j .fault ≡ 0 → ⊥) → Left (j .fault) answer list
     judge-refuses e = rw ej (stops (Judge.readRecord bytes 0) (rw ej at e) said-is)
 
-    few : (r : Reading Parts) → Judge.readRecord bytes 0 ≡ r → judgedOf r .ok ≡ true → judgedOf r .revokes .count ≤ 36
+    few : (r : Reading Parts) → Judge.readRecord bytes 0 ≡ r → judgedOf r .fault ≡ 0 → said ≡ Judge.outcome r → judgedOf r .revokes .count ≤ 36
     unfolding listedIn
-    few (refused n place) q e = not-both false e refl
-    few (found p at) q e = few-revokes bytes q
+    few (refused n place) q e o = absurd (not-0 o e)
+    few (found p at) q e o = few-revokes bytes q
 
-    pub few-listed : j .ok ≡ true → j .revokes .count ≤ 36
-    few-listed e = rw ej (few (Judge.readRecord bytes 0) refl (rw ej at e))
+    pub few-listed : j .fault ≡ 0 → j .revokes .count ≤ 36
+    few-listed e = rw ej (few (Judge.readRecord bytes 0) refl (rw ej at e) said-is)
 
     -- what putting the answer's bits and the list leaves
     abbrev Put : Judged → List ℕ → List ℕ → Type 0
     Put x a l = (a ≡ bytesOf 7 (x .pack) ++ drop 7 answer) × (l ≡ take (x .revokes .count) (x .revokes .list) ++ drop (x .revokes .count) list)
 
-    takes : (r : Reading Parts) → Judge.readRecord bytes 0 ≡ r → judgedOf r .ok ≡ true → said ≡ Judge.outcome r → {a l : List ℕ} → Put (judgedOf r) a l → Left 0 a l
+    takes : (r : Reading Parts) → Judge.readRecord bytes 0 ≡ r → judgedOf r .fault ≡ 0 → said ≡ Judge.outcome r → {a l : List ℕ} → Put (judgedOf r) a l → Left 0 a l
     unfolding answerLeft listLeft _over_ listedIn revokeBytes
-    takes (refused n place) q e o w = not-both false e refl
+    takes (refused n place) q e o w = absurd (not-0 o e)
     takes (found p at) q e o w =
         let n = length-map (revokesOf p) revokeByte in
         let back = padded-back 0 36 (revokeBytes p) (omega (arith, n, few-revokes bytes q)) in
@@ -138,5 +142,5 @@ module _ (bytes : List ℕ) (answer list : List ℕ) where
           listed = rw (o, n) (w .1 ∙ ap (λ (x : List ℕ). x ++ drop (length (revokesOf p)) list) (rw n at back));
         }
 
-    pub judge-accepts : j .ok ≡ true → {a l : List ℕ} → Put j a l → Left 0 a l
-    judge-accepts e {a} {l} w = takes (Judge.readRecord bytes 0) refl (rw ej at e) said-is (subst (λ (x : Judged). Put x a l) ej w)
+    pub judge-accepts : j .fault ≡ 0 → {a l : List ℕ} → Put j a l → Left (j .fault) a l
+    judge-accepts e {a} {l} w = rw e (takes (Judge.readRecord bytes 0) refl (rw ej at e) said-is (subst (λ (x : Judged). Put x a l) ej w))

@@ -9,11 +9,15 @@ use Rattle.laws.specs.Law68.{Claim, none, agreed}
 use Rattle.laws.specs.Reading.{Reading, Reading.refused, Reading.found, read, refuse}
 use Rattle.laws.proofs.Tests.{and-right}
 use Rattle.judge.specs.declared.reading.Claimed.{Claimed}
-use Rattle.judge.specs.Sections.{noClaim, claimOf, pointAt, noClaimBy, markedBy, claimBy}
+use Rattle.judge.specs.Sections.{noClaim, claimOf, pointAt, mayClaim, noClaimBy, markedBy, claimBy}
 
 none-left : (b : Bool) → (not b && false) ≡ false
 none-left true = refl
 none-left false = refl
+
+no-point : (out point : Bool) → (out || not point) ≡ not (not out && point)
+no-point true point = refl
+no-point false point = refl
 
 -- ---- no claim
 module _ (out : Bool) (played : ℕ) (bytes : List ℕ) (at : ℕ) where
@@ -33,28 +37,23 @@ module _ (out : Bool) (played : ℕ) (bytes : List ℕ) (at : ℕ) where
   passed e = rw e
 
   -- ---- a marked claim
-  pub claim-passed : out ≡ true → noClaim (14336 + played) ≡ claimOf (markedBy out played bytes at)
-  unfolding markedBy refuse
-  claim-passed e = rw e
+  pub claim-elsewhere : mayClaim out played ≡ false → noClaim (14336 + played) ≡ claimOf (markedBy out played bytes at)
+  unfolding markedBy refuse mayClaim
+  claim-elsewhere p = rw (no-point out (pointAt played), p)
 
-  module _ (e : out ≡ false) where
-    pub claim-elsewhere : pointAt played ≡ false → noClaim (14336 + played) ≡ claimOf (markedBy out played bytes at)
-    unfolding markedBy refuse
-    claim-elsewhere p = rw (e, p)
+  module _ (p : mayClaim out played ≡ true) where
+    pub claim-short : read 4 bytes at ≡ refused 2 0 → noClaim 2048 ≡ claimOf (markedBy out played bytes at)
+    unfolding markedBy refuse mayClaim
+    claim-short q = rw (no-point out (pointAt played), p, q)
 
-    module _ (p : pointAt played ≡ true) where
-      pub claim-short : read 4 bytes at ≡ refused 2 0 → noClaim 2048 ≡ claimOf (markedBy out played bytes at)
-      unfolding markedBy refuse
-      claim-short q = rw (e, p, q)
+    module _ (tricks : ℕ) (q : read 4 bytes at ≡ found tricks (at + 4)) where
+      pub claim-too-many : 13 - played / 4 < tricks → noClaim (15360 + tricks) ≡ claimOf (markedBy out played bytes at)
+      unfolding markedBy refuse mayClaim
+      claim-too-many h = rw (no-point out (pointAt played), p, q, lt-leb tricks (13 - played / 4) h)
 
-      module _ (tricks : ℕ) (q : read 4 bytes at ≡ found tricks (at + 4)) where
-        pub claim-too-many : 13 - played / 4 < tricks → noClaim (15360 + tricks) ≡ claimOf (markedBy out played bytes at)
-        unfolding markedBy refuse
-        claim-too-many h = rw (e, p, q, lt-leb tricks (13 - played / 4) h)
-
-        pub claim-agreed : tricks ≤ 13 - played / 4 → record { ok = true; fault = 0; next = at + 4; marked = true; tricks = tricks } ≡ claimOf (markedBy out played bytes at)
-        unfolding markedBy refuse
-        claim-agreed h = rw (e, p, q, le-leb tricks (13 - played / 4) h)
+      pub claim-agreed : tricks ≤ 13 - played / 4 → record { ok = true; fault = 0; next = at + 4; marked = true; tricks = tricks } ≡ claimOf (markedBy out played bytes at)
+      unfolding markedBy refuse mayClaim
+      claim-agreed h = rw (no-point out (pointAt played), p, q, le-leb tricks (13 - played / 4) h)
 
   -- ---- the mark
   pub mark-short : read 1 bytes at ≡ refused 2 0 → noClaim 2048 ≡ claimOf (claimBy out played bytes at)
@@ -71,10 +70,11 @@ module _ (out : Bool) (played : ℕ) (bytes : List ℕ) (at : ℕ) where
     marked z = rw (q, ne-eqb mark 0 z)
 
 -- a point for a claim has at most 48 cards played
-pub point-le : (played : ℕ) → pointAt played ≡ true → played ≤ 48
-unfolding pointAt
-point-le played e =
-    leb-true played 48 (and-right (leb 4 played) (leb played 48) (and-right (eqb (played % 4) 0) (leb 4 played && leb played 48) e))
+pub point-le : (out : Bool) (played : ℕ) → mayClaim out played ≡ true → played ≤ 48
+unfolding mayClaim pointAt
+point-le out played e =
+    let point = and-right (not out) (pointAt played) e in
+    leb-true played 48 (and-right (leb 4 played) (leb played 48) (and-right (eqb (played % 4) 0) (leb 4 played && leb played 48) point))
 
 -- where no claim is marked, nothing more is read
 pub reads-none : (out : Bool) (played at : ℕ) (bytes : List ℕ) → noClaimBy out played [] at ≡ noClaimBy out played bytes at

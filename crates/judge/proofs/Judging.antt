@@ -225,17 +225,17 @@ module _ (board table : ℕ) (out : Bool) (k : Contract) (deal h g : List ℕ) (
           rw q (fields-is board table out k deal h g p t claim c l sides (sym (own-claim (k .declarer) c l) ∙ ap (λ (f : ℕ → ℕ). f (sideOf (k .declarer))) sides) (sym (t .passed) ∙ q)))
 
       abbrev given : ℕ → Judged
-      given pack = record { ok = true; fault = 0; pack = pack; revokes = p .revokes }
+      given pack = record { fault = 0; pack = pack; revokes = p .revokes }
 
       agreed-on : (r : Reading Claim) → claimOf r .ok ≡ true → overfull bytes (claimOf r .next) ≡ false
           → given (number (boardFields board table out k (p .tricks) (p .revokes) (claimOf r) left)) ≡ judgedOf (rest r)
       unfolding ending refuse boardFields
       agreed-on (refused n place) e o = not-both false e refl
       agreed-on (found none next) e o =
-          rw (o, pack-is none 0 0 sides-none) (ap (λ (x : Revokes). record { ok = true; fault = 0; pack = number (answerFields (partsOf board table deal h g none)); revokes = x }) (list-is board table out k deal h g p t none))
+          rw (o, pack-is none 0 0 sides-none) (ap (λ (x : Revokes). record { fault = 0; pack = number (answerFields (partsOf board table deal h g none)); revokes = x }) (list-is board table out k deal h g p t none))
       agreed-on (found (agreed tricks) next) e o =
           rw (o, pack-is (agreed tricks) tricks left (sides-some tricks))
-          (ap (λ (x : Revokes). record { ok = true; fault = 0; pack = number (answerFields (partsOf board table deal h g (agreed tricks))); revokes = x }) (list-is board table out k deal h g p t (agreed tricks)))
+          (ap (λ (x : Revokes). record { fault = 0; pack = number (answerFields (partsOf board table deal h g (agreed tricks))); revokes = x }) (list-is board table out k deal h g p t (agreed tricks)))
 
       pub claim-accepted : (pack : ℕ) → claimed .ok ≡ true → overfull bytes (claimed .next) ≡ false
           → pack ≡ number (boardFields board table out k (p .tricks) (p .revokes) claimed left) → given pack ≡ judgedOf (afterCards board table deal h g bytes at)

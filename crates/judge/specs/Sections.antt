@@ -77,9 +77,13 @@ claimOf (refused n place) = noClaim (faultOf n place)
 claimOf (found none at) = record { ok = true; fault = 0; next = at; marked = false; tricks = 0 }
 claimOf (found (agreed tricks) at) = record { ok = true; fault = 0; next = at; marked = true; tricks = tricks }
 
--- the Laws' section by the number of cards played
+-- the Laws' section by whether the board was passed out and the number of cards played
 unfoldable pub pointAt : ℕ → Bool
 pointAt played = eqb (played % 4) 0 && (leb 4 played && leb played 48)
+
+-- there is a contract, and a claim may stand after so many cards
+unfoldable pub mayClaim : Bool → ℕ → Bool
+mayClaim out played = not out && pointAt played
 
 unfoldable pub noClaimBy : Bool → ℕ → Reader Claim
 noClaimBy out played = do

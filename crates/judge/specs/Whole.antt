@@ -46,7 +46,7 @@ afterDeal board table deal = do
 
 -- ---- the code's answer
 abbrev pub noJudgement : ℕ → Judged
-noJudgement fault = record { ok = false; fault = fault; pack = 0; revokes = record { count = 0; list = replicate 36 0 } }
+noJudgement fault = record { fault = fault; pack = 0; revokes = record { count = 0; list = replicate 36 0 } }
 
 -- the revokes of accepted parts, a byte each, in 36 places
 unfoldable pub listedIn : Parts → Revokes
@@ -54,7 +54,7 @@ listedIn p = record { count = length (revokesOf p); list = padded 0 36 (revokeBy
 
 abbrev pub judgedOf : Reading Parts → Judged
 judgedOf (refused n place) = noJudgement (faultOf n place)
-judgedOf (found p at) = record { ok = true; fault = 0; pack = number (answerFields p); revokes = listedIn p }
+judgedOf (found p at) = record { fault = 0; pack = number (answerFields p); revokes = listedIn p }
 
 -- the answer's fields, passed out or with a contract, with a claim or without one
 unfoldable pub boardFields : ℕ → ℕ → Bool → Contract → Tricks → Revokes → Claimed → ℕ → List Field

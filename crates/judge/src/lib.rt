@@ -61,8 +61,9 @@ pub extern "C" fn judge_record(bytes: &[u8], answer: &mut [u8], list: &mut [u8])
         return 1025;
     }
     let judged = judge(bytes);
-    if !judged.ok {
-        return judged.fault;
+    let fault = judged.fault;
+    if fault != 0 {
+        return fault;
     }
     let pack = judged.pack;
     let revokes = judged.revokes;
@@ -70,5 +71,5 @@ pub extern "C" fn judge_record(bytes: &[u8], answer: &mut [u8], list: &mut [u8])
     let count = revokes.count as usize;
     put7(answer, pack);
     put_list(list, listed, count);
-    0
+    fault
 }

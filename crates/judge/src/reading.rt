@@ -15,7 +15,7 @@ ghost use Rattle.laws.specs.Law44.{cardsPlayed};
 ghost use Rattle.laws.specs.CardRefusal.{cardRefusal};
 ghost use Rattle.laws.specs.Reading.{numberAt, readEach, overfull};
 ghost use Rattle.laws.specs.Judge.{readHeading, readDeal, readCalls};
-ghost use Rattle.judge.specs.Sections.{noHeading, headingOf, noCalls, calledOf, noDeal, dealtOf, rowAt, noCards, cardedOf, cardsBy, noClaim, claimOf, pointAt, noClaimBy, markedBy, claimBy};
+ghost use Rattle.judge.specs.Sections.{noHeading, headingOf, noCalls, calledOf, noDeal, dealtOf, rowAt, noCards, cardedOf, cardsBy, noClaim, claimOf, mayClaim, noClaimBy, markedBy, claimBy};
 
 // Board and table, or why they are refused.
 pub struct Heading {
@@ -319,10 +319,13 @@ fn read_no_claim(out: bool, played: u8, at: usize) -> Claimed
     }
 }
 
-// Whether so many cards played are a point for a claim.
-fn claim_point(played: u8) -> bool
-    ensures { λ r. ⌜ r ≡ pointAt played ⌝ }
+// Whether a claim may stand after so many cards.
+fn may_claim(out: bool, played: u8) -> bool
+    ensures { λ r. ⌜ r ≡ mayClaim out played ⌝ }
 {
+    if out {
+        return false;
+    }
     if played % 4 != 0 {
         return false;
     }
@@ -337,10 +340,7 @@ fn read_marked_claim(bytes: &[u8], out: bool, played: u8, at: usize) -> Claimed
     requires { ⌜ at < 65536 ⌝ }
     ensures { λ r. ⌜ r ≡ claimOf (markedBy out played (now (bytes .entry)) at) ⌝ }
 {
-    if out {
-        return no_claim(14336 + played as u32);
-    }
-    if !claim_point(played) {
+    if !may_claim(out, played) {
         return no_claim(14336 + played as u32);
     }
     let Field::Value(tricks) = field::read(bytes, at, 4) else {

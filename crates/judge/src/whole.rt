@@ -22,9 +22,8 @@ ghost use Rattle.laws.specs.Record.{number};
 ghost use Rattle.laws.specs.Judge.{readRecord};
 ghost use Rattle.judge.specs.Whole.{noJudgement, judgedOf, boardFields, CardsTold, CallsTold, afterCards, afterCalls, afterDeal};
 
-// The answer's bits and the revokes, or why the record is refused.
+// The answer's bits and the revokes; or why the record is refused, which is 0 where it is accepted.
 pub struct Judged {
-    pub ok: bool,
     pub fault: u32,
     pub pack: u64,
     pub revokes: Revokes,
@@ -38,7 +37,6 @@ fn refused(fault: u32) -> Judged
         list: [0u8; 36],
     };
     Judged {
-        ok: false,
         fault,
         pack: 0,
         revokes,
@@ -104,7 +102,6 @@ fn judge_claim(
     }
     let pack = settle_board(board, table, out, k, ts, rs, claimed, tricks_left(played));
     Judged {
-        ok: true,
         fault: 0,
         pack,
         revokes: rs,
