@@ -1,5 +1,6 @@
 pub mod Words
 pub mod Suits
 pub mod Built
+pub mod Held
 pub mod Thirteen
 pub mod Sides

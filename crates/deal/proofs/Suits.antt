@@ -23,13 +23,6 @@ pub no-suit : (s suit : ℕ) (l : List ℕ) → length l ≡ 52 → 3 < suit →
 unfolding suitCount cardsDealt howMany
 no-suit s suit l long h = rw (drop-of-length-le l {i = 13 * suit} (omega arith))
 
--- the set bits of the word of the suit's places
-pub thirteen-places : (s suit : ℕ) (l : List ℕ) {w : ℕ} → w ≡ wordOf s (take (13 * suit + 13 - 13 * suit) (drop (13 * suit) l)) → ones w ≡ suitCount s suit l
-unfolding suitCount
-thirteen-places s suit l e =
-    let n : 13 * suit + 13 - 13 * suit ≡ 13 = omega arith in
-    ap ones (e ∙ rw n) ∙ ones-word s (suitPlaces suit l)
-
 module _ (l : List ℕ) (long : length l ≡ 52) (s suit : ℕ) where
   -- place r of the suit is card 13 × suit + r
   place : (r : ℕ) → r < 13 → getD (suitPlaces suit l) r noSeat ≡ dealtTo l (13 * suit + r)

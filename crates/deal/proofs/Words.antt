@@ -82,17 +82,17 @@ pub word-front : (s : ℕ) (l : List ℕ) (i n : ℕ) → i < length l
 unfolding wordOf
 word-front s l i n h = rw (drop-cons l i 0 h)
 
--- A loop down the places: w is the word of the places from i up to n, and room is left for one more.
-module _ (s i n w : ℕ) (l : List ℕ) (long : length l ≡ 52) (p : 0 < i) (h : i ≤ n) (le : n ≤ 52) (e : w ≡ wordOf s (take (n - i) (drop i l))) where
+-- A loop down the places: w is the word of the places from i on, and room is left for one more.
+module _ (s i w : ℕ) (l : List ℕ) (long : length l ≡ 52) (p : 0 < i) (h : i ≤ 52) (e : w ≡ wordOf s (take (52 - i) (drop i l))) where
   pub room : w < 2 ^ 51
-  room = subst (λ (x : ℕ). x < 2 ^ 51) (sym e) (word-lt s (take (n - i) (drop i l)) 51 (simp (length-take, length-drop) (omega arith)))
+  room = subst (λ (x : ℕ). x < 2 ^ 51) (sym e) (word-lt s (take (52 - i) (drop i l)) 51 (simp (length-take, length-drop) (omega arith)))
 
-  pub goes-down : (b : Bool) → eqb (getD l (i - 1) 0) s ≡ b → w * 2 + bit b ≡ wordOf s (take (n - (i - 1)) (drop (i - 1) l))
+  pub goes-down : (b : Bool) → eqb (getD l (i - 1) 0) s ≡ b → w * 2 + bit b ≡ wordOf s (take (52 - (i - 1)) (drop (i - 1) l))
   goes-down b t =
       let within : i - 1 < length l = omega arith in
       let up : suc (i - 1) ≡ i = omega arith in
-      let more : n - (i - 1) ≡ suc (n - i) = omega arith in
+      let more : 52 - (i - 1) ≡ suc (52 - i) = omega arith in
       sym (ap (λ (k : ℕ). wordOf s (take k (drop (i - 1) l))) more
-      ∙ word-front s l (i - 1) (n - i) within
-      ∙ ap₂ (λ (x : ℕ) (y : Bool). wordOf s (take (n - i) (drop x l)) * 2 + bit y) up t
+      ∙ word-front s l (i - 1) (52 - i) within
+      ∙ ap₂ (λ (x : ℕ) (y : Bool). wordOf s (take (52 - i) (drop x l)) * 2 + bit y) up t
       ∙ ap (λ (x : ℕ). x * 2 + bit b) (sym e))

@@ -1,9 +1,10 @@
--- A seat's cards as a word, one bit for a place of the holder list, and a suit's cards as its thirteen places.
+-- A seat's hand as a word, one bit for a place of the holder list, and a suit's cards as thirteen of its bits.
 -- Assumes nothing.
-use Prim.Native.Nat.{ℕ, _+_, _*_}
-use mathlib.Core.Bool.{Bool, _&&_}
+use Prim.Native.Nat.{ℕ, _+_, _-_, _*_, _/_, _%_, _^_}
+use mathlib.Core.Bool.{Bool, not, _&&_}
 use mathlib.Core.List.{List, [], _∷_}
-use lib.Dec.{eqb}
+use lib.Dec.{eqb, ltb}
+use lib.Count.{ones}
 use lib.ListN.{take, drop}
 use Rattle.laws.specs.Choice.{if_then_else_, someBelow}
 use Rattle.laws.specs.Cards.{dealtTo, cardsDealt}
@@ -17,6 +18,18 @@ wordOf seat (holder ∷ rest) = wordOf seat rest * 2 + (if eqb holder seat then 
 -- the words of North, East, South and West
 unfoldable pub wordsOf : List ℕ → List ℕ
 wordsOf holders = wordOf 0 holders ∷ wordOf 1 holders ∷ wordOf 2 holders ∷ wordOf 3 holders ∷ []
+
+-- how many cards of a suit a hand has: the set bits among the suit's thirteen; of a suit of 4 or more there are none
+unfoldable pub suitBits : ℕ → ℕ → ℕ
+suitBits hand suit = if ltb suit 4 then ones (hand / 2 ^ (13 * suit) % 2 ^ 13) else 0
+
+-- a hand has a card of a suit
+unfoldable pub hasSuit : ℕ → ℕ → Bool
+hasSuit hand suit = not (eqb (suitBits hand suit) 0)
+
+-- a hand without a card; one that does not have it, and any hand without what is no card, stays
+unfoldable pub withoutCard : ℕ → ℕ → ℕ
+withoutCard hand card = if ltb card 52 && eqb (hand / 2 ^ card % 2) 1 then hand - 2 ^ card else hand
 
 -- the thirteen places of a suit; none for a suit of 4 or more, since there are 52 places
 abbrev pub suitPlaces : ℕ → List ℕ → List ℕ

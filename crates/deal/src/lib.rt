@@ -1,20 +1,18 @@
 // The deal: a seat's hand as a 52-bit word of the holders, thirteen cards each, suits still held, and Law 2.
 // The holder of a card is any number: seats are 0 to 3, and a card with another holder is in nobody's hand.
 ghost use mathlib.Core.Path.{_≡_};
-ghost use Prim.Native.Nat.{_-_, _^_, _≤_, _<_};
-ghost use lib.ListN.{take, drop};
+ghost use Prim.Native.Nat.{_-_, _^_, _<_};
 ghost use Rattle.laws.specs.Cards.{cardsDealt, shortSeat};
 ghost use Rattle.laws.specs.Law2;
-ghost use Rattle.deal.specs.Hands.{wordOf, wordsOf, suitCount, holdsOne};
+ghost use Rattle.deal.specs.Hands.{wordOf, wordsOf, suitBits, hasSuit, withoutCard};
 
-// The places from `from` up to `to` that a seat holds, as bits.
-fn word(holders: [u8; 52], seat: u8, from: usize, to: usize) -> u64
-    requires { ⌜ (from ≤ to) × (to ≤ 52) ⌝ }
-    ensures { λ r. ⌜ r ≡ wordOf seat (take (to - from) (drop from holders)) ⌝ }
+// The hand of a seat: a bit for each of the 52 cards.
+pub fn hand(holders: [u8; 52], seat: u8) -> u64
+    ensures { λ r. ⌜ r ≡ wordOf seat holders ⌝ }
 {
     let mut bits: u64 = 0;
-    let mut i = to;
-    while from < i {
+    let mut i: usize = 52;
+    while 0 < i {
         i -= 1;
         bits = bits * 2;
         if holders[i] == seat {
@@ -24,36 +22,11 @@ fn word(holders: [u8; 52], seat: u8, from: usize, to: usize) -> u64
     bits
 }
 
-// The hand of a seat: a bit for each of the 52 cards.
-pub fn hand(holders: [u8; 52], seat: u8) -> u64
-    ensures { λ r. ⌜ r ≡ wordOf seat holders ⌝ }
-{
-    word(holders, seat, 0, 52)
-}
-
 // How many cards a seat holds.
 pub fn cards_held(holders: [u8; 52], seat: u8) -> u32
     ensures { λ r. ⌜ r ≡ cardsDealt seat holders ⌝ }
 {
     u64::count_ones(hand(holders, seat))
-}
-
-// How many cards of a suit a seat holds.
-pub fn suit_held(holders: [u8; 52], seat: u8, suit: u8) -> u32
-    ensures { λ r. ⌜ r ≡ suitCount seat suit holders ⌝ }
-{
-    if 3 < suit {
-        return 0;
-    }
-    let first = 13 * (suit as usize);
-    u64::count_ones(word(holders, seat, first, first + 13))
-}
-
-// Whether a seat holds a card of a suit.
-pub fn holds_suit(holders: [u8; 52], seat: u8, suit: u8) -> bool
-    ensures { λ r. ⌜ r ≡ holdsOne holders seat suit ⌝ }
-{
-    suit_held(holders, seat, suit) != 0
 }
 
 // The bit of a card.
@@ -64,8 +37,40 @@ fn bit_of(card: usize) -> u64
     1u64 << card
 }
 
+// How many cards of a suit a hand has.
+pub fn suit_held(hand: u64, suit: u8) -> u32
+    ensures { λ r. ⌜ r ≡ suitBits hand suit ⌝ }
+{
+    if 3 < suit {
+        return 0;
+    }
+    let first = 13 * (suit as usize);
+    u64::count_ones(hand / bit_of(first) % 8192)
+}
+
+// Whether a hand has a card of a suit.
+pub fn holds_suit(hand: u64, suit: u8) -> bool
+    ensures { λ r. ⌜ r ≡ hasSuit hand suit ⌝ }
+{
+    suit_held(hand, suit) != 0
+}
+
+// A hand without a card; one that does not have it stays.
+pub fn without(hand: u64, card: u8) -> u64
+    ensures { λ r. ⌜ r ≡ withoutCard hand card ⌝ }
+{
+    if 52 <= card {
+        return hand;
+    }
+    let bit = bit_of(card as usize);
+    if hand / bit % 2 == 0 {
+        return hand;
+    }
+    hand - bit
+}
+
 // The hands of the four seats, in one pass over the cards.
-fn hands(holders: [u8; 52]) -> [u64; 4]
+pub fn hands(holders: [u8; 52]) -> [u64; 4]
     ensures { λ r. ⌜ r ≡ wordsOf holders ⌝ }
 {
     let mut words = [0u64; 4];

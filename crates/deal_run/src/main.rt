@@ -41,11 +41,12 @@ fn by_suits() -> [u8; 52] {
 
 fn holdings(holders: [u8; 52]) {
     number(deal::short_seat(holders) as u64);
+    let north = deal::hand(holders, 0);
     let mut suit: u8 = 0;
     while suit < 5 {
         text(b" ");
-        number(deal::suit_held(holders, 0, suit) as u64);
-        flag(deal::holds_suit(holders, 0, suit));
+        number(deal::suit_held(north, suit) as u64);
+        flag(deal::holds_suit(north, suit));
         suit += 1;
     }
     text(b"\n");

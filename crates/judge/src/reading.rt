@@ -1,7 +1,6 @@
 // The record, read in order: board and table, deal, calls, cards, claim, padding. Each section is read as the Laws' section of that name is.
 use auction::Auction;
 use field::Field;
-use play::CardVerdict;
 use play::Play;
 ghost use mathlib.Core.Path.{_≡_};
 ghost use mathlib.Core.Bool.{not};
@@ -236,7 +235,12 @@ fn read_each_card(
     requires { ⌜ (at < 65536) × (count < 64) ⌝ }
     ensures { λ r. ⌜ r ≡ cardedOf deal trump opening (readEach 6 cardsPlayed (cardRefusal trump opening deal) count [] (now (bytes .entry)) at) ⌝ }
 {
-    let mut p = Play::new(deal, trump, opening);
+    let start = Play::new(deal, trump, opening);
+    let mut holders = start.holders;
+    let mut hands = deal::hands(holders);
+    let mut trick = start.trick;
+    let mut tricks = start.tricks;
+    let mut revokes = start.revokes;
     let mut here = at;
     let mut i: u8 = 0;
     while i < count {
@@ -244,19 +248,40 @@ fn read_each_card(
             return no_cards(2048);
         };
         let c = narrow(code);
-        let f = p.refusal(c);
-        if f != 0 {
-            return no_cards(f as u32 * 1024 + i as u32);
+        if 52 <= c {
+            return no_cards(11264 + i as u32);
         }
-        p = p.play(c);
+        let place = c as usize;
+        let seat = trick.turn();
+        if holders[place] != seat {
+            return no_cards(12288 + i as u32);
+        }
+        let own = seat as usize;
+        let hand = hands[own];
+        if play::is_revoke(hand, trick, c) {
+            revokes = revokes.with_revoke(play::next_byte(tricks, trick));
+        }
+        let complete = 3 <= trick.cards;
+        holders = play::with_played(holders, c, seat);
+        hands[own] = deal::without(hand, c);
+        trick = trick.with_card(c);
+        if complete {
+            tricks = tricks.with_trick(trick.leader);
+        }
         here += 6;
         i += 1;
     }
+    let after = Play {
+        holders,
+        trick,
+        tricks,
+        revokes,
+    };
     Carded {
         ok: true,
         fault: 0,
         next: here,
-        after: p,
+        after,
     }
 }
 

@@ -77,7 +77,7 @@ one-revoke rs r h =
     rw
     (lt-ltb (length rs) 36 h, map-last rs r, length-append rs (r ∷ []), sym (padded-more 0 36 (map byteOf rs) (byteOf r) (omega arith)), n)
 
-step-revokes : (p : Play) (c : ℕ) → c < 52 → step p c .revokes ≡ (if revokesWith p c then withRevoke (p .revokes) (byteNext p) else p .revokes)
+step-revokes : (p : Play) (c : ℕ) → c < 52 → step p c .revokes ≡ (if revokesWith p c then withRevoke (p .revokes) (byteNext (p .tricks) (p .trick)) else p .revokes)
 unfolding step
 step-revokes p c h = rw (lt-leb 52 c h)
 
@@ -113,7 +113,7 @@ module _ (deal : List ℕ) (trump opening : ℕ) (all : length deal ≡ 52) (dea
   at-most-36 g w = few-revokes g w .by-all
 
   -- the byte that a revoke at the next card gets is that of the Laws' revoke
-  byte-law : (c : ℕ) (g : List ℕ) → AllPlayed deal trump opening (c ∷ g) → byteNext (positionOf deal trump opening g) ≡ byteOf (revokeAt trump opening g)
+  byte-law : (c : ℕ) (g : List ℕ) → AllPlayed deal trump opening (c ∷ g) → byteNext (positionOf deal trump opening g .tricks) (positionOf deal trump opening g .trick) ≡ byteOf (revokeAt trump opening g)
   unfolding AllPlayed trickOf tricksOf revokeAt
   byte-law c g w =
       rw (

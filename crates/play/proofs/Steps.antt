@@ -1,7 +1,7 @@
 -- What a step of the code builds is what its definition says: a law for each way through the code, over variables. Assumes nothing.
 use Prim.Native.Nat.{ℕ, _≤_, _<_, _+_, _%_}
-use mathlib.Core.Path.{_≡_, sym, _∙_}
-use mathlib.Core.Bool.{Bool}
+use mathlib.Core.Path.{_≡_, sym, ap, _∙_}
+use mathlib.Core.Bool.{Bool, not, _&&_}
 use mathlib.Core.List.{List}
 use native.Mathlib.Omega.{arith}
 use borrow.Author.Tests.{le-leb, lt-leb, lt-ltb, eq-eqb, ne-eqb}
@@ -10,12 +10,14 @@ use lib.ListN.{length, getD, set}
 use Rattle.laws.specs.Choice.{if_then_else_}
 use Rattle.laws.specs.Cards.{suitOf, sideOf, noSeat}
 use Rattle.laws.proofs.Counts.{any-default}
+use Rattle.deal.specs.Hands.{wordOf}
+use Rattle.deal.proofs.Held.{has-holds}
 use Rattle.play.specs.declared.Trick.{Trick}
 use Rattle.play.specs.declared.Tricks.{Tricks}
 use Rattle.play.specs.declared.Revokes.{Revokes}
 use Rattle.play.specs.declared.Play.{Play}
 use Rattle.play.specs.Trick.{freshTrick, turnOf, takes, bestBy, completes, afterCard}
-use Rattle.play.specs.Position.{putPlayed, oneMore, withTrick, withRevoke, revokesWith, byteNext, verdictOf, step}
+use Rattle.play.specs.Position.{putPlayed, oneMore, withTrick, withRevoke, revokeBy, revokeFrom, revokesWith, byteNext, verdictOf, step}
 use Rattle.play.specs.declared.CardVerdict.the-variants.{Playable, NotHeld}
 
 -- ---- the trick: by is who wins so far
@@ -41,9 +43,15 @@ pub one-revoke-more : (rs : Revokes) (byte : ℕ) → rs .count < 36
 unfolding withRevoke
 one-revoke-more rs byte h = simp (lt-ltb (rs .count) 36 h)
 
+-- ---- a revoke, by the hand of the seat at turn
+pub from-hand : (l : List ℕ) → length l ≡ 52 → (t : Trick) (card seat hand : ℕ) → seat ≡ turnOf t → hand ≡ wordOf seat l → revokeFrom hand t card ≡ revokeBy l t card
+unfolding revokeFrom revokeBy
+from-hand l n t card seat hand es eh =
+    rw (eh, es) (ap (λ (b : Bool). not (eqb (t .cards) 0) && (not (eqb (suitOf card) (t .led)) && b)) (has-holds l n (turnOf t) (t .led)))
+
 -- ---- the position
 pub stepped : (p : Play) (card byte seat : ℕ) (holders : List ℕ) (next : Trick) (tricks : Tricks) (revokes : Revokes) (revoked : Bool) → card < 52
-    → revoked ≡ revokesWith p card → byte ≡ byteNext p → revokes ≡ (if revoked then withRevoke (p .revokes) byte else p .revokes)
+    → revoked ≡ revokesWith p card → byte ≡ byteNext (p .tricks) (p .trick) → revokes ≡ (if revoked then withRevoke (p .revokes) byte else p .revokes)
     → next ≡ afterCard (p .trick) card
     → tricks ≡ (if leb 3 (p .trick .cards) then withTrick (p .tricks) (next .leader) else p .tricks)
     → seat ≡ turnOf (p .trick) → holders ≡ putPlayed (p .holders) card seat

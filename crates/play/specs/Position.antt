@@ -8,7 +8,7 @@ use lib.ListN.{getD, set, replicate}
 use Rattle.laws.specs.Choice.{if_then_else_}
 use Rattle.laws.specs.Cards.{suitOf, sideOf, dealtTo}
 use Rattle.laws.specs.Refusals.{accepted, noCard, cardNotHeld}
-use Rattle.deal.specs.Hands.{holdsOne}
+use Rattle.deal.specs.Hands.{hasSuit, holdsOne}
 use Rattle.play.specs.declared.Trick.{Trick}
 use Rattle.play.specs.declared.Tricks.{Tricks}
 use Rattle.play.specs.declared.Revokes.{Revokes}
@@ -63,13 +63,17 @@ startOf holders trump opening = record { holders = holders; trick = freshTrick t
 unfoldable pub revokeBy : List ℕ → Trick → ℕ → Bool
 revokeBy holders t card = not (eqb (t .cards) 0) && (not (eqb (suitOf card) (t .led)) && holdsOne holders (turnOf t) (t .led))
 
+-- the same by the hand of the seat at turn
+unfoldable pub revokeFrom : ℕ → Trick → ℕ → Bool
+revokeFrom hand t card = not (eqb (t .cards) 0) && (not (eqb (suitOf card) (t .led)) && hasSuit hand (t .led))
+
 -- the same by the position's holders
 abbrev pub revokesWith : Play → ℕ → Bool
 revokesWith p card = revokeBy (p .holders) (p .trick) card
 
 -- the byte of a revoke at the next card
-abbrev pub byteNext : Play → ℕ
-byteNext p = revokeByte (oneMore (p .tricks .count)) (turnOf (p .trick)) (p .trick .led)
+abbrev pub byteNext : Tricks → Trick → ℕ
+byteNext ts t = revokeByte (oneMore (ts .count)) (turnOf t) (t .led)
 
 -- the verdict on a card: a code that is no card, then one that the seat at turn does not hold
 unfoldable pub verdictOf : Play → ℕ → CardVerdict
@@ -93,5 +97,5 @@ step p card =
       holders = putPlayed (p .holders) card (turnOf (p .trick));
       trick = afterCard (p .trick) card;
       tricks = if completes (p .trick) then withTrick (p .tricks) (afterCard (p .trick) card .leader) else p .tricks;
-      revokes = if revokesWith p card then withRevoke (p .revokes) (byteNext p) else p .revokes;
+      revokes = if revokesWith p card then withRevoke (p .revokes) (byteNext (p .tricks) (p .trick)) else p .revokes;
     })

@@ -11,7 +11,7 @@ ghost use Rattle.play.specs.Position.{
   withRevoke,
   revokeByte,
   startOf,
-  revokeBy,
+  revokeFrom,
   verdictOf,
   verdictNumber,
   step,
@@ -121,16 +121,15 @@ impl Trick {
 }
 
 // The holders with one place changed: the card was played by the seat.
-pub fn with_played(holders: [u8; 52], card: u8, seat: u8) -> [u8; 52]
+pub fn with_played(mut holders: [u8; 52], card: u8, seat: u8) -> [u8; 52]
     ensures { λ r. ⌜ r ≡ putPlayed holders card seat ⌝ }
 {
     if 52 <= card {
         return holders;
     }
     let at = card as usize;
-    let mut next = holders;
-    next[at] = 4 + seat % 4;
-    next
+    holders[at] = 4 + seat % 4;
+    holders
 }
 
 // One more trick; there are thirteen.
@@ -142,7 +141,7 @@ fn one_more(n: u8) -> u8
 
 impl Tricks {
     // One more trick, with its winner.
-    fn with_trick(mut self, seat: u8) -> Self
+    pub fn with_trick(mut self, seat: u8) -> Self
         ensures { λ r. ⌜ r ≡ withTrick self seat ⌝ }
     {
         if 13 <= self.count {
@@ -175,9 +174,16 @@ fn revoke_byte(trick: u8, seat: u8, suit: u8) -> u8
     trick % 16 * 16 + seat % 4 * 4 + suit % 4
 }
 
+// The byte of a revoke at the next card.
+pub fn next_byte(tricks: Tricks, t: Trick) -> u8
+    ensures { λ r. ⌜ r ≡ byteNext tricks t ⌝ }
+{
+    revoke_byte(one_more(tricks.count), t.turn(), t.led)
+}
+
 impl Revokes {
     // One more revoke.
-    fn with_revoke(mut self, byte: u8) -> Self
+    pub fn with_revoke(mut self, byte: u8) -> Self
         ensures { λ r. ⌜ r ≡ withRevoke self byte ⌝ }
     {
         if 36 <= self.count {
@@ -200,9 +206,9 @@ impl Revokes {
     }
 }
 
-// Whether a card would be a revoke, by the holders of the cards before it leaves its hand.
-pub fn is_revoke(holders: [u8; 52], t: Trick, card: u8) -> bool
-    ensures { λ r. ⌜ r ≡ revokeBy holders t card ⌝ }
+// Whether a card would be a revoke, by the hand of the seat at turn before the card leaves it.
+pub fn is_revoke(hand: u64, t: Trick, card: u8) -> bool
+    ensures { λ r. ⌜ r ≡ revokeFrom hand t card ⌝ }
 {
     if t.cards == 0 {
         return false;
@@ -210,7 +216,7 @@ pub fn is_revoke(holders: [u8; 52], t: Trick, card: u8) -> bool
     if card / 13 == t.led {
         return false;
     }
-    holds_suit(holders, t.turn(), t.led)
+    holds_suit(hand, t.led)
 }
 
 impl CardVerdict {
@@ -272,15 +278,6 @@ impl Play {
         self.verdict(card).number()
     }
 
-    // The byte of a revoke at the next card.
-    fn next_byte(self) -> u8
-        ensures { λ r. ⌜ r ≡ byteNext self ⌝ }
-    {
-        let t = self.trick;
-        let tricks = self.tricks;
-        revoke_byte(one_more(tricks.count), t.turn(), t.led)
-    }
-
     // The position with one card more, played by the seat at turn.
     pub fn play(mut self, card: u8) -> Self
         ensures { λ r. ⌜ r ≡ step self card ⌝ }
@@ -289,11 +286,13 @@ impl Play {
             return self;
         }
         let t = self.trick;
+        let seat = t.turn();
         let held = self.holders;
         let tricks = self.tricks;
         let revokes = self.revokes;
-        let holders = with_played(held, card, t.turn());
-        let revokes = revokes.after(is_revoke(held, t, card), self.next_byte());
+        let hand = deal::hand(held, seat);
+        let holders = with_played(held, card, seat);
+        let revokes = revokes.after(is_revoke(hand, t, card), next_byte(tricks, t));
         let next = t.with_card(card);
         let tricks = tricks.after(3 <= t.cards, next.leader);
         self.holders = holders;

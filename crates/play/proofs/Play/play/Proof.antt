@@ -1,10 +1,15 @@
 -- `play::Play::play` meets its contract: each part is what its call ensures. Assumes nothing.
+use mathlib.Core.Path.{_≡_, _∙_}
 use borrow.Author.Tests.{le-leb}
-use Rattle.play.specs.Position.{step}
-use Rattle.play.proofs.Steps.{stepped}
 use borrow.Author.Needs.{needs}
+use lib.ListN.{length}
+use Rattle.play.specs.Position.{step}
+use Rattle.play.proofs.Steps.{from-hand, stepped}
 use Rattle.play.proofs.Play.play.Statement.{statement}
 use Rattle.play.proofs.Play.play.Tie as tie
+
+fifty-two : (c : tie.Start) → length (c .args .self .holders) ≡ 52
+fifty-two c = search needs
 
 returns : tie.Need-returns
 unfolding step
@@ -12,6 +17,9 @@ returns c = simp (le-leb _ _ (c .if1 .taken))
 
 turn-requires : tie.Need-turn-requires
 turn-requires c κs = search needs
+
+hand-requires : tie.Need-hand-requires
+hand-requires c κs = search needs
 
 with-played-requires : tie.Need-with-played-requires
 with-played-requires c κs = search needs
@@ -32,9 +40,10 @@ after-requires-2 : tie.Need-after-requires-2
 after-requires-2 c κs = search needs
 
 returns-2 : tie.Need-returns-2
-returns-2 c = let s = c .before .before .before .before .before .before .before .before .before .before .before .before .before in
-    stepped (s .args .self) (s .args .card) _ _ _ _ _ _ _ (c .before .before .before .before .before .before .before .before .before .before .before .before .if1 .left) (c .before .before .before .before .before .is-revoke .ensures) (c .before .before .before .before .next-byte .ensures)
-    (c .before .before .before .after .ensures) (c .before .before .with-card .ensures) (c .after2 .ensures) (c .before .before .before .before .before .before .before .turn .ensures) (c .before .before .before .before .before .before .with-played .ensures)
+returns-2 c = 
+    let n = fifty-two (c .before .before .before .before .before .before .before .before .before .before .before .before .before .before) in
+    let revoked = c .before .before .before .before .before .is-revoke .ensures ∙ from-hand (c .before .before .before .before .before .before .before .before .before .before .before .before .before .before .args .self .holders) n (c .before .before .before .before .before .before .before .before .before .before .before .before .before .before .args .self .trick) (c .before .before .before .before .before .before .before .before .before .before .before .before .before .before .args .card) _ _ (c .before .before .before .before .before .before .before .before .before .before .before .turn .ensures) (c .before .before .before .before .before .before .before .hand .ensures) in
+    stepped (c .before .before .before .before .before .before .before .before .before .before .before .before .before .before .args .self) (c .before .before .before .before .before .before .before .before .before .before .before .before .before .before .args .card) _ _ _ _ _ _ _ (c .before .before .before .before .before .before .before .before .before .before .before .before .before .if1 .left) revoked (c .before .before .before .before .next-byte .ensures) (c .before .before .before .after .ensures) (c .before .before .with-card .ensures) (c .after2 .ensures) (c .before .before .before .before .before .before .before .before .before .before .before .turn .ensures) (c .before .before .before .before .before .before .with-played .ensures)
 
 pub play-spec : {M : Type 1} → statement M
 play-spec =
@@ -42,6 +51,7 @@ play-spec =
     (tie.spec
     returns
     turn-requires
+    hand-requires
     with-played-requires
     is-revoke-requires
     next-byte-requires

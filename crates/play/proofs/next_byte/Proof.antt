@@ -1,7 +1,7 @@
--- `play::Play::next_byte` meets its contract. Assumes nothing.
+-- `play::next_byte` meets its contract. Assumes nothing.
 use borrow.Author.Needs.{needs}
-use Rattle.play.proofs.Play.next_byte.Statement.{statement}
-use Rattle.play.proofs.Play.next_byte.Tie as tie
+use Rattle.play.proofs.next_byte.Statement.{statement}
+use Rattle.play.proofs.next_byte.Tie as tie
 
 one-more-requires : tie.Need-one-more-requires
 one-more-requires c κs = search needs
