@@ -54,7 +54,7 @@ fn window(bytes: &[u8], first: usize, skipped: usize, width: usize) -> u16
     (three / behind % all) as u16
 }
 
-// The field of `width` bits from bit `at` on.
+// The field of `width` bits from bit `at` on. Where three bytes are there from its first one on, it is whole.
 pub fn read(bytes: &[u8], at: usize, width: usize) -> Field
     ensures { λ r. ⌜ r ≡ fieldAt (now (bytes .entry)) at width ⌝ }
 {
@@ -64,6 +64,9 @@ pub fn read(bytes: &[u8], at: usize, width: usize) -> Field
     let first = at / 8;
     let skipped = at % 8;
     let count = bytes.len();
+    if first + 2 < count {
+        return Field::Value(window(bytes, first, skipped, width));
+    }
     if count < first {
         return Field::Short;
     }

@@ -25,7 +25,7 @@ use Rattle.play.specs.Position.{putPlayed, withTrick, withRevoke, revokeFrom, b
 use Rattle.play.specs.History.{positionOf, AllPlayed}
 use Rattle.play.proofs.Steps.{from-hand, stepped, held, not-held}
 use Rattle.play.proofs.Holders.{verdict-law, holders-52}
-use Rattle.judge.specs.declared.reading.Carded.{Carded}
+use Rattle.judge.specs.declared.cards.Carded.{Carded}
 use Rattle.judge.specs.Sections.{faultOf, noCards, cardedOf}
 use Rattle.judge.proofs.Turns.{Clean, Reached, begins, ends, short, stops, goes}
 

@@ -8,7 +8,7 @@ use lib.Dec.{eqb, leb}
 use Rattle.laws.specs.Law68.{Claim, none, agreed}
 use Rattle.laws.specs.Reading.{Reading, Reading.refused, Reading.found, read, refuse}
 use Rattle.laws.proofs.Tests.{and-right}
-use Rattle.judge.specs.declared.reading.Claimed.{Claimed}
+use Rattle.judge.specs.declared.claim.Claimed.{Claimed}
 use Rattle.judge.specs.Sections.{noClaim, claimOf, pointAt, mayClaim, noClaimBy, markedBy, claimBy}
 
 none-left : (b : Bool) → (not b && false) ≡ false

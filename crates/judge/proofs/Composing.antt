@@ -33,7 +33,7 @@ use Rattle.play.proofs.Cards.{fewer-than-four}
 use Rattle.play.proofs.Holders.{trick-law}
 use Rattle.play.proofs.Thirteen.{at-most-52}
 use Rattle.play.proofs.Complete.{tricks-law}
-use Rattle.judge.specs.declared.reading.Carded.{Carded}
+use Rattle.judge.specs.declared.cards.Carded.{Carded}
 use Rattle.judge.specs.declared.whole.Judged.{Judged}
 use Rattle.judge.specs.Sections.{cardsBy, cardedOf}
 use Rattle.judge.specs.Whole.{Good, CardsTold, CallsTold, afterCards, afterCalls, afterDeal, noJudgement, judgedOf}

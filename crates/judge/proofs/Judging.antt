@@ -35,7 +35,7 @@ use Rattle.transfer.specs.Inputs.{revokesIn, claimedBy, transferredIn}
 use Rattle.transfer.proofs.History.{revokes-back, transferred-law, plain-bytes}
 use Rattle.judge.specs.Settled.{headFields, playFields, wonIn, afterIn, stakeIn, settledFields}
 use Rattle.judge.specs.Whole.{Good, CardsTold, listedIn, afterCards, noJudgement, judgedOf, boardFields}
-use Rattle.judge.specs.declared.reading.Claimed.{Claimed}
+use Rattle.judge.specs.declared.claim.Claimed.{Claimed}
 use Rattle.judge.specs.declared.whole.Judged.{Judged}
 use Rattle.judge.specs.Sections.{claimOf, pointAt, noClaimBy, markedBy, claimBy}
 

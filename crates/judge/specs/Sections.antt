@@ -17,8 +17,8 @@ use Rattle.play.specs.History as Play
 use Rattle.judge.specs.declared.reading.Heading.{Heading}
 use Rattle.judge.specs.declared.reading.Called.{Called}
 use Rattle.judge.specs.declared.reading.Dealt.{Dealt}
-use Rattle.judge.specs.declared.reading.Carded.{Carded}
-use Rattle.judge.specs.declared.reading.Claimed.{Claimed}
+use Rattle.judge.specs.declared.cards.Carded.{Carded}
+use Rattle.judge.specs.declared.claim.Claimed.{Claimed}
 
 -- a refusal's number and place as one number
 abbrev pub faultOf : ℕ → ℕ → ℕ

@@ -22,7 +22,7 @@ use Rattle.play.specs.declared.Play.{Play}
 use Rattle.play.specs.declared.Tricks.{Tricks}
 use Rattle.play.specs.declared.Revokes.{Revokes}
 use Rattle.play.specs.History.{positionOf, AllPlayed}
-use Rattle.judge.specs.declared.reading.Claimed.{Claimed}
+use Rattle.judge.specs.declared.claim.Claimed.{Claimed}
 use Rattle.judge.specs.declared.whole.Judged.{Judged}
 use Rattle.judge.specs.Sections.{faultOf}
 use Rattle.judge.specs.Settled.{headFields, settledFields}

@@ -1,20 +1,15 @@
-// The record, read in order: board and table, deal, calls, cards, claim, padding. Each section is read as the Laws' section of that name is.
+// The record up to the last call, read in order: board and table, deal, calls. Each section is read as the Laws' section of that name is.
 use auction::Auction;
 use field::Field;
-use play::Play;
 ghost use mathlib.Core.Path.{_≡_};
-ghost use mathlib.Core.Bool.{not};
 ghost use mathlib.Core.List.{[]};
 ghost use Prim.Native.Nat.{_+_, _*_, _<_, _≤_};
 ghost use lib.ListN.{length};
-ghost use Rattle.laws.specs.Choice.{if_then_else_};
 ghost use Rattle.laws.specs.Auction.{callPlace};
 ghost use Rattle.laws.specs.CallRefusal.{callRefusal};
-ghost use Rattle.laws.specs.Law44.{cardsPlayed};
-ghost use Rattle.laws.specs.CardRefusal.{cardRefusal};
-ghost use Rattle.laws.specs.Reading.{numberAt, readEach, overfull};
+ghost use Rattle.laws.specs.Reading.{numberAt, readEach};
 ghost use Rattle.laws.specs.Judge.{readHeading, readDeal, readCalls};
-ghost use Rattle.judge.specs.Sections.{noHeading, headingOf, noCalls, calledOf, noDeal, dealtOf, rowAt, noCards, cardedOf, cardsBy, noClaim, claimOf, mayClaim, noClaimBy, markedBy, claimBy};
+ghost use Rattle.judge.specs.Sections.{noHeading, headingOf, noCalls, calledOf, noDeal, dealtOf, rowAt};
 
 // Board and table, or why they are refused.
 pub struct Heading {
@@ -39,24 +34,7 @@ pub struct Dealt {
     pub holders: [u8; 52],
 }
 
-// The position after the cards and the bit behind them, or why they are refused.
-pub struct Carded {
-    pub ok: bool,
-    pub fault: u32,
-    pub next: usize,
-    pub after: Play,
-}
-
-// The claim and the bit behind it, or why it is refused.
-pub struct Claimed {
-    pub ok: bool,
-    pub fault: u32,
-    pub next: usize,
-    pub marked: bool,
-    pub tricks: u8,
-}
-
-fn narrow(x: u16) -> u8
+pub(crate) fn narrow(x: u16) -> u8
     requires { ⌜ x < 256 ⌝ }
     ensures { λ r. ⌜ r ≡ x ⌝ }
 {
@@ -209,212 +187,4 @@ pub(crate) fn read_deal(bytes: &[u8]) -> Dealt
         fault: 0,
         holders: row,
     }
-}
-
-fn no_cards(fault: u32) -> Carded
-    ensures { λ r. ⌜ r ≡ noCards fault ⌝ }
-{
-    let after = Play::new([0u8; 52], 0, 0);
-    Carded {
-        ok: false,
-        fault,
-        next: 0,
-        after,
-    }
-}
-
-// So many cards from a bit on, each judged on those before it.
-fn read_each_card(
-    bytes: &[u8],
-    deal: [u8; 52],
-    trump: u8,
-    opening: u8,
-    at: usize,
-    count: u8,
-) -> Carded
-    requires { ⌜ (at < 65536) × (count < 64) ⌝ }
-    ensures { λ r. ⌜ r ≡ cardedOf deal trump opening (readEach 6 cardsPlayed (cardRefusal trump opening deal) count [] (now (bytes .entry)) at) ⌝ }
-{
-    let start = Play::new(deal, trump, opening);
-    let mut holders = start.holders;
-    let mut hands = deal::hands(holders);
-    let mut trick = start.trick;
-    let mut tricks = start.tricks;
-    let mut revokes = start.revokes;
-    let mut here = at;
-    let mut i: u8 = 0;
-    while i < count {
-        let Field::Value(code) = field::read(bytes, here, 6) else {
-            return no_cards(2048);
-        };
-        let c = narrow(code);
-        if 52 <= c {
-            return no_cards(11264 + i as u32);
-        }
-        let place = c as usize;
-        let seat = trick.turn();
-        if holders[place] != seat {
-            return no_cards(12288 + i as u32);
-        }
-        let own = seat as usize;
-        let hand = hands[own];
-        if play::is_revoke(hand, trick, c) {
-            revokes = revokes.with_revoke(play::next_byte(tricks, trick));
-        }
-        let complete = 3 <= trick.cards;
-        holders = play::with_played(holders, c, seat);
-        hands[own] = deal::without(hand, c);
-        trick = trick.with_card(c);
-        if complete {
-            tricks = tricks.with_trick(trick.leader);
-        }
-        here += 6;
-        i += 1;
-    }
-    let after = Play {
-        holders,
-        trick,
-        tricks,
-        revokes,
-    };
-    Carded {
-        ok: true,
-        fault: 0,
-        next: here,
-        after,
-    }
-}
-
-// The most cards that may be played: none on a board that was passed out.
-fn most_cards(out: bool) -> u8
-    ensures { λ r. ⌜ r ≡ (if out then 0 else 52) ⌝ }
-{
-    if out { 0 } else { 52 }
-}
-
-// The cards, from their count on; `out` says that the board was passed out.
-pub(crate) fn read_cards(
-    bytes: &[u8],
-    deal: [u8; 52],
-    out: bool,
-    trump: u8,
-    opening: u8,
-    at: usize,
-) -> Carded
-    requires { ⌜ at < 32768 ⌝ }
-    ensures { λ r. ⌜ r ≡ cardedOf deal trump opening (cardsBy out trump opening deal (now (bytes .entry)) at) ⌝ }
-{
-    let Field::Value(count) = field::read(bytes, at, 6) else {
-        return no_cards(2048);
-    };
-    let n = narrow(count);
-    if most_cards(out) < n {
-        return no_cards(10240 + n as u32);
-    }
-    read_each_card(bytes, deal, trump, opening, at + 6, n)
-}
-
-fn no_claim(fault: u32) -> Claimed
-    ensures { λ r. ⌜ r ≡ noClaim fault ⌝ }
-{
-    Claimed {
-        ok: false,
-        fault,
-        next: 0,
-        marked: false,
-        tricks: 0,
-    }
-}
-
-// Where no claim is marked.
-fn read_no_claim(out: bool, played: u8, at: usize) -> Claimed
-    ensures { λ r. ⌜ r ≡ claimOf (noClaimBy out played [] at) ⌝ }
-{
-    if !out {
-        if played != 52 {
-            return no_claim(13312 + played as u32);
-        }
-    }
-    Claimed {
-        ok: true,
-        fault: 0,
-        next: at,
-        marked: false,
-        tricks: 0,
-    }
-}
-
-// Whether a claim may stand after so many cards.
-fn may_claim(out: bool, played: u8) -> bool
-    ensures { λ r. ⌜ r ≡ mayClaim out played ⌝ }
-{
-    if out {
-        return false;
-    }
-    if played % 4 != 0 {
-        return false;
-    }
-    if played < 4 {
-        return false;
-    }
-    played <= 48
-}
-
-// The tricks of a marked claim.
-fn read_marked_claim(bytes: &[u8], out: bool, played: u8, at: usize) -> Claimed
-    requires { ⌜ at < 65536 ⌝ }
-    ensures { λ r. ⌜ r ≡ claimOf (markedBy out played (now (bytes .entry)) at) ⌝ }
-{
-    if !may_claim(out, played) {
-        return no_claim(14336 + played as u32);
-    }
-    let Field::Value(tricks) = field::read(bytes, at, 4) else {
-        return no_claim(2048);
-    };
-    let left = 13 - played / 4;
-    let t = narrow(tricks);
-    if left < t {
-        return no_claim(15360 + t as u32);
-    }
-    Claimed {
-        ok: true,
-        fault: 0,
-        next: at + 4,
-        marked: true,
-        tricks: t,
-    }
-}
-
-// The claim's mark, and the claim.
-pub(crate) fn read_claim(bytes: &[u8], out: bool, played: u8, at: usize) -> Claimed
-    requires { ⌜ at < 32768 ⌝ }
-    ensures { λ r. ⌜ r ≡ claimOf (claimBy out played (now (bytes .entry)) at) ⌝ }
-{
-    let Field::Value(mark) = field::read(bytes, at, 1) else {
-        return no_claim(2048);
-    };
-    if mark == 0 {
-        return read_no_claim(out, played, at + 1);
-    }
-    read_marked_claim(bytes, out, played, at + 1)
-}
-
-// Whether nothing but padding stands from a bit on.
-pub(crate) fn is_padding(bytes: &[u8], at: usize) -> bool
-    ensures { λ r. ⌜ r ≡ not (overfull (now (bytes .entry)) at) ⌝ }
-{
-    let used = at % 8;
-    if bytes.len() <= at / 8 {
-        return true;
-    }
-    if used == 0 {
-        return false;
-    }
-    if bytes.len() != at / 8 + 1 {
-        return false;
-    }
-    let Field::Value(rest) = field::read(bytes, at, 8 - used) else {
-        return false;
-    };
-    rest == 0
 }

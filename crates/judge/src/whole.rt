@@ -1,9 +1,9 @@
 // The whole record judged: its sections in order, then the answer's bits and the revokes.
-use crate::reading::Claimed;
-use crate::reading::is_padding;
+use crate::cards::read_cards;
+use crate::claim::Claimed;
+use crate::claim::is_padding;
+use crate::claim::read_claim;
 use crate::reading::read_calls;
-use crate::reading::read_cards;
-use crate::reading::read_claim;
 use crate::reading::read_deal;
 use crate::reading::read_heading;
 use crate::settle::settle;

@@ -40,7 +40,7 @@ after-requires-2 : tie.Need-after-requires-2
 after-requires-2 c κs = search needs
 
 returns-2 : tie.Need-returns-2
-returns-2 c = 
+returns-2 c =
     let n = fifty-two (c .before .before .before .before .before .before .before .before .before .before .before .before .before .before) in
     let revoked = c .before .before .before .before .before .is-revoke .ensures ∙ from-hand (c .before .before .before .before .before .before .before .before .before .before .before .before .before .before .args .self .holders) n (c .before .before .before .before .before .before .before .before .before .before .before .before .before .before .args .self .trick) (c .before .before .before .before .before .before .before .before .before .before .before .before .before .before .args .card) _ _ (c .before .before .before .before .before .before .before .before .before .before .before .turn .ensures) (c .before .before .before .before .before .before .before .hand .ensures) in
     stepped (c .before .before .before .before .before .before .before .before .before .before .before .before .before .before .args .self) (c .before .before .before .before .before .before .before .before .before .before .before .before .before .before .args .card) _ _ _ _ _ _ _ (c .before .before .before .before .before .before .before .before .before .before .before .before .before .if1 .left) revoked (c .before .before .before .before .next-byte .ensures) (c .before .before .before .after .ensures) (c .before .before .with-card .ensures) (c .after2 .ensures) (c .before .before .before .before .before .before .before .before .before .before .before .turn .ensures) (c .before .before .before .before .before .before .with-played .ensures)

@@ -4,8 +4,8 @@ use borrow.Author.Needs.{needs}
 use mathlib.Core.List.{[]}
 use borrow.Author.Tests.{not-true, not-false}
 use Rattle.judge.proofs.Claiming.{unfinished, complete, passed}
-use Rattle.judge.proofs.reading.read_no_claim.Statement.{statement}
-use Rattle.judge.proofs.reading.read_no_claim.Tie as tie
+use Rattle.judge.proofs.claim.read_no_claim.Statement.{statement}
+use Rattle.judge.proofs.claim.read_no_claim.Tie as tie
 
 add-no-claim : tie.Need-add-no-claim
 add-no-claim c = search needs

@@ -6,8 +6,8 @@ use borrow.Author.Needs.{needs}
 use lib.Dec.{lit≤}
 use Rattle.field.proofs.ThreeBytes.{value-reads, value-lt, short-stops}
 use Rattle.judge.proofs.Sections.{cards-short, too-many-cards, cards-read}
-use Rattle.judge.proofs.reading.read_cards.Statement.{statement}
-use Rattle.judge.proofs.reading.read_cards.Tie as tie
+use Rattle.judge.proofs.cards.read_cards.Statement.{statement}
+use Rattle.judge.proofs.cards.read_cards.Tie as tie
 
 read-requires : tie.Need-read-requires
 read-requires c κs = search needs

@@ -1,8 +1,8 @@
 -- `no_cards` meets its contract. Assumes nothing.
 use Rattle.play.specs.History.{positionOf}
 use borrow.Author.Needs.{needs}
-use Rattle.judge.proofs.reading.no_cards.Statement.{statement}
-use Rattle.judge.proofs.reading.no_cards.Tie as tie
+use Rattle.judge.proofs.cards.no_cards.Statement.{statement}
+use Rattle.judge.proofs.cards.no_cards.Tie as tie
 
 new-requires : tie.Need-new-requires
 new-requires c κs = search needs

@@ -4,13 +4,14 @@ use mathlib.Core.Path.{_≡_, refl, sym, ap, _∙_}
 use mathlib.Core.Logic.{⊎-elim}
 use native.Mathlib.Omega.{arith}
 use borrow.Author.Needs.{needs}
+use borrow.Author.Tests.{le-leb, lt-leb}
 use lib.Dec.{lit≤}
 use lib.ListN.{length}
 use Rattle.field.proofs.ThreeBytes.{value-reads, value-lt, short-stops}
 use Rattle.play.specs.Position.{withTrick, withRevoke, byteNext}
 use Rattle.judge.proofs.CardTurns.{starts-with, starts-itself, card-short, PartsAt, parts-begin, parts-end, no-such-card, not-in-hand, plays, fifty-two, set-there, left-there, seat-low}
-use Rattle.judge.proofs.reading.read_each_card.Statement.{statement}
-use Rattle.judge.proofs.reading.read_each_card.Tie as tie
+use Rattle.judge.proofs.cards.read_each_card.Statement.{statement}
+use Rattle.judge.proofs.cards.read_each_card.Tie as tie
 
 abbrev Inv-loop : tie.InvT-loop
 Inv-loop bytes trump opening at count holders₀ hands₀ trick₀ tricks₀ revokes₀ here₀ i₀ holders hands trick tricks revokes here i =
@@ -100,9 +101,6 @@ next-byte-requires c κs = search needs
 with-revoke-requires : tie.Need-with-revoke-requires Inv-loop μ-loop
 with-revoke-requires c κs = search needs
 
-with-played-requires : tie.Need-with-played-requires Inv-loop μ-loop
-with-played-requires c κs = search needs
-
 without-requires : tie.Need-without-requires Inv-loop μ-loop
 without-requires c κs = search needs
 
@@ -110,7 +108,10 @@ mul-hands : tie.Need-mul-hands Inv-loop μ-loop
 mul-hands c = search needs
 
 array-write-hands : tie.Need-array-write-hands Inv-loop μ-loop
-array-write-hands c = seat-low (c .before .before .before .before .before .before .before .before .before .before .before .before .before .before .loop .trick) (c .before .before .before .before .before .before .turn .ensures)
+array-write-hands c = seat-low (c .before .before .before .before .before .before .before .before .before .before .before .before .loop .trick) (c .before .before .before .before .turn .ensures)
+
+with-played-requires : tie.Need-with-played-requires Inv-loop μ-loop
+with-played-requires c κs = search needs
 
 with-card-requires : tie.Need-with-card-requires Inv-loop μ-loop
 with-card-requires c κs = search needs
@@ -128,7 +129,7 @@ loop-less : tie.Need-loop-less Inv-loop μ-loop
 loop-less c = search needs
 
 loop-again : tie.Need-loop-again Inv-loop μ-loop
-loop-again c = let all : length (c .before .before .before .before .before .before .before .before .before .before .before .before .before .before .before .before .before .before .before .before .before .before .new .result .holders) ≡ 52 = ap length (starts-with (c .before .before .before .before .before .before .before .before .before .before .before .before .before .before .before .before .before .before .before .before .before .before .before .before .args .deal) (c .before .before .before .before .before .before .before .before .before .before .before .before .before .before .before .before .before .before .before .before .before .before .before .before .args .trump) (c .before .before .before .before .before .before .before .before .before .before .before .before .before .before .before .before .before .before .before .before .before .before .before .before .args .opening) (c .before .before .before .before .before .before .before .before .before .before .before .before .before .before .before .before .before .before .before .before .before .before .new .ensures)) ∙ deal-52 (c .before .before .before .before .before .before .before .before .before .before .before .before .before .before .before .before .before .before .before .before .before .before .before .before) in plays (c .before .before .before .before .before .before .before .before .before .before .before .before .before .before .before .before .before .before .before .before .before .before .before .before .args .bytes .now) (c .before .before .before .before .before .before .before .before .before .before .before .before .before .before .before .before .before .before .before .before .before .before .new .result .holders) (c .before .before .before .before .before .before .before .before .before .before .before .before .before .before .before .before .before .before .before .before .before .before .before .before .args .trump) (c .before .before .before .before .before .before .before .before .before .before .before .before .before .before .before .before .before .before .before .before .before .before .before .before .args .opening) (c .before .before .before .before .before .before .before .before .before .before .before .before .before .before .before .before .before .before .before .before .before .before .before .before .args .at) (c .before .before .before .before .before .before .before .before .before .before .before .before .before .before .before .before .before .before .before .before .before .before .before .before .args .count) (c .before .before .before .before .before .before .before .before .before .before .before .before .before .before .before .before .loop .inv) all (c .before .before .before .before .before .before .before .before .before .before .before .before .before .before .before .loop-test .taken) (value-reads (c .before .before .before .before .before .before .before .before .before .before .before .before .before .before .before .before .before .before .before .before .before .before .before .before .args .bytes .now) (c .before .before .before .before .before .before .before .before .before .before .before .before .before .before .before .before .loop .here) 6 (sym (c .before .before .before .before .before .before .before .before .before .before .before .before .before .before .read .ensures) ∙ c .before .before .before .before .before .before .before .before .before .before .before .before .code .given .1)) (rw (c .before .before .before .before .before .before .before .before .before .before .narrow .ensures) at (c .before .before .before .before .before .before .before .before .before .if1 .left)) (c .before .before .before .before .before .before .before .before .turn .ensures) (rw (c .before .before .before .before .before .before .before .before .before .before .narrow .ensures) at (c .before .before .before .before .before .before .before .if2 .left)) refl (rw (c .before .before .before .before .before .before .before .before .before .before .narrow .ensures) at (c .before .before .before .before .before .before .is-revoke .ensures)) (⊎-elim (λ w. set-there (c .before .before .before .before .before .before .before .before .before .before .before .before .before .before .before .before .loop .revokes) (w .0 .taken) (w .3 ∙ w .2 .ensures ∙ ap (withRevoke (c .before .before .before .before .before .before .before .before .before .before .before .before .before .before .before .before .loop .revokes)) (w .1 .ensures))) (λ w. left-there (withRevoke (c .before .before .before .before .before .before .before .before .before .before .before .before .before .before .before .before .loop .revokes) (byteNext (c .before .before .before .before .before .before .before .before .before .before .before .before .before .before .before .before .loop .tricks) (c .before .before .before .before .before .before .before .before .before .before .before .before .before .before .before .before .loop .trick))) (w .0 .left) (w .1)) (c .before .before .before .before .before .if3 .came)) (rw (c .before .before .before .before .before .before .before .before .before .before .narrow .ensures) at (c .before .with-card .ensures)) (⊎-elim (λ w. set-there (c .before .before .before .before .before .before .before .before .before .before .before .before .before .before .before .before .loop .tricks) (w .0 .taken) (w .2 ∙ w .1 .ensures)) (λ w. left-there (withTrick (c .before .before .before .before .before .before .before .before .before .before .before .before .before .before .before .before .loop .tricks) (c .before .with-card .result .leader)) (w .0 .left) (w .1)) (c .if4 .came)) (rw (c .before .before .before .before .before .before .before .before .before .before .narrow .ensures) at (c .before .before .before .with-played .ensures)) (rw (c .before .before .before .before .before .before .before .before .before .before .narrow .ensures) at (c .before .before .without .ensures))
+loop-again c = let all : length (c .before .before .before .before .before .before .before .before .before .before .before .before .before .before .before .before .before .before .before .before .before .before .new .result .holders) ≡ 52 = ap length (starts-with (c .before .before .before .before .before .before .before .before .before .before .before .before .before .before .before .before .before .before .before .before .before .before .before .before .args .deal) (c .before .before .before .before .before .before .before .before .before .before .before .before .before .before .before .before .before .before .before .before .before .before .before .before .args .trump) (c .before .before .before .before .before .before .before .before .before .before .before .before .before .before .before .before .before .before .before .before .before .before .before .before .args .opening) (c .before .before .before .before .before .before .before .before .before .before .before .before .before .before .before .before .before .before .before .before .before .before .new .ensures)) ∙ deal-52 (c .before .before .before .before .before .before .before .before .before .before .before .before .before .before .before .before .before .before .before .before .before .before .before .before) in plays (c .before .before .before .before .before .before .before .before .before .before .before .before .before .before .before .before .before .before .before .before .before .before .before .before .args .bytes .now) (c .before .before .before .before .before .before .before .before .before .before .before .before .before .before .before .before .before .before .before .before .before .before .new .result .holders) (c .before .before .before .before .before .before .before .before .before .before .before .before .before .before .before .before .before .before .before .before .before .before .before .before .args .trump) (c .before .before .before .before .before .before .before .before .before .before .before .before .before .before .before .before .before .before .before .before .before .before .before .before .args .opening) (c .before .before .before .before .before .before .before .before .before .before .before .before .before .before .before .before .before .before .before .before .before .before .before .before .args .at) (c .before .before .before .before .before .before .before .before .before .before .before .before .before .before .before .before .before .before .before .before .before .before .before .before .args .count) (c .before .before .before .before .before .before .before .before .before .before .before .before .before .before .before .before .loop .inv) all (c .before .before .before .before .before .before .before .before .before .before .before .before .before .before .before .loop-test .taken) (value-reads (c .before .before .before .before .before .before .before .before .before .before .before .before .before .before .before .before .before .before .before .before .before .before .before .before .args .bytes .now) (c .before .before .before .before .before .before .before .before .before .before .before .before .before .before .before .before .loop .here) 6 (sym (c .before .before .before .before .before .before .before .before .before .before .before .before .before .before .read .ensures) ∙ c .before .before .before .before .before .before .before .before .before .before .before .before .code .given .1)) (rw (c .before .before .before .before .before .before .before .before .before .before .narrow .ensures) at (c .before .before .before .before .before .before .before .before .before .if1 .left)) (c .before .before .before .before .before .before .before .before .turn .ensures) (rw (c .before .before .before .before .before .before .before .before .before .before .narrow .ensures) at (c .before .before .before .before .before .before .before .if2 .left)) refl (rw (c .before .before .before .before .before .before .before .before .before .before .narrow .ensures) at (c .before .before .before .before .before .before .is-revoke .ensures)) (⊎-elim (λ w. set-there (c .before .before .before .before .before .before .before .before .before .before .before .before .before .before .before .before .loop .revokes) (w .0 .taken) (w .3 ∙ w .2 .ensures ∙ ap (withRevoke (c .before .before .before .before .before .before .before .before .before .before .before .before .before .before .before .before .loop .revokes)) (w .1 .ensures))) (λ w. left-there (withRevoke (c .before .before .before .before .before .before .before .before .before .before .before .before .before .before .before .before .loop .revokes) (byteNext (c .before .before .before .before .before .before .before .before .before .before .before .before .before .before .before .before .loop .tricks) (c .before .before .before .before .before .before .before .before .before .before .before .before .before .before .before .before .loop .trick))) (w .0 .left) (w .1)) (c .before .before .before .before .before .if3 .came)) (rw (c .before .before .before .before .before .before .before .before .before .before .narrow .ensures) at (c .before .before .with-card .ensures)) (⊎-elim (λ w. set-there (c .before .before .before .before .before .before .before .before .before .before .before .before .before .before .before .before .loop .tricks) (le-leb 3 (c .before .before .before .before .before .before .before .before .before .before .before .before .before .before .before .before .loop .trick .cards) (w .0 .taken)) (w .2 ∙ w .1 .ensures)) (λ w. left-there (withTrick (c .before .before .before .before .before .before .before .before .before .before .before .before .before .before .before .before .loop .tricks) (c .before .before .with-card .result .leader)) (lt-leb 3 (c .before .before .before .before .before .before .before .before .before .before .before .before .before .before .before .before .loop .trick .cards) (w .0 .left)) (w .1)) (c .if4 .came)) (rw (c .before .before .before .before .before .before .before .before .before .before .narrow .ensures) at (c .before .before .before .with-played .ensures)) (rw (c .before .before .before .before .before .before .before .before .before .before .narrow .ensures) at (c .before .before .before .before .without .ensures))
 
 returns-4 : tie.Need-returns-4 Inv-loop μ-loop
 returns-4 c = rw (sym (starts-with (c .before .before .before .before .before .before .before .before .before .args .deal) (c .before .before .before .before .before .before .before .before .before .args .trump) (c .before .before .before .before .before .before .before .before .before .args .opening) (c .before .before .before .before .before .before .before .new .ensures))) (parts-end (c .before .before .before .before .before .before .before .before .before .args .bytes .now) (c .before .before .before .before .before .before .before .new .result .holders) (c .before .before .before .before .before .before .before .before .before .args .trump) (c .before .before .before .before .before .before .before .before .before .args .opening) (c .before .before .before .before .before .before .before .before .before .args .at) (c .before .before .before .before .before .before .before .before .before .args .count) (c .before .loop .inv) (c .loop-test .left))
@@ -165,10 +166,10 @@ read-each-card-spec =
     is-revoke-requires
     next-byte-requires
     with-revoke-requires
-    with-played-requires
     without-requires
     mul-hands
     array-write-hands
+    with-played-requires
     with-card-requires
     with-trick-requires
     add-here

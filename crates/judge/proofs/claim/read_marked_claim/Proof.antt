@@ -7,8 +7,8 @@ use lib.Dec.{lit≤}
 use borrow.Author.Tests.{not-true, not-false}
 use Rattle.field.proofs.ThreeBytes.{value-reads, value-lt, short-stops}
 use Rattle.judge.proofs.Claiming.{claim-elsewhere, claim-short, claim-too-many, claim-agreed, point-le}
-use Rattle.judge.proofs.reading.read_marked_claim.Statement.{statement}
-use Rattle.judge.proofs.reading.read_marked_claim.Tie as tie
+use Rattle.judge.proofs.claim.read_marked_claim.Statement.{statement}
+use Rattle.judge.proofs.claim.read_marked_claim.Tie as tie
 
 may-claim-requires : tie.Need-may-claim-requires
 may-claim-requires c κs = search needs

@@ -7,8 +7,8 @@ use lib.Dec.{lit≤}
 use Rattle.field.proofs.ThreeBytes.{value-reads, short-stops}
 use Rattle.judge.specs.Sections.{claimOf}
 use Rattle.judge.proofs.Claiming.{mark-short, unmarked, marked, reads-none}
-use Rattle.judge.proofs.reading.read_claim.Statement.{statement}
-use Rattle.judge.proofs.reading.read_claim.Tie as tie
+use Rattle.judge.proofs.claim.read_claim.Statement.{statement}
+use Rattle.judge.proofs.claim.read_claim.Tie as tie
 
 read-requires : tie.Need-read-requires
 read-requires c κs = search needs

@@ -5,8 +5,8 @@ use native.Mathlib.Omega.{arith}
 use borrow.Author.Needs.{needs}
 use Rattle.field.proofs.ThreeBytes.{value-is, short-is}
 use Rattle.judge.proofs.Sections.{none-behind, whole-bytes, more-bytes, bits-left}
-use Rattle.judge.proofs.reading.is_padding.Statement.{statement}
-use Rattle.judge.proofs.reading.is_padding.Tie as tie
+use Rattle.judge.proofs.claim.is_padding.Statement.{statement}
+use Rattle.judge.proofs.claim.is_padding.Tie as tie
 
 returns : tie.Need-returns
 returns c = none-behind (c .before .before .args .bytes .now) (c .before .before .args .at) (c .if1 .taken)
