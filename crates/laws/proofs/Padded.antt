@@ -24,3 +24,10 @@ module _ {A : Type 0} (z : A) where
   padded-back n [] h = refl
   padded-back zero (x ∷ l) h = absurd (omega arith)
   padded-back (suc n) (x ∷ l) h = ap (λ (m : List A). x ∷ m) (padded-back n l (omega arith))
+
+  -- no place more and none less
+  pub length-padded : (n : ℕ) (l : List A) → length (padded z n l) ≡ n
+  unfolding padded
+  length-padded zero l = refl
+  length-padded (suc n) [] = ap suc (length-padded n [])
+  length-padded (suc n) (x ∷ l) = ap suc (length-padded n l)

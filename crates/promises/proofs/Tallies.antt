@@ -11,10 +11,11 @@ use lib.ListN.{length, length-append}
 use Rattle.laws.specs.Choice.{if_then_else_}
 use Rattle.laws.specs.Refusals.{refused}
 use Rattle.laws.specs.Tally.{freshRefusal, addRefusal, mergeRefusal, AllValid}
+use Rattle.laws.specs.Padded.{padded}
 use Rattle.laws.proofs.Tests.{by-test}
 use Rattle.tally.specs.declared.Tally.{Tally}
 use Rattle.tally.specs.declared.Tallied.{Tallied}
-use Rattle.tally.specs.Entries.{entriesOf, padded}
+use Rattle.tally.specs.Entries.{entriesOf}
 use Rattle.tally.specs.Tallies.{tallyWith, tallyOf, scoresIn, wellFormed, noTally, refusedWith, answerOf, freshOf, addOf, mergeOf}
 use Rattle.tally.specs.Points.{matchpointsOf}
 use Rattle.tally.proofs.Lists.{valid-append}

@@ -7,10 +7,11 @@ use mathlib.Core.List.{[], _∷_, _++_}
 use lib.IntN.{ℤ}
 use lib.ListN.{length}
 use Rattle.laws.specs.Tally.{freshRefusal, addRefusal, mergeRefusal, AllValid}
+use Rattle.laws.specs.Padded.{padded}
 use Rattle.tally.specs.declared.Size.{Size}
 use Rattle.tally.specs.declared.Tally.{Tally}
 use Rattle.tally.specs.declared.Tallied.{Tallied}
-use Rattle.tally.specs.Entries.{entries, expand, enter, entriesOf, padded}
+use Rattle.tally.specs.Entries.{entries, expand, enter, entriesOf}
 use Rattle.tally.specs.Tallies.{tallyWith, tallyOf, entriesIn, scoresIn, wellFormed, refusedWith, answerOf, addOf, mergeOf}
 use Rattle.tally.specs.Steps.{sizeOf, scoreRefusal, boardsRefusal, roomRefusal, firstOf, Joinable}
 use Rattle.tally.proofs.Formed.{formed, formed-tally, room-scores}

@@ -13,22 +13,18 @@ use lib.Signed.{ltZ}
 use Rattle.laws.specs.Law77.{validScore}
 use Rattle.laws.specs.Law78.{sameScore, occurrences}
 use Rattle.laws.specs.Tally.{freshRefusal, AllValid, SameScores}
+use Rattle.laws.specs.Padded.{padded}
 use Rattle.laws.proofs.Tests.{by-test, and-left, and-right}
 use Rattle.laws.proofs.Scores.{same-true}
+use Rattle.laws.proofs.Padded.{length-padded}
 use Rattle.tally.specs.declared.Entry.{Entry}
 use Rattle.tally.specs.declared.Tally.{Tally}
-use Rattle.tally.specs.Entries.{score, count, entries, entriesOf, padded}
+use Rattle.tally.specs.Entries.{score, count, entries, entriesOf}
 use Rattle.tally.specs.Tallies.{tallyWith, tallyOf, entriesIn, scoresIn, allZero, inOrder, ceiling, wellFormed}
 use Rattle.tally.proofs.Ordered.{countOf, sumOf, Ordered}
 use Rattle.tally.proofs.Lists.{ordered-list, sum-list, in-list, in-expand, sum-expand, valid-expand, entries-expand}
 
--- ---- padded lists
-pub length-padded : {A : Type 0} (z : A) (k : ℕ) (l : List A) → length (padded z k l) ≡ k
-unfolding padded
-length-padded z zero l = refl
-length-padded z (suc k) [] = ap suc (length-padded z k [])
-length-padded z (suc k) (x ∷ l) = ap suc (length-padded z k l)
-
+-- entries are at most as many as their results
 pub length-sum : (top : ℤ) (es : List Entry) → Ordered top es → length es ≤ sumOf es
 length-sum top [] w = omega arith
 length-sum top (e ∷ es) w = omega (arith, length-sum (score e) es (w .3), w .2)

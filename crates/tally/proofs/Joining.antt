@@ -12,11 +12,12 @@ use lib.Seq.{drop-nil}
 use lib.Signed.{ltZ}
 use Rattle.laws.specs.Choice.{if_then_else_}
 use Rattle.laws.specs.Law78.{sameScore}
+use Rattle.laws.specs.Padded.{padded}
 use Rattle.laws.proofs.Tests.{by-test}
 use Rattle.laws.proofs.Scores.{Below, Order, less, same, more, order, true-same}
 use Rattle.tally.specs.declared.Entry.{Entry}
 use Rattle.tally.specs.declared.Next.{Next}
-use Rattle.tally.specs.Entries.{score, count, entry, entries, padded}
+use Rattle.tally.specs.Entries.{score, count, entry, entries}
 use Rattle.tally.specs.Tallies.{ceiling}
 use Rattle.tally.specs.Steps.{noEntry, higherOf}
 use Rattle.tally.proofs.Ordered.{countOf, sumOf, Ordered, valid-high, tail-ordered, none-at, next, no-entries}

@@ -10,11 +10,12 @@ use lib.ListN.{length, take, drop, set, length-append}
 use lib.Seq.{drop-drop, take-all}
 use Rattle.laws.specs.Law78.{sameScore}
 use Rattle.laws.specs.Tally.{AllValid}
+use Rattle.laws.specs.Padded.{padded}
 use Rattle.laws.proofs.Counts.{many-append}
 use Rattle.tally.specs.declared.Entry.{Entry}
 use Rattle.tally.specs.declared.Next.{Next}
 use Rattle.tally.specs.declared.Tally.{Tally}
-use Rattle.tally.specs.Entries.{score, count, entry, entriesOf, padded}
+use Rattle.tally.specs.Entries.{score, count, entry, entriesOf}
 use Rattle.tally.specs.Tallies.{tallyWith, tallyOf, entriesIn, scoresIn, ceiling}
 use Rattle.tally.specs.Steps.{entryAt, higherOf, Joinable}
 use Rattle.tally.proofs.Ordered.{countOf}

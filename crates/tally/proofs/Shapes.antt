@@ -11,14 +11,16 @@ use lib.Signed.{ltZ}
 use Rattle.laws.specs.Choice.{if_then_else_}
 use Rattle.laws.specs.Law77.{validScore}
 use Rattle.laws.specs.Law78.{sameScore, occurrences}
+use Rattle.laws.specs.Padded.{padded}
 use Rattle.laws.proofs.Tests.{by-test}
+use Rattle.laws.proofs.Padded.{length-padded}
 use Rattle.tally.specs.declared.Entry.{Entry}
-use Rattle.tally.specs.Entries.{score, count, entriesOf, padded}
+use Rattle.tally.specs.Entries.{score, count, entriesOf}
 use Rattle.tally.specs.Tallies.{tallyWith, tallyOf, ceiling}
 use Rattle.tally.specs.Steps.{noEntry}
 use Rattle.tally.proofs.Ordered.{countOf, Ordered}
 use Rattle.tally.proofs.Lists.{in-list, sum-list, ordered-list}
-use Rattle.tally.proofs.Formed.{length-padded, length-sum}
+use Rattle.tally.proofs.Formed.{length-sum}
 use Rattle.tally.proofs.OfLists.{Sound}
 use Rattle.tally.specs.Shape.{countAt, countIn, Shape}
 

@@ -1,6 +1,6 @@
 -- Entries: scores with their counts, highest first, as a tally's places and as a list of scores give them.
 -- Assumes nothing.
-use Prim.Native.Nat.{ℕ, zero, suc, _+_}
+use Prim.Native.Nat.{ℕ, _+_}
 use mathlib.Core.List.{List, [], _∷_, _++_}
 use lib.Dec.{eqb}
 use lib.IntN.{ℤ}
@@ -45,9 +45,3 @@ enter s (e ∷ es) =
 unfoldable pub entriesOf : List ℤ → List Entry
 entriesOf [] = []
 entriesOf (s ∷ results) = enter s (entriesOf results)
-
--- n places: those of a list, and then so many of z
-unfoldable pub padded : {A : Type 0} → A → ℕ → List A → List A
-padded z zero l = []
-padded z (suc n) [] = z ∷ padded z n []
-padded z (suc n) (x ∷ l) = x ∷ padded z n l

@@ -12,10 +12,11 @@ use Rattle.laws.specs.Refusals.{accepted, malformedTally}
 use Rattle.laws.specs.Law77.{validScore}
 use Rattle.laws.specs.Law78.{sameScore}
 use Rattle.laws.specs.Tally.{capacity, freshRefusal, addRefusal, mergeRefusal}
+use Rattle.laws.specs.Padded.{padded}
 use Rattle.tally.specs.declared.Entry.{Entry}
 use Rattle.tally.specs.declared.Tally.{Tally}
 use Rattle.tally.specs.declared.Tallied.{Tallied}
-use Rattle.tally.specs.Entries.{score, count, entries, expand, entriesOf, padded}
+use Rattle.tally.specs.Entries.{score, count, entries, expand, entriesOf}
 
 -- the tally of a board and of entries: the entries in order, and zeros in the places after them
 unfoldable pub tallyWith : ℕ → List Entry → Tally

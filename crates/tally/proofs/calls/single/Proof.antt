@@ -4,9 +4,10 @@ use mathlib.Core.List.{[], _∷_}
 use borrow.Author.Needs.{needs}
 use lib.IntN.{ℤ}
 use lib.ListN.{set}
+use Rattle.laws.specs.Padded.{padded}
 use mir.Facts.{toZ-ofZ}
 use Rattle.tally.specs.declared.Tally.{Tally}
-use Rattle.tally.specs.Entries.{entriesOf, enter, padded}
+use Rattle.tally.specs.Entries.{entriesOf, enter}
 use Rattle.tally.specs.Tallies.{tallyWith, tallyOf}
 use Rattle.tally.proofs.calls.single.Statement.{statement}
 use Rattle.tally.proofs.calls.single.Tie as tie
