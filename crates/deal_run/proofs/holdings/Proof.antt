@@ -5,10 +5,10 @@ use Rattle.deal_run.proofs.holdings.Statement.{statement}
 use Rattle.deal_run.proofs.holdings.Tie as tie
 
 abbrev Inv-loop : tie.InvT-loop
-Inv-loop holders suit₀ t3 t4 suit = suit ≤ 5
+Inv-loop north suit₀ t4 t5 suit = suit ≤ 5
 
 abbrev μ-loop : tie.MeasureT-loop
-μ-loop holders suit₀ t3 t4 suit = 5 - suit
+μ-loop north suit₀ t4 t5 suit = 5 - suit
 
 short-seat-requires : tie.Need-short-seat-requires Inv-loop μ-loop
 short-seat-requires c κs = search needs
@@ -18,6 +18,9 @@ cast-number c = search needs
 
 number-requires : tie.Need-number-requires Inv-loop μ-loop
 number-requires c κs = search needs
+
+hand-requires : tie.Need-hand-requires Inv-loop μ-loop
+hand-requires c κs = search needs
 
 loop-holds : tie.Need-loop-holds Inv-loop μ-loop
 loop-holds c = search needs
@@ -70,6 +73,7 @@ holdings-spec =
     short-seat-requires
     cast-number
     number-requires
+    hand-requires
     loop-holds
     slice-aggregate-text
     text-requires
