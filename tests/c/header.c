@@ -13,38 +13,34 @@ static void expect(const char *what, long is, long due) {
     printf("%s: %ld, to be %ld\n", what, is, due);
 }
 
+static void expect_unpacked(const uint8_t bytes[JUDGE_ANSWER_BYTES], const struct judge_judgement due) {
+    const struct judge_judgement j = judge_unpack(bytes);
+    expect("board", (long)j.board, (long)due.board);
+    expect("table", (long)j.table, (long)due.table);
+    expect("level", (long)j.level, (long)due.level);
+    expect("strain", (long)j.strain, (long)due.strain);
+    expect("doubling", (long)j.doubling, (long)due.doubling);
+    expect("declarer", (long)j.declarer, (long)due.declarer);
+    expect("tricks", (long)j.tricks, (long)due.tricks);
+    expect("tricks after Law 64", (long)j.tricks_after_64, (long)due.tricks_after_64);
+    expect("revokes", (long)j.revokes, (long)due.revokes);
+    expect("score", j.score, due.score);
+}
+
 /* Board 7 table 12: 4S doubled by N, 10 tricks, 9 after Law 64, NS -200, one revoke:
  * 0000111 000001100 100 011 01 00 1010 1001 000001 1111111100111000 */
 static void unpacks_the_answer(void) {
     const uint8_t bytes[JUDGE_ANSWER_BYTES] = {0x0E, 0x0C, 0x8D, 0x2A, 0x41, 0xFF, 0x38};
-    const struct judge_judgement j = judge_unpack(bytes);
-    expect("board", (long)j.board, 7);
-    expect("table", (long)j.table, 12);
-    expect("level", (long)j.level, 4);
-    expect("strain", (long)j.strain, 3);
-    expect("doubling", (long)j.doubling, 1);
-    expect("declarer", (long)j.declarer, 0);
-    expect("tricks", (long)j.tricks, 10);
-    expect("tricks after Law 64", (long)j.tricks_after_64, 9);
-    expect("revokes", (long)j.revokes, 1);
-    expect("score", j.score, -200);
+    const struct judge_judgement due = {7, 12, 4, 3, 1, 0, 10, 9, 1, -200};
+    expect_unpacked(bytes, due);
 }
 
 /* Board 127 table 511: 7NT redoubled by W, 13 tricks, 0 after, 36 revokes, NS 7600:
  * 1111111 111111111 111 100 10 11 1101 0000 100100 0001110110110000 */
 static void unpacks_the_largest(void) {
     const uint8_t bytes[JUDGE_ANSWER_BYTES] = {0xFF, 0xFF, 0xF2, 0xF4, 0x24, 0x1D, 0xB0};
-    const struct judge_judgement j = judge_unpack(bytes);
-    expect("board", (long)j.board, 127);
-    expect("table", (long)j.table, 511);
-    expect("level", (long)j.level, 7);
-    expect("strain", (long)j.strain, 4);
-    expect("doubling", (long)j.doubling, 2);
-    expect("declarer", (long)j.declarer, 3);
-    expect("tricks", (long)j.tricks, 13);
-    expect("tricks after Law 64", (long)j.tricks_after_64, 0);
-    expect("revokes", (long)j.revokes, 36);
-    expect("score", j.score, 7600);
+    const struct judge_judgement due = {127, 511, 7, 4, 2, 3, 13, 0, 36, 7600};
+    expect_unpacked(bytes, due);
 }
 
 /* Trick 5, N, hearts: 0101 00 10; trick 12, W, spades: 1100 11 11. */

@@ -77,7 +77,8 @@ claimOf (refused n place) = noClaim (faultOf n place)
 claimOf (found none at) = record { ok = true; fault = 0; next = at; marked = false; tricks = 0 }
 claimOf (found (agreed tricks) at) = record { ok = true; fault = 0; next = at; marked = true; tricks = tricks }
 
--- the Laws' section by whether the board was passed out and the number of cards played
+-- the Laws' section, here and below, by whether the board was passed out and the number of cards played
+-- so many cards are the end of a trick, the first to the twelfth
 unfoldable pub pointAt : ℕ → Bool
 pointAt played = eqb (played % 4) 0 && (leb 4 played && leb played 48)
 
@@ -85,11 +86,13 @@ pointAt played = eqb (played % 4) 0 && (leb 4 played && leb played 48)
 unfoldable pub mayClaim : Bool → ℕ → Bool
 mayClaim out played = not out && pointAt played
 
+-- no claim
 unfoldable pub noClaimBy : Bool → ℕ → Reader Claim
 noClaimBy out played = do
   refuse playUnfinished played (not out && not (eqb played 52))
   give none
 
+-- a marked claim
 unfoldable pub markedBy : Bool → ℕ → Reader Claim
 markedBy out played = do
   refuse noClaimPoint played (out || not (pointAt played))
@@ -97,6 +100,7 @@ markedBy out played = do
   refuse claimTooMany tricks (not (leb tricks (13 - played / 4)))
   give (agreed tricks)
 
+-- the claim's mark, and the claim
 unfoldable pub claimBy : Bool → ℕ → Reader Claim
 claimBy out played = do
   mark ← read 1

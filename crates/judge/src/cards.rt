@@ -31,8 +31,8 @@ fn no_cards(fault: u32) -> Carded
     }
 }
 
-// So many cards from a bit on, each judged on those before it. The position is kept in its parts, each of which steps for itself, so that what a card
-// leaves alone is not copied; the hands, by which a revoke is told, stand beside the holders.
+// So many cards from a bit on, each judged on those before it. The position is kept in its four parts, each of which steps for itself; the hands, by which a
+// revoke is told, stand beside the holders.
 fn read_each_card(
     bytes: &[u8],
     deal: [u8; 52],

@@ -59,15 +59,19 @@ noRevokes = record { count = 0; list = replicate 36 0 }
 unfoldable pub startOf : List ℕ → ℕ → ℕ → Play
 startOf holders trump opening = record { holders = holders; trick = freshTrick trump opening; tricks = noTricks; revokes = noRevokes }
 
--- the card would be a revoke: another suit was led, and by the holders the seat at turn has a card of it
+-- the card would be a revoke: another suit was led, and the seat at turn has a card of it, which the test says
+abbrev pub revokeWhere : Bool → Trick → ℕ → Bool
+revokeWhere held t card = not (eqb (t .cards) 0) && (not (eqb (suitOf card) (t .led)) && held)
+
+-- by the holders
 unfoldable pub revokeBy : List ℕ → Trick → ℕ → Bool
-revokeBy holders t card = not (eqb (t .cards) 0) && (not (eqb (suitOf card) (t .led)) && holdsOne holders (turnOf t) (t .led))
+revokeBy holders t card = revokeWhere (holdsOne holders (turnOf t) (t .led)) t card
 
--- the same by the hand of the seat at turn
+-- by the hand of the seat at turn
 unfoldable pub revokeFrom : ℕ → Trick → ℕ → Bool
-revokeFrom hand t card = not (eqb (t .cards) 0) && (not (eqb (suitOf card) (t .led)) && hasSuit hand (t .led))
+revokeFrom hand t card = revokeWhere (hasSuit hand (t .led)) t card
 
--- the same by the position's holders
+-- by the position's holders
 abbrev pub revokesWith : Play → ℕ → Bool
 revokesWith p card = revokeBy (p .holders) (p .trick) card
 

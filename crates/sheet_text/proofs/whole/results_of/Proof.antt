@@ -50,7 +50,7 @@ add-requires : tie.Need-add-requires Inv-loop μ-loop
 add-requires c κs = search needs
 
 returns-2 : tie.Need-returns-2 Inv-loop μ-loop
-returns-2 c = over _ _ _ _ (c .before .before .before .before .before .before .before .before .before .before .loop .inv) (c .before .before .before .before .before .before .before .before .before .loop-test .taken) _ (c .before .before .before .before .before .before .before .before .line-end .ensures) _ _ (c .before .before .before .before .before .before .said-on .ensures) (c .before .before .before .before .score .given .1) _ (c .before .before .add .ensures) (c .if1 .taken)
+returns-2 c = over _ _ _ _ (c .before .before .before .before .before .before .before .before .before .before .loop .inv) (c .before .before .before .before .before .before .before .before .before .loop-test .taken) _ (c .before .before .before .before .before .before .before .before .line-end .ensures) _ _ (c .before .before .before .before .before .before .said-on .ensures) (c .before .before .before .before .score .given .1) _ (c .before .before .add .ensures) (λ z. c .if1 .taken (rw z))
 
 add-at : tie.Need-add-at Inv-loop μ-loop
 add-at c = omega (arith, end-within _ _ _ _ (c .before .before .before .before .before .before .before .before .before .before .before .loop .inv) (c .before .before .before .before .before .before .before .before .before .before .loop-test .taken) _ (c .before .before .before .before .before .before .before .before .before .line-end .ensures))
