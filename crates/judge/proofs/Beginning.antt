@@ -9,13 +9,14 @@ use borrow.Author.Tests.{eqb-true, not-false}
 use lib.Dec.{eqb}
 use lib.ListN.{length}
 use Rattle.laws.specs.Refusals.{noSuchBoard, notThirteen}
-use Rattle.laws.specs.Cards.{noSeat, shortSeat}
+use Rattle.laws.specs.Cards.{noSeat, seatWithoutThirteen}
 use Rattle.laws.specs.Reading.{Reading, Reading.refused, Reading.found, onward, numberAt, readRow}
 use Rattle.laws.specs.Law2.{dealer}
 use Rattle.laws.specs.Judge as Judge
 use Rattle.laws.specs.Record.{Parts}
 use Rattle.laws.proofs.Tests.{not-both}
 use Rattle.laws.proofs.Readings.{first-of, first-read, first-test}
+use Rattle.deal.specs.Hands.{wordsOf}
 use Rattle.deal.proofs.Thirteen.{thirteen-each}
 use Rattle.auction.specs.Position as Calls
 use Rattle.judge.specs.declared.reading.Heading.{Heading}
@@ -52,10 +53,10 @@ pub deal-found : (bytes : List ℕ) (at : ℕ) {deal : List ℕ} {e : ℕ} → J
 unfolding Judge.readDeal
 deal-found bytes at {deal} q =
     let r = first-of (readRow 2 52 bytes at) _ q in
-    let t = first-test notThirteen (shortSeat (r .0)) (not (eqb (shortSeat (r .0)) noSeat)) bytes (r .1) _ (r .3) in
+    let t = first-test notThirteen (seatWithoutThirteen (r .0)) (not (eqb (seatWithoutThirteen (r .0)) noSeat)) bytes (r .1) _ (r .3) in
     let f = row-found 2 52 bytes at (r .2) in
     let s = found-same (t .1) in
-    let none : shortSeat deal ≡ noSeat = ap shortSeat (sym (s .0)) ∙ eqb-true (shortSeat (r .0)) noSeat (not-false _ (t .0)) in
+    let none : seatWithoutThirteen deal ≡ noSeat = ap seatWithoutThirteen (sym (s .0)) ∙ eqb-true (seatWithoutThirteen (r .0)) noSeat (not-false _ (t .0)) in
     (record { places = ap length (sym (s .0)) ∙ f .0; thirteen = thirteen-each deal none }, omega (arith, s .1, f .1))
 
 -- ---- from the heading on
@@ -122,8 +123,12 @@ module _ (bytes : List ℕ) (t : Heading) (et : t ≡ headingOf (Judge.readHeadi
       calls-end (refused n place) q e = not-both false e refl
       calls-end (found h at) q e = omega (arith, calls-next seat bytes 120 q)
 
-      pub calls-bound : c .ok ≡ true → c .next < 16384
-      calls-bound e = rw ec (calls-end (Judge.readCalls seat bytes 120) refl (rw ec at e))
+      hands-go : (q : Reading (List ℕ)) → dealtOf q .ok ≡ true → dealtOf q .hands ≡ wordsOf (dealtOf q .holders)
+      hands-go (refused n place) e = not-both false e refl
+      hands-go (found deal at) e = refl
+
+      pub calls-bound : c .ok ≡ true → (c .next < 16384) × (d .hands ≡ wordsOf (d .holders))
+      calls-bound e = (rw ec (calls-end (Judge.readCalls seat bytes 120) refl (rw ec at e)), rw ed (hands-go (Judge.readDeal bytes 16) (rw ed at od)))
 
       module _ (r : Judged) where
         -- the answer, given any calls that this position is of

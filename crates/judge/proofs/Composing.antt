@@ -28,11 +28,9 @@ use Rattle.auction.specs.declared.Contract.{Contract}
 use Rattle.auction.specs.Asked.{passedOutOf, contractOf, asLaw}
 use Rattle.auction.proofs.History.{passed-out-is}
 use Rattle.auction.proofs.Laws.{contract-is}
-use Rattle.play.specs.History.{AllPlayed, positionOf, trickOf, tricksOf}
-use Rattle.play.proofs.Cards.{fewer-than-four}
-use Rattle.play.proofs.Holders.{trick-law}
+use Rattle.play.specs.History.{AllPlayed, positionOf}
+use Rattle.play.proofs.Stands.{Stands, stands}
 use Rattle.play.proofs.Thirteen.{at-most-52}
-use Rattle.play.proofs.Complete.{tricks-law}
 use Rattle.judge.specs.declared.cards.Carded.{Carded}
 use Rattle.judge.specs.declared.whole.Judged.{Judged}
 use Rattle.judge.specs.Sections.{cardsBy, cardedOf}
@@ -90,27 +88,20 @@ module _ (out : Bool) (trump opening : ℕ) (deal bytes : List ℕ) (at : ℕ) (
   cards = cardsBy out trump opening deal bytes at
 
   record Bounded (k : Carded) : Type 0 where
-    count : k .after .tricks .count ≤ 13
-    few : k .after .trick .cards ≤ 3
+    played : k .after .played ≤ 52
     next : k .next ≤ at + 384
 
   bounded : (r : Reading (List ℕ)) → cards ≡ r → cardedOf deal trump opening r .ok ≡ true → Bounded (cardedOf deal trump opening r)
-  unfolding tricksOf trickOf tricksComplete
   bounded (refused n place) q e = not-both false e refl
   bounded (found g next) q e =
       let f = cards-found out trump opening deal bytes at q in
-      let n = at-most-52 deal trump opening all g (f .played) in
-      record {
-        count = rw (tricks-law deal trump opening all g (f .played)) (omega arith);
-        few = rw (trick-law deal trump opening all g (f .played)) (omega (arith, fewer-than-four g));
-        next = f .next;
-      }
+      record { played = rw (stands deal trump opening all g (f .played) .played) (at-most-52 deal trump opening all g (f .played)); next = f .next }
 
   pub card-bounds : (k : Carded) → k ≡ cardedOf deal trump opening cards → k .ok ≡ true → at < 16384
-      → (k .after .tricks .count ≤ 13) × (k .after .trick .cards ≤ 3) × (k .next < 32768)
+      → (k .after .played ≤ 52) × (k .next < 32768)
   card-bounds k ek e h =
       let b = subst (λ (x : Carded). Bounded x) (sym ek) (bounded cards refl (rw ek at e)) in
-      (b .count, b .few, omega (arith, b .next))
+      (b .played, omega (arith, b .next))
 
 -- ---- from the calls on
 pub section-cards : (d : ℕ) (deal h bytes : List ℕ) (at : ℕ) → cardsBy (Law.passedOut h) (Law.trumpAfter h) (Law.openingAfter d h) deal bytes at ≡ Judge.readCards d deal h bytes at

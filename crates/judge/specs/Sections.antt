@@ -2,9 +2,9 @@
 -- Assumes nothing.
 use Prim.Native.Nat.{ℕ, zero, suc, _+_, _-_, _*_, _/_, _%_}
 use mathlib.Core.Bool.{Bool, true, false, not, _&&_, _||_}
-use mathlib.Core.List.{List, [], _∷_}
+use mathlib.Core.List.{List, [], _∷_, _++_}
 use lib.Dec.{eqb, ltb, leb}
-use lib.ListN.{replicate}
+use lib.ListN.{getD, replicate}
 use Rattle.laws.specs.Choice.{if_then_else_}
 use Rattle.laws.specs.Refusals.{playCount, playUnfinished, noClaimPoint, claimTooMany}
 use Rattle.laws.specs.Law44.{cardsPlayed}
@@ -13,6 +13,8 @@ use Rattle.laws.specs.Law68.{Claim, none, agreed}
 use Rattle.laws.specs.Reading.{Reading, Reading.refused, Reading.found, Reader, onward, _>>=_, _>>_, give, numberAt, read, refuse, readEach}
 use Rattle.laws.specs.Judge as Law
 use Rattle.auction.specs.Position.{positionOf}
+use Rattle.deal.specs.Hands.{wordsOf}
+use Rattle.play.specs.Position.{startOf}
 use Rattle.play.specs.History as Play
 use Rattle.judge.specs.declared.reading.Heading.{Heading}
 use Rattle.judge.specs.declared.reading.Called.{Called}
@@ -46,16 +48,21 @@ unfoldable pub rowAt : List ℕ → ℕ → ℕ → ℕ → List ℕ
 rowAt bytes at w zero = []
 rowAt bytes at w (suc n) = numberAt bytes at w ∷ rowAt bytes (at + w) w n
 
+-- for each of n cards, the byte that has its holder: four to a byte, from the third on
+unfoldable pub foursOf : List ℕ → ℕ → List ℕ
+foursOf bytes zero = []
+foursOf bytes (suc n) = foursOf bytes n ++ (getD bytes (2 + n / 4) 0 ∷ [])
+
 abbrev pub noDeal : ℕ → Dealt
-noDeal fault = record { ok = false; fault = fault; holders = replicate 52 0 }
+noDeal fault = record { ok = false; fault = fault; holders = replicate 52 0; hands = replicate 4 0 }
 
 abbrev pub dealtOf : Reading (List ℕ) → Dealt
 dealtOf (refused n place) = noDeal (faultOf n place)
-dealtOf (found deal at) = record { ok = true; fault = 0; holders = deal }
+dealtOf (found deal at) = record { ok = true; fault = 0; holders = deal; hands = wordsOf deal }
 
 -- ---- cards
 abbrev pub noCards : ℕ → Carded
-noCards fault = record { ok = false; fault = fault; next = 0; after = Play.positionOf (replicate 52 0) 0 0 [] }
+noCards fault = record { ok = false; fault = fault; next = 0; after = startOf (replicate 52 0) (replicate 4 0) 0 0 }
 
 abbrev pub cardedOf : List ℕ → ℕ → ℕ → Reading (List ℕ) → Carded
 cardedOf deal trump opening (refused n place) = noCards (faultOf n place)

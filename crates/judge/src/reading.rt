@@ -7,9 +7,9 @@ ghost use Prim.Native.Nat.{_+_, _*_, _<_, _≤_};
 ghost use lib.ListN.{length};
 ghost use Rattle.laws.specs.Auction.{callPlace};
 ghost use Rattle.laws.specs.CallRefusal.{callRefusal};
-ghost use Rattle.laws.specs.Reading.{numberAt, readEach};
+ghost use Rattle.laws.specs.Reading.{readEach};
 ghost use Rattle.laws.specs.Judge.{readHeading, readDeal, readCalls};
-ghost use Rattle.judge.specs.Sections.{noHeading, headingOf, noCalls, calledOf, noDeal, dealtOf, rowAt};
+ghost use Rattle.judge.specs.Sections.{noHeading, headingOf, noCalls, calledOf, noDeal, dealtOf, rowAt, foursOf};
 
 // Board and table, or why they are refused.
 pub struct Heading {
@@ -27,11 +27,12 @@ pub struct Called {
     pub after: Auction,
 }
 
-// The holders of the cards, or why the deal is refused.
+// The holders of the cards and the hands of the four seats, or why the deal is refused.
 pub struct Dealt {
     pub ok: bool,
     pub fault: u32,
     pub holders: [u8; 52],
+    pub hands: [u64; 4],
 }
 
 pub(crate) fn narrow(x: u16) -> u8
@@ -143,28 +144,35 @@ fn no_deal(fault: u32) -> Dealt
         ok: false,
         fault,
         holders: [0u8; 52],
+        hands: [0u64; 4],
     }
 }
 
-// A holder: two bits of the byte that has four of them.
-fn holder(bytes: &[u8], i: usize) -> u8
-    requires { ⌜ (i < 52) × (15 ≤ length (now bytes)) ⌝ }
-    ensures { λ r. ⌜ r ≡ numberAt (now (bytes .entry)) (16 + 2 * i) 2 ⌝ }
-{
-    let four = bytes[2 + i / 4];
-    let behind = 6 - 2 * (i % 4);
-    (four >> behind) % 4
-}
-
-// The holders of the 52 cards, which stand from the third byte on.
-fn holders(bytes: &[u8]) -> [u8; 52]
+// For each card the byte that has its holder; four cards share one, from the third byte on.
+fn bytes_of_cards(bytes: &[u8]) -> [u8; 52]
     requires { ⌜ 15 ≤ length (now bytes) ⌝ }
-    ensures { λ r. ⌜ r ≡ rowAt (now (bytes .entry)) 16 2 52 ⌝ }
+    ensures { λ r. ⌜ r ≡ foursOf (now (bytes .entry)) 52 ⌝ }
 {
     let mut row = [0u8; 52];
     let mut i: usize = 0;
     while i < 52 {
-        row[i] = holder(bytes, i);
+        row[i] = bytes[2 + i / 4];
+        i += 1;
+    }
+    row
+}
+
+// The holders of the 52 cards: two bits each of the byte that has four of them.
+fn holders(bytes: &[u8]) -> [u8; 52]
+    requires { ⌜ 15 ≤ length (now bytes) ⌝ }
+    ensures { λ r. ⌜ r ≡ rowAt (now (bytes .entry)) 16 2 52 ⌝ }
+{
+    let fours = bytes_of_cards(bytes);
+    let mut row = [0u8; 52];
+    let mut i: usize = 0;
+    while i < 52 {
+        let behind = 6 - 2 * (i % 4);
+        row[i] = (fours[i] >> behind) % 4;
         i += 1;
     }
     row
@@ -178,7 +186,8 @@ pub(crate) fn read_deal(bytes: &[u8]) -> Dealt
         return no_deal(2048);
     }
     let row = holders(bytes);
-    let seat = deal::short_seat(row);
+    let hands = deal::hands(row);
+    let seat = deal::seat_without_thirteen(hands);
     if seat != 4 {
         return no_deal(4096 + seat as u32);
     }
@@ -186,5 +195,6 @@ pub(crate) fn read_deal(bytes: &[u8]) -> Dealt
         ok: true,
         fault: 0,
         holders: row,
+        hands,
     }
 }

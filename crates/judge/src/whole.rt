@@ -20,6 +20,7 @@ ghost use lib.ListN.{length};
 ghost use Rattle.laws.specs.Cards.{clockwise};
 ghost use Rattle.laws.specs.Record.{number};
 ghost use Rattle.laws.specs.Judge.{readRecord};
+ghost use Rattle.deal.specs.Hands.{wordsOf};
 ghost use Rattle.judge.specs.Whole.{noJudgement, judgedOf, boardFields, CardsTold, CallsTold, afterCards, afterCalls, afterDeal};
 
 // The answer's bits and the revokes; or why the record is refused, which is 0 where it is accepted.
@@ -76,6 +77,13 @@ fn settle_board(
     settle(board, table, k, ts, rs, 0, 0)
 }
 
+fn count(played: u64) -> u8
+    requires { ⌜ played ≤ 52 ⌝ }
+    ensures { λ r. ⌜ r ≡ played ⌝ }
+{
+    played as u8
+}
+
 // The claim and the padding, and then the judgement.
 fn judge_claim(
     bytes: &[u8],
@@ -86,13 +94,10 @@ fn judge_claim(
     p: Play,
     at: usize,
 ) -> Judged
-    requires { ⌜ (p .tricks .count ≤ 13) × (p .trick .cards ≤ 3) × (at < 32768) ⌝ }
+    requires { ⌜ (p .played ≤ 52) × (at < 32768) ⌝ }
     ensures { λ r. ⌜ ((deal h g : List ℕ) → CardsTold board out k deal h g p → r ≡ judgedOf (afterCards board table deal h g (now (bytes .entry)) at)) ⌝ }
 {
-    let ts = p.tricks;
-    let t = p.trick;
-    let rs = p.revokes;
-    let played = ts.count * 4 + t.cards;
+    let played = count(p.played);
     let claimed = read_claim(bytes, out, played, at);
     if !claimed.ok {
         return refused(claimed.fault);
@@ -100,6 +105,8 @@ fn judge_claim(
     if !is_padding(bytes, claimed.next) {
         return refused(16384);
     }
+    let ts = p.tricks();
+    let rs = p.revokes();
     let pack = settle_board(board, table, out, k, ts, rs, claimed, tricks_left(played));
     Judged {
         fault: 0,
@@ -121,10 +128,11 @@ fn judge_play(
     board: u8,
     table: u16,
     holders: [u8; 52],
+    hands: [u64; 4],
     a: Auction,
     at: usize,
 ) -> Judged
-    requires { ⌜ at < 16384 ⌝ }
+    requires { ⌜ (at < 16384) × (hands ≡ wordsOf holders) ⌝ }
     ensures { λ r. ⌜ ((h : List ℕ) → CallsTold board a holders h → r ≡ judgedOf (afterCalls board table holders h (now (bytes .entry)) at)) ⌝ }
 {
     let out = a.is_passed_out();
@@ -132,6 +140,7 @@ fn judge_play(
     let carded = read_cards(
         bytes,
         holders,
+        hands,
         out,
         k.strain,
         opening_leader(k.declarer),
@@ -161,6 +170,7 @@ pub(crate) fn judge(bytes: &[u8]) -> Judged
         return refused(called.fault);
     }
     let holders = dealt.holders;
+    let hands = dealt.hands;
     let a = called.after;
-    judge_play(bytes, top.board, top.table, holders, a, called.next)
+    judge_play(bytes, top.board, top.table, holders, hands, a, called.next)
 }

@@ -9,7 +9,7 @@ use lib.Dec.{leb, ltb, eqb, lit≤}
 use lib.ListN.{length}
 use Rattle.laws.specs.Choice.{if_then_else_}
 use Rattle.laws.specs.Refusals.{accepted, shortBuffer, recordEnds, noSuchBoard, notThirteen, auctionUnfinished, playCount, playUnfinished, noClaimPoint, claimTooMany, notPadding}
-use Rattle.laws.specs.Cards.{noSeat, hasThirteen, firstShort, shortSeat}
+use Rattle.laws.specs.Cards.{noSeat, hasThirteen, firstWithoutThirteen, seatWithoutThirteen}
 use Rattle.laws.specs.Law2.{dealer}
 use Rattle.laws.specs.Auction.{callPlace, isOver, passedOut, trumpAfter, openingAfter}
 use Rattle.laws.specs.CallRefusal.{callRefusal}
@@ -80,18 +80,18 @@ fair-heading bytes at =
     (fair-test noSuchBoard 1 (eqb table 0) bytes (at + 7 + 9) _ (λ t. omega arith) tt)))
 
 -- the first seat without thirteen cards, or nobody, is at most 4
-next-short : (deal : List ℕ) (seat : ℕ) (rest : List ℕ) → seat ≤ 4 → firstShort deal rest ≤ 4 → firstShort deal (seat ∷ rest) ≤ 4
-unfolding firstShort
+next-short : (deal : List ℕ) (seat : ℕ) (rest : List ℕ) → seat ≤ 4 → firstWithoutThirteen deal rest ≤ 4 → firstWithoutThirteen deal (seat ∷ rest) ≤ 4
+unfolding firstWithoutThirteen
 next-short deal seat rest l more =
     by-test (hasThirteen seat deal)
     (λ (q : hasThirteen seat deal ≡ true). rw q more)
     (λ (q : hasThirteen seat deal ≡ false). rw q l)
 
-no-short : (deal : List ℕ) → firstShort deal [] ≤ 4
-unfolding firstShort
+no-short : (deal : List ℕ) → firstWithoutThirteen deal [] ≤ 4
+unfolding firstWithoutThirteen
 no-short deal = lit≤ tt
 
-short-le : (deal : List ℕ) → shortSeat deal ≤ 4
+short-le : (deal : List ℕ) → seatWithoutThirteen deal ≤ 4
 short-le deal =
     next-short deal 0 _ (lit≤ tt) (next-short deal 1 _ (lit≤ tt) (next-short deal 2 _ (lit≤ tt) (next-short deal 3 [] (lit≤ tt) (no-short deal))))
 
@@ -99,7 +99,7 @@ fair-deal : (bytes : List ℕ) (at : ℕ) → Fair (readDeal bytes at)
 unfolding readDeal
 fair-deal bytes at =
     fair-on (readRow 2 52 bytes at) _ (fair-row 2 52 bytes at) (λ deal m q.
-    fair-test notThirteen (shortSeat deal) (not (eqb (shortSeat deal) noSeat)) bytes m _ (λ t. omega (arith, short-le deal)) tt)
+    fair-test notThirteen (seatWithoutThirteen deal) (not (eqb (seatWithoutThirteen deal) noSeat)) bytes m _ (λ t. omega (arith, short-le deal)) tt)
 
 fair-calls : (d : ℕ) (bytes : List ℕ) (at : ℕ) → Fair (readCalls d bytes at)
 unfolding readCalls callPlace

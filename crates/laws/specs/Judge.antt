@@ -6,7 +6,7 @@ use mathlib.Core.List.{List, [], _∷_, reverse}
 use lib.Dec.{ltb, eqb}
 use Rattle.laws.specs.Choice.{if_then_else_}
 use Rattle.laws.specs.Refusals.{shortBuffer, noSuchBoard, notThirteen, auctionUnfinished, playCount, playUnfinished, noClaimPoint, claimTooMany}
-use Rattle.laws.specs.Cards.{noSeat, shortSeat}
+use Rattle.laws.specs.Cards.{noSeat, seatWithoutThirteen}
 use Rattle.laws.specs.Law2.{dealer}
 use Rattle.laws.specs.Auction.{callPlace, isOver, passedOut, trumpAfter, openingAfter}
 use Rattle.laws.specs.CallRefusal.{callRefusal}
@@ -34,7 +34,7 @@ readHeading = do
 unfoldable pub readDeal : Reader (List ℕ)
 readDeal = do
   deal ← readRow 2 52
-  refuse notThirteen (shortSeat deal) (not (eqb (shortSeat deal) noSeat))
+  refuse notThirteen (seatWithoutThirteen deal) (not (eqb (seatWithoutThirteen deal) noSeat))
   give deal
 
 -- the calls, latest first; d is the dealer

@@ -33,7 +33,7 @@ pub record Judged : Type 0 where
 
 pub judged : Judged
 unfolding
-    Choice.howMany Choice.some Cards.clockwise Cards.cardsDealt Cards.firstShort Law2.dealer
+    Choice.howMany Choice.some Cards.clockwise Cards.cardsDealt Cards.firstWithoutThirteen Law2.dealer
     Auction.strainOf Auction.callPlace Auction.toCall Auction.lastBid Auction.lastBidder Auction.beforePasses
     Auction.bidByOpponents Auction.bidByOwnSide Auction.doubledOwnBid Auction.sufficient Auction.mayDouble Auction.mayRedouble
     Auction.passesInARow Auction.hasBid Auction.isOver Auction.passedOut Auction.allowed

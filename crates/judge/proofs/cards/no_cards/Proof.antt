@@ -1,5 +1,4 @@
 -- `no_cards` meets its contract. Assumes nothing.
-use Rattle.play.specs.History.{positionOf}
 use borrow.Author.Needs.{needs}
 use Rattle.judge.proofs.cards.no_cards.Statement.{statement}
 use Rattle.judge.proofs.cards.no_cards.Tie as tie
@@ -8,7 +7,6 @@ new-requires : tie.Need-new-requires
 new-requires c κs = search needs
 
 returns : tie.Need-returns
-unfolding positionOf
 returns c = simp (c .new .ensures)
 
 pub no-cards-spec : {M : Type 1} → statement M

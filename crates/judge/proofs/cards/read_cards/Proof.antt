@@ -46,7 +46,7 @@ add-read-each-card : tie.Need-add-read-each-card
 add-read-each-card c = search needs
 
 read-each-card-requires : tie.Need-read-each-card-requires
-read-each-card-requires c κs = (omega arith, omega (arith, c .before .before .narrow .ensures, value-lt (c .before .before .before .before .before .before .before .before .args .bytes .now) (c .before .before .before .before .before .before .before .before .args .at) 6 (sym (c .before .before .before .before .before .before .read .ensures) ∙ c .before .before .before .before .count .given .1)))
+read-each-card-requires c κs = (omega arith, omega (arith, c .before .before .narrow .ensures, value-lt (c .before .before .before .before .before .before .before .before .args .bytes .now) (c .before .before .before .before .before .before .before .before .args .at) 6 (sym (c .before .before .before .before .before .before .read .ensures) ∙ c .before .before .before .before .count .given .1)), c .before .before .before .before .before .before .before .before .pre .1)
 
 returns-3 : tie.Need-returns-3
 returns-3 c = c .read-each-card .ensures ∙ rw (c .before .before .before .narrow .ensures) (cards-read (c .before .before .before .before .before .before .before .before .before .args .out) (c .before .before .before .before .before .before .before .before .before .args .trump) (c .before .before .before .before .before .before .before .before .before .args .opening) (c .before .before .before .before .before .before .before .before .before .args .deal) (c .before .before .before .before .before .before .before .before .before .args .bytes .now) (c .before .before .before .before .before .before .before .before .before .args .at) (c .before .before .before .before .before .count .given .0 .0) (value-reads (c .before .before .before .before .before .before .before .before .before .args .bytes .now) (c .before .before .before .before .before .before .before .before .before .args .at) 6 (sym (c .before .before .before .before .before .before .before .read .ensures) ∙ c .before .before .before .before .before .count .given .1)) (rw (c .before .before .before .narrow .ensures, c .before .before .most-cards .ensures) at (c .before .if1 .left)))

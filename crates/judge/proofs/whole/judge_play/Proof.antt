@@ -19,7 +19,7 @@ opening-leader-requires : tie.Need-opening-leader-requires
 opening-leader-requires c κs = search needs
 
 read-cards-requires : tie.Need-read-cards-requires
-read-cards-requires c κs = let h : c .before .before .before .before .args .at < 16384 = c .before .before .before .before .pre in omega arith
+read-cards-requires c κs = (omega (arith, c .before .before .before .before .pre .0), c .before .before .before .before .pre .1)
 
 refused-requires : tie.Need-refused-requires
 refused-requires c κs = search needs
@@ -28,7 +28,7 @@ returns : tie.Need-returns
 returns c = λ h told. c .refused .ensures ∙ cards-refused (c .before .before .before .before .before .before .before .before .args .board) (c .before .before .before .before .before .before .before .before .args .table) (c .before .before .before .before .before .before .before .before .args .a) (c .before .before .before .before .before .before .before .before .args .holders) h told (c .before .before .before .before .before .before .before .before .args .bytes .now) (c .before .before .before .before .before .before .before .before .args .at) _ (c .before .before .before .before .before .before .is-passed-out .ensures) _ (c .before .before .before .before .before .contract .ensures) _ (c .before .before .before .before .opening-leader .ensures) _ (c .before .before .before .read-cards .ensures) (not-true _ (c .before .if1 .taken))
 
 judge-claim-requires : tie.Need-judge-claim-requires
-judge-claim-requires c κs = let all : length (c .before .before .before .before .before .before .before .before .args .holders) ≡ 52 = search needs in card-bounds _ _ _ (c .before .before .before .before .before .before .before .before .args .holders) (c .before .before .before .before .before .before .before .before .args .bytes .now) (c .before .before .before .before .before .before .before .before .args .at) all _ (c .before .before .before .read-cards .ensures) (not-false _ (c .before .if1 .left)) (c .before .before .before .before .before .before .before .before .pre)
+judge-claim-requires c κs = let all : length (c .before .before .before .before .before .before .before .before .args .holders) ≡ 52 = search needs in card-bounds _ _ _ (c .before .before .before .before .before .before .before .before .args .holders) (c .before .before .before .before .before .before .before .before .args .bytes .now) (c .before .before .before .before .before .before .before .before .args .at) all _ (c .before .before .before .read-cards .ensures) (not-false _ (c .before .if1 .left)) (c .before .before .before .before .before .before .before .before .pre .0)
 
 returns-2 : tie.Need-returns-2
 returns-2 c = λ h told. cards-read (c .before .before .before .before .before .before .before .before .before .args .board) (c .before .before .before .before .before .before .before .before .before .args .table) (c .before .before .before .before .before .before .before .before .before .args .a) (c .before .before .before .before .before .before .before .before .before .args .holders) h told (c .before .before .before .before .before .before .before .before .before .args .bytes .now) (c .before .before .before .before .before .before .before .before .before .args .at) _ (c .before .before .before .before .before .before .before .is-passed-out .ensures) _ (c .before .before .before .before .before .before .contract .ensures) _ (c .before .before .before .before .before .opening-leader .ensures) _ (c .before .before .before .before .read-cards .ensures) _ (not-false _ (c .before .before .if1 .left)) (c .judge-claim .ensures)
