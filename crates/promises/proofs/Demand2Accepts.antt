@@ -1,4 +1,4 @@
--- The judge accepts exactly the encodings of lawful parts, its number is 0 or a refusal with its place, and document 01's byte examples.
+-- The judge accepts exactly the encodings of lawful parts, its number is 0 or a refusal with its place, and the byte examples of docs/RULES.md.
 -- Assumes nothing.
 use Prim.Native.Nat.{ℕ, _≤_, _<_}
 use native.Mathlib.Omega.{arith}
@@ -51,7 +51,7 @@ module _ (bytes : List ℕ) (answer list : ℕ) where
       clash : {n place : ℕ} {p : Parts} (o : Outcome) → o ≡ refused n place → o ≡ accepted p → _≡_ {A = ℕ} 0 1
       clash o e f = cc
 
-  -- what is accepted was lent buffers of 01's sizes
+  -- what is accepted was lent buffers of at least 7 and 36 bytes
   pub lent-enough : (p : Parts) → judgeOf bytes answer list ≡ accepted p → (7 ≤ answer) × (36 ≤ list)
   lent-enough p q =
       by-test (ltb answer 7)
