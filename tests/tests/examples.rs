@@ -249,6 +249,29 @@ fn p12_ends_of_auctions() {
     }
 }
 
+/// The longest auction and with it the longest record: three passes, then every bid, each doubled and redoubled after two passes, 319 calls. The seat that bids goes
+/// round by one from W on, so E bids the last, seven notrump, and W is the first of that side to have bid notrump. N leads and wins every trick with
+/// a club: thirteen down, redoubled, not vulnerable, 2 × (100 + 2 × 200 + 10 × 300).
+#[test]
+fn longest_auction_and_record() {
+    let rounds = (3..38).flat_map(|bid| [bid, 0, 0, 1, 0, 0, 2, 0, 0]);
+    let calls: Vec<u64> = [0; 3].into_iter().chain(rounds).chain([0]).collect();
+    let cards: Vec<u64> = (0..13).flat_map(|rank| [rank, 13 + rank, 26 + rank, 39 + rank]).collect();
+    let record = suits(1, &calls, &cards, None);
+    assert_eq!((calls.len(), record.len()), (319, 296));
+    for judge in JUDGES {
+        let (mut answer, mut list) = ([0; 7], [0; 36]);
+        assert_eq!(judge(&record, &mut answer, &mut list), 0);
+        // board 7, table 9; level 7, strain 4, doubling 2; declarer 3, no trick, none after Law 64, no revoke
+        assert_eq!(answer[..5], [2, 1, 7 << 5 | 4 << 2 | 2, 3 << 6, 0]);
+        assert_eq!(judged(judge, &record), (0, 7000));
+    }
+    let one_call_more = suits(1, &[&calls[..], &[0]].concat(), &cards, None);
+    for judge in JUDGES {
+        assert_eq!(judged(judge, &one_call_more).0, 8 * 1024 + 319);
+    }
+}
+
 #[test]
 fn sheet_of_four() {
     assert_eq!(sheet(b"420\n420\n-50\n450\n"), "NS-SCORE COUNT NS-MP EW-MP\n450 1 6 0\n420 2 3 3\n-50 1 0 6\n");

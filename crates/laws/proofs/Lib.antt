@@ -22,5 +22,6 @@ pub mod Claims
 pub mod LawfulParts
 pub mod Accepts
 pub mod Numbered
-pub mod Lengths
 pub mod Comparisons
+pub mod LongestAuction
+pub mod Lengths

@@ -19,6 +19,7 @@ pub mod Judge
 pub mod Judgement
 pub mod Lent
 pub mod Lawful
+pub mod Lengths
 pub mod Tally
 pub mod Decimal
 pub mod Sheet

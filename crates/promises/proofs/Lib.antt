@@ -1,6 +1,7 @@
 pub mod Examples
 pub mod Demand2Records
 pub mod Demand2Accepts
+pub mod Lengths
 pub mod Demand1
 pub mod Widths
 pub mod Demand2Judgement

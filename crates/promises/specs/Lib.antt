@@ -1,5 +1,6 @@
 pub mod Examples
 pub mod Demand2
+pub mod Lengths
 pub mod Demand1
 pub mod Demand2Judgement
 pub mod Demand3
