@@ -24,4 +24,8 @@ pub mod Accepts
 pub mod Numbered
 pub mod Comparisons
 pub mod LongestAuction
+pub mod Allotments
+pub mod SideTricks
+pub mod AllotmentPlaces
+pub mod BestTotal
 pub mod Lengths

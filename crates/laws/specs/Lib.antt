@@ -9,6 +9,7 @@ pub mod Law44
 pub mod Law61
 pub mod Law68
 pub mod Law64
+pub mod Allotment
 pub mod Law77
 pub mod Law78
 pub mod CardRefusal

@@ -1,0 +1,15 @@
+-- The tricks that Law 64's count gives are the most that can change sides, where exactly one side has revoked.
+-- Assumes nothing.
+use mathlib.Core.Path.{_≡_}
+use mathlib.Core.Bool.{true}
+use Rattle.laws.specs.Cards.{partnerOf}
+use Rattle.laws.specs.Allotment.{Greatest, oneSideRevoked}
+use Rattle.laws.specs.Record.{Parts}
+use Rattle.laws.specs.Judgement.{declarerOf, winnersOf, claimedOf, revokesOf, transferredOf}
+use Rattle.laws.specs.Lawful.{Lawful}
+
+-- an allotment of so many pairs is exhibited, and every allotment has at most so many
+abbrev pub BestTotal : Type 0
+BestTotal =
+    (p : Parts) → Lawful p → oneSideRevoked (revokesOf p) ≡ true
+    → Greatest (partnerOf (declarerOf p)) (winnersOf p) (claimedOf p) (revokesOf p) (transferredOf p)
