@@ -1,18 +1,18 @@
 -- The law under Law 64's total, over pairs of what is due and what is available, where what is available falls: as many can be allotted as the count from the
 -- back gives, and no more. `tricks` are those that can be had, the latest first; a revoke can have the first ones, as many as are available to it.
 -- Assumes nothing.
-use Prim.Native.Nat.{ℕ, zero, suc, _+_, _-_, _≤_, _<_, min}
+use Prim.Native.Nat.{ℕ, suc, _+_, _-_, _≤_, _<_}
 use native.Mathlib.Omega.{arith}
 use mathlib.Core.Path.{_≡_, refl, sym, ap, _∙_}
 use mathlib.Core.Logic.{_⊎_, inl, inr, ⊎-elim}
 use mathlib.Core.Bool.{Bool, true, false, not, _&&_}
 use mathlib.Core.List.{List, [], _∷_, _++_, map, append-assoc, List·Memᴰ, List·Memᴰ·head, List·Memᴰ·tail, List·Memᴰ·cases-cons, Memᴰ·append-left, Memᴰ·cast}
 use mathlib.Core.List.{Memᴰ·append-right, List·Memᴰ·append-cases, List·Memᴰ·not-nil}
-use borrow.Author.Tests.{eqb-true, eqb-false, eq-eqb, ne-eqb, leb-true, leb-false, le-leb, lt-leb, not-true}
+use borrow.Author.Tests.{eqb-true, eqb-false, eq-eqb, ne-eqb, leb-true, le-leb, lt-leb, not-true}
 use lib.Dec.{eqb, leb}
 use lib.ListN.{length, take, drop, length-take, length-drop, length-map, length-append, take-append-drop}
 use lib.Seq.{take-add}
-use Rattle.laws.specs.Choice.{if_then_else_, howMany}
+use Rattle.laws.specs.Choice.{howMany}
 use Rattle.laws.specs.Law64.{Due, total}
 use Rattle.laws.specs.Allotment.{Pair}
 use Rattle.laws.proofs.Tests.{by-test, not-both, and-left, and-right}

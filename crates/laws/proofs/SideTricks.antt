@@ -3,7 +3,7 @@
 use Prim.Native.Nat.{ℕ, zero, suc, _+_, _-_, _≤_, _<_}
 use native.Mathlib.Omega.{arith}
 use mathlib.Core.Path.{_≡_, refl, sym, ap, _∙_}
-use mathlib.Core.Logic.{_↔_, _⊎_, inl, inr, ⊎-elim}
+use mathlib.Core.Logic.{_⊎_, inl, inr, ⊎-elim}
 use mathlib.Core.Bool.{true, false}
 use mathlib.Core.List.{List, [], _∷_, _++_, append-assoc, append-nil, List·Memᴰ, List·Memᴰ·head, List·Memᴰ·tail, List·Memᴰ·cases-cons, Memᴰ·append-left, Memᴰ·cast}
 use mathlib.Core.List.{Memᴰ·append-right, List·Memᴰ·append-cases, List·Memᴰ·not-nil, List·Memᴰ·eq-of-singleton}
@@ -15,7 +15,7 @@ use Rattle.laws.specs.Choice.{if_then_else_, howMany}
 use Rattle.laws.specs.Cards.{noSeat, sideOf}
 use Rattle.laws.specs.Law44.{tricksWon}
 use Rattle.laws.specs.Law64.{wonFrom}
-use Rattle.laws.specs.Allotment.{Won, GotByClaim, Has}
+use Rattle.laws.specs.Allotment.{Has}
 use Rattle.laws.proofs.Tests.{by-test}
 use Rattle.laws.proofs.Counts.{many-append, many-le}
 use Rattle.laws.proofs.Allotments.{none-pass}

@@ -1,4 +1,5 @@
 -- The longest auction and the longest record: the bounds, and the ones that reach them, by evaluating the judge's definitions. Assumes nothing.
+use native.Mathlib.Omega.{arith}
 use mathlib.Core.Path.{_≡_, refl}
 use Rattle.laws.specs.Choice
 use Rattle.laws.specs.Cards
@@ -46,12 +47,12 @@ bytes-296 = refl
 pub lengths : Lengths
 lengths =
     record {
-      most-calls = at-most-319;
+      most-calls = λ dealer h a. omega (arith, at-most-319 dealer h a);
       most-calls-in-order = at-most-319-in-order;
       longest-auction = longest-allowed;
       longest-over = longest-over;
       longest-calls = longest-length;
-      most-bytes = λ bytes small answer list p q. let w = accepted-lawful bytes answer list small p q in rw (w .1) (at-most-296 p (w .0));
+      most-bytes = λ bytes small answer list p q. let w = accepted-lawful bytes answer list small p q in rw (w .1) (omega (arith, at-most-296 p (w .0)));
       longest-record = judged;
       longest-lawful = by-judging longestParts judged;
       longest-bytes = bytes-296;

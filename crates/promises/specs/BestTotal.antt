@@ -8,8 +8,7 @@ use Rattle.laws.specs.Record.{Parts}
 use Rattle.laws.specs.Judgement.{declarerOf, winnersOf, claimedOf, revokesOf, transferredOf}
 use Rattle.laws.specs.Lawful.{Lawful}
 
--- an allotment of so many pairs is exhibited, and every allotment has at most so many
-abbrev pub BestTotal : Type 0
-BestTotal =
-    (p : Parts) → Lawful p → oneSideRevoked (revokesOf p) ≡ true
-    → Greatest (partnerOf (declarerOf p)) (winnersOf p) (claimedOf p) (revokesOf p) (transferredOf p)
+pub record BestTotal : Type 0 where
+  -- an allotment of as many pairs as tricks change sides is exhibited, and every allotment has at most so many
+  pub best : (p : Parts) → Lawful p → oneSideRevoked (revokesOf p) ≡ true
+      → Greatest (partnerOf (declarerOf p)) (winnersOf p) (claimedOf p) (revokesOf p) (transferredOf p)
