@@ -249,9 +249,9 @@ fn p12_ends_of_auctions() {
     }
 }
 
-/// The longest auction and with it the longest record: three passes, then every bid, each doubled and redoubled after two passes, 319 calls. The seat that bids goes
-/// round by one from W on, so E bids the last, seven notrump, and W is the first of that side to have bid notrump. N leads and wins every trick with
-/// a club: thirteen down, redoubled, not vulnerable, 2 × (100 + 2 × 200 + 10 × 300).
+/// The longest auction and with it the longest record: three passes, then every bid, each doubled and redoubled after two passes, 319 calls. The
+/// seat that bids goes round by one from W on, so E bids the last, seven notrump, and W is the first of that side to have bid notrump. N leads and
+/// wins every trick with a club: thirteen down, redoubled, not vulnerable, 2 × (100 + 2 × 200 + 10 × 300).
 #[test]
 fn longest_auction_and_record() {
     let rounds = (3..38).flat_map(|bid| [bid, 0, 0, 1, 0, 0, 2, 0, 0]);

@@ -130,8 +130,8 @@ module _ (ws : List ℕ) (claimed : ℕ → ℕ) (side : ℕ) where
     pub no-better : (pairs : List Pair) → Allotment dummy ws claimed rs pairs → length pairs ≤ total due
     no-better pairs a =
         let f = falling dummy (length ws + 1) 1 [] rs o in
-        let most = at-most-total had 0 (wonFrom ws claimed side 1) due pairs f (serves-places had pairs 0 due (served pairs a)) (λ t. omega (arith, a .once t)) in
-        omega (arith, most, all-pass pairs)
+        let s = serves-places had pairs 0 due (served pairs a) in
+        omega (arith, at-most-total had 0 (wonFrom ws claimed side 1) due pairs f s (λ t. omega (arith, a .once t)), all-pass pairs)
 
     greatest : Greatest dummy ws claimed rs (total due)
     greatest = record { pairs = best; allots = best-allots; as-many = best-length; most = no-better }

@@ -6,12 +6,12 @@ use mathlib.Core.Path.{_≡_, refl}
 use mathlib.Core.Logic.{_⊎_, inl, inr}
 use mathlib.Core.Bool.{Bool, true, false, not, _&&_}
 use mathlib.Core.List.{List, [], _∷_, reverse, reverseAux}
-use borrow.Author.Tests.{leb-true, leb-false, ltb-true, eqb-true, ne-eqb}
+use borrow.Author.Tests.{leb-true, leb-false, eqb-true, ne-eqb}
 use lib.Dec.{eqb, leb}
 use lib.ListN.{length, getD, length-reverse}
 use Rattle.laws.specs.Cards.{clockwise, sameSide}
-use Rattle.laws.specs.Auction.{pass, double, redouble, isBid, toCall, lastBid, beforePasses, bidByOpponents, bidByOwnSide, doubledOwnBid, sufficient, mayDouble}
-use Rattle.laws.specs.Auction.{mayRedouble, passesInARow, hasBid, isOver, allowed, doubling}
+use Rattle.laws.specs.Auction.{pass, double, redouble, isBid, toCall, lastBid, beforePasses, bidByOpponents, bidByOwnSide, doubledOwnBid}
+use Rattle.laws.specs.Auction.{sufficient, mayDouble, mayRedouble, passesInARow, hasBid, isOver, allowed, doubling}
 use Rattle.laws.specs.Lengths.{AllAllowed, bidsInTurn, longestAuction}
 use Rattle.laws.specs.Lawful.{firstOf}
 use Rattle.laws.proofs.Tests.{by-test, not-both, and-left, and-right}
@@ -140,7 +140,8 @@ after d h c a s =
     rw (eqb-true c redouble t) (after-doubling h redouble 1 (omega arith) e (doubled d _ h (rw (e, q, r, t) at a)) refl refl refl s))
     (λ (t : eqb c redouble ≡ false).
     let both : (isBid c && sufficient h c) ≡ true = rw (e, q, r, t) at a in
-    after-bid h c e (and-left (isBid c) _ both) (ltb-true (lastBid h) c (and-right (isBid c) _ both)) s))))
+    let above = leb-true _ c (and-right (isBid c) _ both) in
+    after-bid h c e (and-left (isBid c) _ both) (omega (arith, above)) s))))
 
 stage : (d : ℕ) (h : List ℕ) → AllAllowed d h → Stage h
 unfolding AllAllowed lastBid passesInARow

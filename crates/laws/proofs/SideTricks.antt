@@ -1,12 +1,12 @@
--- The tricks of a side by their numbers, the latest first: those it gets by the claim, then those it won. From a trick on, they are the first ones of this list,
--- as many as Law 64 says are available. Assumes nothing.
+-- The tricks of a side by their numbers, the latest first: those it gets by the claim, then those it won. From a trick on, they are the first ones
+-- of this list, as many as Law 64 says are available. Assumes nothing.
 use Prim.Native.Nat.{ℕ, zero, suc, _+_, _-_, _≤_, _<_}
 use native.Mathlib.Omega.{arith}
 use mathlib.Core.Path.{_≡_, refl, sym, ap, _∙_}
 use mathlib.Core.Logic.{_⊎_, inl, inr, ⊎-elim}
 use mathlib.Core.Bool.{true, false}
-use mathlib.Core.List.{List, [], _∷_, _++_, append-assoc, append-nil, List·Memᴰ, List·Memᴰ·head, List·Memᴰ·tail, List·Memᴰ·cases-cons, Memᴰ·append-left, Memᴰ·cast}
-use mathlib.Core.List.{Memᴰ·append-right, List·Memᴰ·append-cases, List·Memᴰ·not-nil, List·Memᴰ·eq-of-singleton}
+use mathlib.Core.List.{List, [], _∷_, _++_, append-assoc, append-nil, List·Memᴰ, List·Memᴰ·head, List·Memᴰ·tail, List·Memᴰ·cases-cons}
+use mathlib.Core.List.{Memᴰ·append-left, Memᴰ·cast, Memᴰ·append-right, List·Memᴰ·append-cases, List·Memᴰ·not-nil, List·Memᴰ·eq-of-singleton}
 use borrow.Author.Tests.{eqb-true, eqb-false, eq-eqb, ne-eqb, leb-true, leb-false}
 use lib.Dec.{eqb, leb}
 use lib.ListN.{length, getD, take, drop, length-append, length-drop}
@@ -104,7 +104,8 @@ module _ (side : ℕ) where
       let others = none-pass (λ (x : ℕ). eqb x t) (wonDown (suc n) l) (λ x i. ne-eqb x t (λ s. omega (arith, in-won (suc n) l i .1))) in
       omega (arith, both, others, many-le (λ (x : ℕ). eqb x t) last))
       (λ (e : eqb n t ≡ false).
-      omega (arith, both, won-once (suc n) l t, none-pass (λ (x : ℕ). eqb x t) last (λ x i. ne-eqb x t (λ s. eqb-false n t e (sym (only (eqb (sideOf w) side) i) ∙ s)))))
+      let none = none-pass (λ (x : ℕ). eqb x t) last (λ x i. ne-eqb x t (λ s. eqb-false n t e (sym (only (eqb (sideOf w) side) i) ∙ s))) in
+      omega (arith, both, won-once (suc n) l t, none))
     where
       short : (b : _) → length (if b then (n ∷ []) else []) ≤ 1
       short true = omega arith
