@@ -1,4 +1,4 @@
--- The judge: the order of checks, section by section as document 01's table has them, on the fields read and the histories of calls and cards.
+-- The judge: the order of checks, section by section as docs/RULES.md has them, on the fields read and the histories of calls and cards.
 -- Assumes nothing.
 use Prim.Native.Nat.{ℕ, _+_, _*_}
 use mathlib.Core.Bool.{Bool, not, _&&_, _||_}

@@ -1,5 +1,5 @@
 -- The rules for trees of tally calls: the board, the list of scores and the refusals of a tree, with no tally in them.
--- A tree is a fresh tally of a board from 1 to 127, a tree with one score added, valid or not, or two trees merged. (Document 01's term.)
+-- A tree is a fresh tally of a board from 1 to 127, a tree with one score added, valid or not, or two trees merged. (The project's own term.)
 -- Assumes nothing.
 use Prim.Native.Nat.{ℕ, zero, suc, _+_, _≤_}
 use mathlib.Core.Path.{_≡_}

@@ -1,4 +1,4 @@
--- Document 01's byte examples, by evaluating the judge's definitions. Assumes nothing.
+-- The byte examples of docs/RULES.md, by evaluating the judge's definitions. Assumes nothing.
 use Prim.Native.Nat.{_+_, _*_}
 use mathlib.Core.Path.{_≡_, refl}
 use mathlib.Core.Bool.{true, false}

@@ -1,4 +1,4 @@
-//! Compares the proved program `tree` with the rules of document 01 for trees, on scripts of random trees.
+//! Compares the proved program `tree` with the rules for trees in docs/RULES.md, on scripts of random trees.
 use outside::random::Random;
 use outside::run::{output_of, stop, Words};
 use outside::scripts::Script;
