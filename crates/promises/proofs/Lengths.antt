@@ -23,7 +23,7 @@ use Rattle.promises.proofs.Demand2Accepts.{accepted-lawful, by-judging}
 
 judged : judgeOf (encode longestParts) 7 36 ≡ accepted longestParts
 unfolding
-    Choice.howMany Choice.some Cards.clockwise Cards.cardsDealt Cards.firstShort Law2.dealer
+    Choice.howMany Choice.some Cards.clockwise Cards.cardsDealt Cards.firstWithoutThirteen Law2.dealer
     Auction.strainOf Auction.callPlace Auction.toCall Auction.lastBid Auction.lastBidder Auction.beforePasses
     Auction.bidByOpponents Auction.bidByOwnSide Auction.doubledOwnBid Auction.sufficient Auction.mayDouble Auction.mayRedouble
     Auction.passesInARow Auction.hasBid Auction.isOver Auction.passedOut Auction.allowed
