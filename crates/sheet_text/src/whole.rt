@@ -17,7 +17,7 @@ ghost use Rattle.laws.specs.Decimal.{decimal, signedDecimal};
 ghost use Rattle.laws.specs.Law77.{validScore};
 ghost use Rattle.laws.specs.Sheet.{fields, table, refusal, sheet};
 ghost use Rattle.tally.specs.Tallies.{scoresIn, wellFormed};
-ghost use Rattle.sheet_text.specs.Putting.{Put, outcomeFor, leftIn};
+ghost use Rattle.sheet_text.specs.Putting.{Put, written, lengthWithin, leftIn};
 ghost use Rattle.sheet_text.specs.Whole.{Found};
 
 // How the writing of a sheet went: so many bytes written, or too few lent and none written.
@@ -30,6 +30,16 @@ pub enum Outcome {
 struct Results {
     refused: u32,
     tally: Tally,
+}
+
+// A line that finds 128 results before it.
+fn full_at(k: u32, t: Tally) -> Results
+    ensures { λ r. ⌜ r ≡ record { refused = k; tally = t } ⌝ }
+{
+    Results {
+        refused: k,
+        tally: t,
+    }
 }
 
 // The scores on the lines, up to the first line that is refused.
@@ -52,10 +62,7 @@ fn results_of(bytes: &[u8]) -> Results
         };
         let more = tally::add(t, score);
         if more.refusal != 0 {
-            return Results {
-                refused: k,
-                tally: t,
-            };
+            return full_at(k, t);
         }
         t = more.tally;
         at = end + 1;
@@ -125,7 +132,7 @@ fn put_sheet(out: &mut [u8], bytes: &[u8]) -> usize
 
 // Writes the sheet of a text of scores to lent bytes. 2331 bytes are enough for every sheet.
 pub fn write(bytes: &[u8], out: &mut [u8]) -> Outcome
-    ensures answer { λ r. ⌜ r ≡ outcomeFor (sheet (now (bytes .entry))) (length (now (out .entry))) ⌝ }
+    ensures answer { λ r. ⌜ written r ≡ lengthWithin (sheet (now (bytes .entry))) (length (now (out .entry))) ⌝ }
     ensures bytes { λ r. ⌜ now (out .exit) ≡ leftIn (now (out .entry)) (sheet (now (bytes .entry))) ⌝ }
 {
     let mut text = [0u8; 2331];

@@ -10,3 +10,4 @@ pub mod Comparing
 pub mod OfLists
 pub mod Shapes
 pub mod Tables
+pub mod Told

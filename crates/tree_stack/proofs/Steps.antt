@@ -8,7 +8,7 @@ use lib.Dec.{ltb}
 use lib.IntN.{ℤ}
 use Rattle.laws.specs.Choice.{if_then_else_}
 use Rattle.tally.specs.Tallies.{addOf, mergeOf}
-use Rattle.tally.specs.Points.{pointsAnswer, matchpointsOf}
+use Rattle.tally.specs.Points.{matchpointsOf}
 use Rattle.tree_stack.specs.declared.Stack.{Stack}
 use Rattle.tree_stack.specs.Stacks.{tallyAt, stopped, landed, lacks, lowered, saidOf, addStep, mergeStep, matchpointsStep}
 
@@ -48,7 +48,7 @@ module _ (s : Stack) (z : ℤ) where
   points-long h = rw (many s 1 h)
 
   pub points-said : 1 ≤ s .used → s .used ≤ 16
-      → record { stack = s; said = saidOf (pointsAnswer (matchpointsOf (tallyAt s (s .used - 1)) z)) } ≡ matchpointsStep s z
+      → record { stack = s; said = saidOf (matchpointsOf (tallyAt s (s .used - 1)) z) } ≡ matchpointsStep s z
   unfolding matchpointsStep
   points-said h k = rw (enough s 1 h k)
 
