@@ -7,3 +7,4 @@ pub mod Demand2Judgement
 pub mod Demand3
 pub mod TalliesMatchpoints
 pub mod Tallies
+pub mod Demand2Imps
