@@ -64,7 +64,7 @@ put-front o l s n p h =
     let e : 0 + length s ≡ length s = omega arith in
     p .bytes ∙ sets-eq s o 0 (omega arith) ∙ rw e
 
--- ---- a sheet in a local array, and then in lent bytes
+-- ---- a text in a local array, and then in lent bytes
 module _ (text : List ℕ) (zeros local : List ℕ) (n : ℕ) (p : Put zeros 0 text local n) (room : length text ≤ length zeros) where
   pub local-length : n ≤ length local
   local-length = omega (arith, p .place, put-length p)
@@ -72,24 +72,21 @@ module _ (text : List ℕ) (zeros local : List ℕ) (n : ℕ) (p : Put zeros 0 t
   pub taken-length : n ≡ length (take n local)
   taken-length = sym (length-take-le n local local-length)
 
-  taken : take n local ≡ text
+  pub taken : take n local ≡ text
   taken =
       let e : n ≡ length text = omega (arith, p .place) in
       rw (put-front zeros local text n p room) (take-at text (drop (length text) zeros) n (sym e))
 
-  module _ (out : List ℕ) where
-    pub too-short : length out < n → (written TooShort ≡ lengthWithin text (length out)) × (out ≡ leftIn out text)
-    unfolding lengthWithin leftIn
-    too-short h =
-        let e : length out < length text = omega (arith, p .place) in
-        rw (lt-leb (length text) (length out) e) (refl, refl)
+-- a text lent: too few bytes, or as many as it needs
+module _ (text out : List ℕ) where
+  pub too-short : length out < length text → (written TooShort ≡ lengthWithin text (length out)) × (out ≡ leftIn out text)
+  unfolding lengthWithin leftIn
+  too-short h = rw (lt-leb (length text) (length out) h) (refl, refl)
 
-    pub copied : (left : List ℕ) (m : ℕ) → n ≤ length out → Put out 0 (take n local) left m → (written (Written n) ≡ lengthWithin text (length out)) × (left ≡ leftIn out text)
-    unfolding lengthWithin leftIn
-    copied left m h q =
-        let e : n ≡ length text = omega (arith, p .place) in
-        let k : length text ≤ length out = omega arith in
-        rw (le-leb (length text) (length out) k) (ap fits e, put-front out left text m (rw taken at q) k)
+  pub copied : (left : List ℕ) (m : ℕ) → length text ≤ length out → Put out 0 text left m
+      → (written (Written (length text)) ≡ lengthWithin text (length out)) × (left ≡ leftIn out text)
+  unfolding lengthWithin leftIn
+  copied left m h q = rw (le-leb (length text) (length out) h) (refl, put-front out left text m q h)
 
 -- ---- what a caller of `write` learns
 written-within : (text : List ℕ) (room n : ℕ) (r : Outcome) → written r ≡ lengthWithin text room → r ≡ Written n → n ≤ room

@@ -13,17 +13,17 @@ use Rattle.tree_stack.specs.declared.Stack.{Stack}
 use Rattle.tree_stack.specs.Stacks.{tallyAt, stopped, landed, lacks, lowered, saidOf, addStep, mergeStep, matchpointsStep}
 
 -- too few tallies, too many, or enough
-few : (s : Stack) (n : ℕ) → s .used < n → lacks s n ≡ true
+pub few : (s : Stack) (n : ℕ) → s .used < n → lacks s n ≡ true
 few s n h = rw (lt-ltb (s .used) n h)
 
-many : (s : Stack) (n : ℕ) → 16 < s .used → lacks s n ≡ true
+pub many : (s : Stack) (n : ℕ) → 16 < s .used → lacks s n ≡ true
 many s n h = rw (lt-ltb 16 (s .used) h) (or-true (ltb (s .used) n))
   where
     or-true : (b : Bool) → (b || true) ≡ true
     or-true true = refl
     or-true false = refl
 
-enough : (s : Stack) (n : ℕ) → n ≤ s .used → s .used ≤ 16 → lacks s n ≡ false
+pub enough : (s : Stack) (n : ℕ) → n ≤ s .used → s .used ≤ 16 → lacks s n ≡ false
 enough s n h k = rw (le-ltb (s .used) n h, le-ltb 16 (s .used) k)
 
 module _ (s : Stack) (z : ℤ) where
