@@ -29,7 +29,7 @@ same-length : tie.Need-same-length Inv-loop μ-loop
 same-length c = put-length (c .before .before .before .loop .inv .put)
 
 returns : tie.Need-returns Inv-loop μ-loop
-returns c = ends _ _ _ _ _ (c .before .before .before .loop .inv) (c .before .before .loop-test .taken) (c .if1 .taken)
+returns c = ends _ _ _ _ _ (c .before .before .before .loop .inv) (omega arith) (c .if1 .taken)
 
 mul-score : tie.Need-mul-score Inv-loop μ-loop
 mul-score c = search needs
@@ -60,7 +60,7 @@ loop-again c =
     let f : SFits w16 (getD (t .scores) (l .i) (pos 0)) = search needs in
     let g : Fits w8 (getD (t .counts) (l .i) 0) = search needs in
     let k : getD (t .counts) (l .i) 0 < 256 = omega (arith, g .fits) in
-    goes _ _ _ _ _ (l .inv) (c .before .before .before .before .before .before .before .loop-test .taken) (c .before .before .before .before .before .if1 .left) _ _ (entry-short _ _ f k) (rw (toZ-ofZ f) at (c .before .before .put-entry .ensures))
+    goes _ _ _ _ _ (l .inv) (omega arith) (c .before .before .before .before .before .if1 .left) _ _ (entry-short _ _ f k) (rw (toZ-ofZ f) at (c .before .before .put-entry .ensures))
 
 same-length-2 : tie.Need-same-length-2 Inv-loop μ-loop
 same-length-2 c = put-length (c .before .loop .inv .put)
