@@ -6,7 +6,7 @@ use mathlib.Core.Bool.{Bool, true, false, not, _&&_}
 use mathlib.Core.List.{List, [], _∷_}
 use lib.Dec.{eqb, leb}
 use lib.IntN.{ℤ, pos, negsuc, negℤ, natAbs, _-ℤ_}
-use lib.ListN.{length}
+use lib.ListN.{length, getD}
 use lib.Signed.{ltZ}
 use Rattle.laws.specs.Choice.{if_then_else_, howMany}
 use Rattle.laws.specs.Refusals.{Answer, refused, answered, invalidScore, scoreNotInTally}
@@ -65,6 +65,10 @@ lowerEnds =
     ∷ 1500 ∷ 1750 ∷ 2000 ∷ 2250 ∷ 2500 ∷ 3000 ∷ 3500 ∷ 4000
     ∷ []
 
+-- the k-th entry of the scale, k from 1 to 24
+unfoldable pub lowerEnd : ℕ → ℕ
+lowerEnd k = getD lowerEnds (k - 1) 0
+
 -- the IMPs for the size of a difference: how many lower ends it reaches
 unfoldable pub impsForSize : ℕ → ℕ
 impsForSize size = howMany (λ end. leb end size) lowerEnds
@@ -81,3 +85,8 @@ impsOf difference = withSignOf difference (impsForSize (natAbs difference))
 -- asked for two scores: 20 if either isn't valid, else the IMPs of the first less the second
 unfoldable pub imps : ℤ → ℤ → Answer ℤ
 imps first second = if validScore first && validScore second then answered (impsOf (first -ℤ second)) else refused invalidScore
+
+-- an answer with its number negated; a refusal stays
+abbrev pub opposite : Answer ℤ → Answer ℤ
+opposite (refused n) = refused n
+opposite (answered z) = answered (negℤ z)

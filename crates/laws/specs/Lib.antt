@@ -1,6 +1,7 @@
 pub mod Choice
 pub mod Padded
 pub mod Refusals
+pub mod Fitting
 pub mod Cards
 pub mod Law2
 pub mod Auction

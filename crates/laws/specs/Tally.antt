@@ -45,6 +45,13 @@ pub data Tree : Type 0 where
   add : Tree → ℤ → Tree
   merge : Tree → Tree → Tree
 
+-- the calls of a tree, each named by the tree that it is the last call of: the last one, and those of the trees that it was made on
+pub data CallOf : Tree → Tree → Type 0 where
+  last : {t : Tree} → CallOf t t
+  in-add : {t : Tree} {score : ℤ} {call : Tree} → CallOf t call → CallOf (add t score) call
+  in-first : {t u : Tree} {call : Tree} → CallOf t call → CallOf (merge t u) call
+  in-second : {t u : Tree} {call : Tree} → CallOf u call → CallOf (merge t u) call
+
 -- a tree's board is its first fresh tally's
 unfoldable pub boardOf : Tree → ℕ
 boardOf (fresh board from to) = board

@@ -7,7 +7,7 @@ use mathlib.Core.List.{List, [], _∷_, _++_}
 use lib.IntN.{ℤ}
 use lib.ListN.{length, length-append}
 use Rattle.laws.specs.Law78.{occurrences}
-use Rattle.laws.specs.Tally.{addRefusal, mergeRefusal, leaves, Tree, fresh, add, merge, boardOf, listOf, refusalOf, added, OneBoard, AllValid, SameScores}
+use Rattle.laws.specs.Tally.{addRefusal, mergeRefusal, leaves, Tree, fresh, add, merge, CallOf, last, in-add, in-first, in-second, boardOf, listOf, refusalOf, added, OneBoard, AllValid, SameScores}
 use Rattle.tally.specs.declared.Tally.{Tally}
 use Rattle.tally.specs.declared.Tallied.{Tallied}
 use Rattle.tally.specs.Tallies.{tallyOf, answerOf, freshOf, addOf, mergeOf}
@@ -18,7 +18,7 @@ use Rattle.tally.proofs.Refusing.{board-good, add-allowed, allowed-add, merge-a
 use Rattle.tally.proofs.OfLists.{Sound, one-tally, add-list, merge-list, points-list}
 use Rattle.tally.specs.Shape.{countIn}
 use Rattle.tally.proofs.Shapes.{count-tally, shape-tally}
-use Rattle.promises.specs.Demand3.{left, answer, Refusing, last, in-add, in-first, in-second, OfTree, Plain, NoneRefused, Demand3}
+use Rattle.promises.specs.Demand3.{left, answer, Refusing, OfTree, Plain, NoneRefused, Demand3}
 
 -- ---- the list of a tree has valid scores, at most 128
 left-either : {A : Type 0} (P : A → Type 0) (r : ℕ) (made given : A) → P given → (r ≡ 0 → P made) → P (leaves r made given)
@@ -111,31 +111,35 @@ of-tree t =
     let w = sound t in
     let e = tally-left t in
     record {
-      refusal = refusal-left t;
-      answers = called t ∙ ap (answerOf (refusalOf t)) (sym e);
+      refusal = λ u k. refusal-left u;
+      answers = λ u k. called u ∙ ap (answerOf (refusalOf u)) (sym (tally-left u));
       shape = rw e (shape-tally b l w);
       well = rw e (formed-tally b l (w .valid) (w .room) (w .board));
       counts = λ s. ap (λ (x : Tally). countIn x s) e ∙ count-tally b l w s;
       canonical = e;
-      points = λ s. ap (λ (x : Tally). matchpointsOf x s) e ∙ points-list b l w s;
+      points = λ s r h. h ∙ ap (λ (x : Tally). matchpointsOf x s) e ∙ points-list b l w s;
     }
 
 -- ---- the list has what the calls add, unless one of them is refused
 refused-last : (t : Tree) (r : ℕ) → refusalOf t ≡ suc r → Refusing t
-refused-last t r e = last {t = t} (λ z. omega (arith, refusal-left t))
+refused-last t r e = record { call = t; of = last; refused = λ z. omega (arith, refusal-left t) }
+
+-- a refused call within
+refused-in : {t u : Tree} → ((call : Tree) → CallOf t call → CallOf u call) → Refusing t → Refusing u
+refused-in within w = record { call = w .call; of = within (w .call) (w .of); refused = w .refused }
 
 either-add : (t : Tree) (s : ℤ) (r : ℕ) → addRefusal (listOf t) s ≡ r → Refusing t ⊎ (listOf t ≡ added t) → Refusing (add t s) ⊎ (listOf (add t s) ≡ added (add t s))
 unfolding refusalOf listOf added leaves
 either-add t s (suc r) e w = inl (refused-last (add t s) r e)
-either-add t s zero e (inl w) = inl (in-add w)
+either-add t s zero e (inl w) = inl (refused-in (λ k. in-add) w)
 either-add t s zero e (inr w) = inr (rw (e, w))
 
 either-merge : (t u : Tree) (r : ℕ) → mergeRefusal (boardOf t) (listOf t) (boardOf u) (listOf u) ≡ r → Refusing t ⊎ (listOf t ≡ added t) → Refusing u ⊎ (listOf u ≡ added u)
     → Refusing (merge t u) ⊎ (listOf (merge t u) ≡ added (merge t u))
 unfolding refusalOf listOf added leaves
 either-merge t u (suc r) e v w = inl (refused-last (merge t u) r e)
-either-merge t u zero e (inl v) w = inl (in-first v)
-either-merge t u zero e (inr v) (inl w) = inl (in-second w)
+either-merge t u zero e (inl v) w = inl (refused-in (λ k. in-first) v)
+either-merge t u zero e (inr v) (inl w) = inl (refused-in (λ k. in-second) w)
 either-merge t u zero e (inr v) (inr w) = inr (rw (e, v, w))
 
 either : (t : Tree) → Refusing t ⊎ (listOf t ≡ added t)
@@ -160,21 +164,28 @@ valid-parts (s ∷ l) m v = let r = valid-parts l m (v .1) in ((v .0, r .0), r .
 not-last : (t : Tree) → refusalOf t ≡ 0 → (answer t .refusal ≡ 0 → ⊥) → ⊥
 not-last t e h = h (refusal-left t ∙ e)
 
-none-add : (t : Tree) (s : ℤ) → refusalOf (add t s) ≡ 0 → (Refusing t → ⊥) → Refusing (add t s) → ⊥
-none-add t s e h (last k) = not-last (add t s) e k
-none-add t s e h (in-add w) = h w
+-- no call of a tree is refused
+abbrev Accepting : Tree → Type 0
+Accepting t = (call : Tree) → CallOf t call → (answer call .refusal ≡ 0 → ⊥) → ⊥
 
-none-merge : (t u : Tree) → refusalOf (merge t u) ≡ 0 → (Refusing t → ⊥) → (Refusing u → ⊥) → Refusing (merge t u) → ⊥
-none-merge t u e h k (last n) = not-last (merge t u) e n
-none-merge t u e h k (in-first w) = h w
-none-merge t u e h k (in-second w) = k w
+none-refusing : (t : Tree) → Accepting t → Refusing t → ⊥
+none-refusing t h w = h (w .call) (w .of) (w .refused)
 
-none-fresh : (b : ℕ) (from : 1 ≤ b) (to : b ≤ 127) → Refusing (fresh b from to) → ⊥
+none-add : (t : Tree) (s : ℤ) → refusalOf (add t s) ≡ 0 → Accepting t → Accepting (add t s)
+none-add t s e h call last = not-last (add t s) e
+none-add t s e h call (in-add w) = h call w
+
+none-merge : (t u : Tree) → refusalOf (merge t u) ≡ 0 → Accepting t → Accepting u → Accepting (merge t u)
+none-merge t u e h k call last = not-last (merge t u) e
+none-merge t u e h k call (in-first w) = h call w
+none-merge t u e h k call (in-second w) = k call w
+
+none-fresh : (b : ℕ) (from : 1 ≤ b) (to : b ≤ 127) → Accepting (fresh b from to)
 unfolding refusalOf
-none-fresh b from to (last k) = not-last (fresh b from to) refl k
+none-fresh b from to call last = not-last (fresh b from to) refl
 
 record Taken (b : ℕ) (t : Tree) : Type 0 where
-  none : Refusing t → ⊥
+  none : Accepting t
   board : boardOf t ≡ b
   list : listOf t ≡ added t
 
@@ -198,7 +209,7 @@ taken b (merge t u) o v r =
 
 none-refused : (b : ℕ) (t : Tree) → Plain b t → NoneRefused b t
 unfolding SameScores
-none-refused b t p = let k = taken b t (p .one-board) (p .valid) (p .room) in record { none = k .none; board = k .board; all = λ s. ap (occurrences s) (k .list) }
+none-refused b t p = let k = taken b t (p .one-board) (p .valid) (p .room) in record { none = none-refusing t (k .none); board = k .board; all = λ s. ap (occurrences s) (k .list) }
 
 -- ---- the same scores, each as often: the same tally
 same-tally : (b : ℕ) (t u : Tree) → Plain b t → Plain b u → SameScores (added t) (added u) → left t ≡ left u

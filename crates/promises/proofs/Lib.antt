@@ -9,3 +9,4 @@ pub mod Demand2Judgement
 pub mod Demand3
 pub mod TalliesMatchpoints
 pub mod Tallies
+pub mod Demand2Imps

@@ -2,6 +2,7 @@
 use Prim.Native.Nat.{ℕ, zero, suc, _≤_, _+_}
 use native.Mathlib.Omega.{arith}
 use mathlib.Core.Path.{_≡_, refl, sym, ap, ap₂, _∙_}
+use mathlib.Core.Logic.{_⊎_, inl, inr, ⊎-elim}
 use mathlib.Core.Bool.{true, false, _&&_}
 use mathlib.Core.List.{List, [], _∷_, _++_, append-assoc}
 use borrow.Author.Tests.{eqb-true, eqb-false, eq-eqb, ne-eqb}
@@ -19,11 +20,11 @@ use Rattle.tally.specs.Entries.{entriesOf}
 use Rattle.tally.specs.Tallies.{tallyWith, tallyOf, scoresIn, wellFormed, noTally, refusedWith, answerOf, freshOf, addOf, mergeOf}
 use Rattle.tally.specs.Points.{matchpointsOf}
 use Rattle.tally.proofs.Lists.{valid-append}
-use Rattle.tally.proofs.Formed.{formed, formed-tally, valid-scores, room-scores, own-tally}
+use Rattle.tally.proofs.Formed.{formed, formed-tally, valid-scores, room-scores, own-tally, length-tally}
 use Rattle.tally.proofs.Refusing.{board-good, board-range, merge-allowed, allowed-merge}
-use Rattle.tally.proofs.Answers.{add-malformed, first-malformed}
-use Rattle.tally.proofs.OfLists.{Sound, one-tally, merge-list, answer-by, same-turned}
-use Rattle.promises.specs.Tallies.{Described, WithNone, RefusedNone, Fit, Merging, OfTallies, resultsIn}
+use Rattle.tally.proofs.Answers.{add-malformed, first-malformed, second-malformed, merge-refused}
+use Rattle.tally.proofs.OfLists.{Sound, one-tally, merge-list, answer-by, same-turned, tally-board}
+use Rattle.promises.specs.Tallies.{Described, WithNone, RefusedNone, Fit, Merging, OfTallies, resultsIn, _∪_}
 use Rattle.promises.proofs.TalliesMatchpoints.{matchpoints}
 
 -- ---- described
@@ -150,22 +151,123 @@ sound-of t n w e = rw (← e) (sound t w)
 merged-tally : (a b : Tally) (n : ℕ) → Fit a b → a .board ≡ n → mergeOf a b .tally ≡ tallyOf n (scoresIn a ++ scoresIn b)
 merged-tally a b n f e = ap (λ (r : Tallied). r .tally) (merged a b f) ∙ ap (λ (d : ℕ). tallyOf d (scoresIn a ++ scoresIn b)) e
 
-associates : (a b c : Tally) → Fit a b → Fit b c → resultsIn a + resultsIn b + resultsIn c ≤ 128 → mergeOf (mergeOf a b .tally) c ≡ mergeOf a (mergeOf b c .tally)
-associates a b c f g r =
-    let n = a .board in
-    let eb = sym (f .one-board) in
-    let ec = sym (g .one-board) ∙ eb in
-    let l = scoresIn a in
-    let m = scoresIn b in
-    let k = scoresIn c in
-    let u = sound-of a n (f .first) refl in
-    let v = sound-of b n (f .second) eb in
-    let w = sound-of c n (g .second) ec in
-    ap₂ mergeOf (merged-tally a b n f refl) (as-list c n (g .second) ec)
-    ∙ list-merged n (l ++ m) k (sound-append n l m u v (f .room)) w (omega (arith, length-append l m))
-    ∙ ap (λ (x : List ℤ). record { refusal = 0; tally = tallyOf n x }) (append-assoc l m k)
-    ∙ sym (list-merged n l (m ++ k) u (sound-append n m k v w (g .room)) (omega (arith, length-append m k)))
-    ∙ sym (ap₂ mergeOf (as-list a n (f .first) refl) (merged-tally b c n g eb))
+-- three of one board that fit together: both bracketings give the tally of the three lists
+module _ (a b c : Tally) (f : Fit a b) (g : Fit b c) (r : resultsIn a + resultsIn b + resultsIn c ≤ 128) where
+  abbrev n : ℕ
+  n = a .board
+
+  abbrev all : Tallied
+  all = record { refusal = 0; tally = tallyOf n (scoresIn a ++ (scoresIn b ++ scoresIn c)) }
+
+  of-b : b .board ≡ n
+  of-b = sym (f .one-board)
+
+  of-c : c .board ≡ n
+  of-c = sym (g .one-board) ∙ of-b
+
+  u : Sound n (scoresIn a)
+  u = sound-of a n (f .first) refl
+
+  v : Sound n (scoresIn b)
+  v = sound-of b n (f .second) of-b
+
+  w : Sound n (scoresIn c)
+  w = sound-of c n (g .second) of-c
+
+  first-two : mergeOf (a ∪ b) c ≡ all
+  first-two =
+      let l = scoresIn a in
+      let m = scoresIn b in
+      let k = scoresIn c in
+      ap₂ mergeOf (merged-tally a b n f refl) (as-list c n (g .second) of-c)
+      ∙ list-merged n (l ++ m) k (sound-append n l m u v (f .room)) w (omega (arith, length-append l m))
+      ∙ ap (λ (x : List ℤ). record { refusal = 0; tally = tallyOf n x }) (append-assoc l m k)
+
+  last-two : mergeOf a (b ∪ c) ≡ all
+  last-two =
+      let l = scoresIn a in
+      let m = scoresIn b in
+      let k = scoresIn c in
+      ap₂ mergeOf (as-list a n (f .first) refl) (merged-tally b c n g of-b)
+      ∙ list-merged n l (m ++ k) u (sound-append n m k v w (g .room)) (omega (arith, length-append m k))
+
+  together : (mergeOf (a ∪ b) c .refusal ≡ 0) × (mergeOf a (b ∪ c) .refusal ≡ 0)
+  together = (ap (λ (x : Tallied). x .refusal) first-two, ap (λ (x : Tallied). x .refusal) last-two)
+
+  joined : (a ∪ b) ∪ c ≡ a ∪ (b ∪ c)
+  joined = ap (λ (x : Tallied). x .tally) (first-two ∙ sym last-two)
+
+-- two tallies fit, or their merge leaves no tally
+fit-or-none : (a b : Tally) → Fit a b ⊎ (a ∪ b ≡ noTally)
+fit-or-none a b =
+    by-test (wellFormed a)
+    (λ (v : wellFormed a ≡ true).
+    by-test (wellFormed b)
+    (λ (w : wellFormed b ≡ true). by-refusal v w (mergeRefusal (a .board) (scoresIn a) (b .board) (scoresIn b)) refl)
+    (λ (w : wellFormed b ≡ false). inr (ap (λ (x : Tallied). x .tally) (sym (second-malformed a b v w)))))
+    (λ (v : wellFormed a ≡ false). inr (ap (λ (x : Tallied). x .tally) (sym (first-malformed a b v))))
+  where
+    by-refusal : wellFormed a ≡ true → wellFormed b ≡ true → (n : ℕ) → mergeRefusal (a .board) (scoresIn a) (b .board) (scoresIn b) ≡ n → Fit a b ⊎ (a ∪ b ≡ noTally)
+    by-refusal v w zero e =
+        let m = merge-allowed (a .board) (scoresIn a) (b .board) (scoresIn b) e in
+        inl (record { first = v; second = w; one-board = m .0; room = m .1 })
+    by-refusal v w (suc n) e = inr (ap (λ (x : Tallied). x .tally) (sym (merge-refused a b v w (suc n) (sym e) (λ z. omega arith))))
+
+-- three that fit together
+record Three (a b c : Tally) : Type 0 where
+  first : Fit a b
+  second : Fit b c
+  room : resultsIn a + resultsIn b + resultsIn c ≤ 128
+
+turned : (a b c : Tally) → Three c b a → Three a b c
+turned a b c t =
+    let f = t .first in
+    let g = t .second in
+    record {
+      first = record { first = g .second; second = g .first; one-board = sym (g .one-board); room = omega (arith, g .room) };
+      second = record { first = f .second; second = f .first; one-board = sym (f .one-board); room = omega (arith, f .room) };
+      room = omega (arith, t .room);
+    }
+
+-- what is merged of two that fit fits a third only where the three fit
+three-fit : (a b c : Tally) → Fit a b → Fit (a ∪ b) c → Three a b c
+three-fit a b c f g =
+    let l = scoresIn a ++ scoresIn b in
+    let e : a ∪ b ≡ tallyOf (a .board) l = merged-tally a b (a .board) f refl in
+    let s = sound-append (a .board) (scoresIn a) (scoresIn b) (sound-of a (a .board) (f .first) refl) (sound-of b (a .board) (f .second) (sym (f .one-board))) (f .room) in
+    let n : resultsIn (a ∪ b) ≡ length l = rw e (length-tally (a .board) l (s .valid) (s .room)) in
+    let m : length l ≡ resultsIn a + resultsIn b = length-append (scoresIn a) (scoresIn b) in
+    let d : (a ∪ b) .board ≡ a .board = rw e (tally-board (a .board) l) in
+    record {
+      first = f;
+      second = record { first = f .second; second = g .second; one-board = sym (f .one-board) ∙ sym d ∙ g .one-board; room = omega (arith, g .room) };
+      room = omega (arith, g .room);
+    }
+
+-- so three fit together, or merging them leaves no tally
+three-or-none : (a b c : Tally) → Three a b c ⊎ ((a ∪ b) ∪ c ≡ noTally)
+three-or-none a b c =
+    ⊎-elim
+    (λ (f : Fit a b). ⊎-elim (λ (g : Fit (a ∪ b) c). inl (three-fit a b c f g)) (λ e. inr e) (fit-or-none (a ∪ b) c))
+    (λ (e : a ∪ b ≡ noTally). inr (rw e (ap (λ (x : Tallied). x .tally) (sym (first-malformed noTally c none-malformed)))))
+    (fit-or-none a b)
+
+three-joined : (a b c : Tally) → Three a b c → (a ∪ b) ∪ c ≡ a ∪ (b ∪ c)
+three-joined a b c t = joined a b c (t .first) (t .second) (t .room)
+
+swapped : (a b : Tally) → a ∪ b ≡ b ∪ a
+swapped a b = ap (λ (x : Tallied). x .tally) (commutes a b)
+
+associates : (a b c : Tally) → (a ∪ b) ∪ c ≡ a ∪ (b ∪ c)
+associates a b c =
+    ⊎-elim
+    (three-joined a b c)
+    (λ (e : (a ∪ b) ∪ c ≡ noTally).
+    ⊎-elim
+    (λ (t : Three c b a). three-joined a b c (turned a b c t))
+    (λ (f : (c ∪ b) ∪ a ≡ noTally). e ∙ sym f ∙ swapped (c ∪ b) a ∙ ap (λ (x : Tally). a ∪ x) (swapped c b))
+    (three-or-none c b a))
+    (three-or-none a b c)
 
 -- ---- the empty tally
 module _ (t : Tally) (w : wellFormed t ≡ true) where
@@ -186,7 +288,7 @@ module _ (t : Tally) (w : wellFormed t ≡ true) where
   empty-second = commutes t (tallyOf (t .board) []) ∙ empty-first
 
 merging : Merging
-merging = record { accepts = accepts; commutes = commutes; associates = associates; empty-first = empty-first; empty-second = empty-second }
+merging = record { accepts = accepts; commutes = commutes; associates = associates; together = together; empty-first = empty-first; empty-second = empty-second }
 
 pub of-tallies : OfTallies
 of-tallies = record { described = described; refused-none = refused-none; merging = merging; matchpoints = matchpoints }

@@ -6,11 +6,12 @@ use mathlib.Core.Bool.{true}
 use lib.IntN.{ℤ}
 use lib.ListN.{length}
 use Rattle.laws.specs.Law78.{occurrences, matchpoints}
-use Rattle.laws.specs.Tally.{leaves, Tree, fresh, add, merge, boardOf, listOf, refusalOf, added, OneBoard, AllValid, SameScores}
+use Rattle.laws.specs.Tally.{leaves, Tree, fresh, add, merge, CallOf, boardOf, listOf, refusalOf, added, OneBoard, AllValid, SameScores}
 use Rattle.tally.specs.declared.Tally.{Tally}
 use Rattle.tally.specs.declared.Tallied.{Tallied}
 use Rattle.tally.specs.Tallies.{tallyOf, wellFormed, answerOf, freshOf, addOf, mergeOf}
-use Rattle.tally.specs.Points.{matchpointsOf}
+use Rattle.tally.specs.declared.points.MatchpointAnswer.{MatchpointAnswer}
+use Rattle.tally.specs.Points.{pointsAnswer, matchpointsOf}
 use Rattle.tally.specs.Shape.{countIn, Shape}
 
 -- ---- the calls of a tree
@@ -26,19 +27,18 @@ answer (fresh board from to) = freshOf board
 answer (add t s) = addOf (left t) s
 answer (merge t u) = mergeOf (left t) (left u)
 
--- some call of a tree is refused: the last, or one within
-pub data Refusing : Tree → Type 0 where
-  last : {t : Tree} → (answer t .refusal ≡ 0 → ⊥) → Refusing t
-  in-add : {t : Tree} {s : ℤ} → Refusing t → Refusing (add t s)
-  in-first : {t u : Tree} → Refusing t → Refusing (merge t u)
-  in-second : {t u : Tree} → Refusing u → Refusing (merge t u)
+-- some call of a tree is refused
+pub record Refusing (t : Tree) : Type 0 where
+  pub call : Tree
+  pub of : CallOf t call
+  pub refused : answer call .refusal ≡ 0 → ⊥
 
 -- ---- what is promised of every tree
 pub record OfTree (t : Tree) : Type 0 where
-  -- the last call is refused exactly when the rules say so, with their number
-  pub refusal : answer t .refusal ≡ refusalOf t
-  -- accepted, it gives the tally that is left; refused, none
-  pub answers : answer t ≡ answerOf (refusalOf t) (left t)
+  -- each of its calls is refused exactly when the rules say so, with their number
+  pub refusal : (call : Tree) → CallOf t call → answer call .refusal ≡ refusalOf call
+  -- accepted, a call gives the tally that is left after it; refused, none
+  pub answers : (call : Tree) → CallOf t call → answer call ≡ answerOf (refusalOf call) (left call)
   -- the tally left is of the first fresh tally's board, and well formed
   pub shape : Shape (left t) (boardOf t)
   pub well : wellFormed (left t) ≡ true
@@ -46,8 +46,8 @@ pub record OfTree (t : Tree) : Type 0 where
   pub counts : (s : ℤ) → countIn (left t) s ≡ occurrences s (listOf t)
   -- and is the tally of that board and that list, value for value
   pub canonical : left t ≡ tallyOf (boardOf t) (listOf t)
-  -- for every score: Law 78A's matchpoints over the whole list, or 20, or 21
-  pub points : (s : ℤ) → matchpointsOf (left t) s ≡ matchpoints (listOf t) s
+  -- asked for any score, it answers Law 78A's matchpoints over the whole list, or 20, or 21
+  pub points : (s : ℤ) (r : MatchpointAnswer) → pointsAnswer r ≡ matchpointsOf (left t) s → pointsAnswer r ≡ matchpoints (listOf t) s
 
 -- all fresh tallies of one board, valid scores, at most 128 of them
 pub record Plain (board : ℕ) (t : Tree) : Type 0 where

@@ -6,3 +6,4 @@ pub mod Demand1
 pub mod Demand2Judgement
 pub mod Demand3
 pub mod Tallies
+pub mod Demand2Imps

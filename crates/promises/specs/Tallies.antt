@@ -58,15 +58,22 @@ pub record Fit (a b : Tally) : Type 0 where
   pub one-board : a .board ≡ b .board
   pub room : resultsIn a + resultsIn b ≤ 128
 
+infixl 30 _∪_
+-- what a merge leaves: the tally of both, and where it is refused the all-zero one
+abbrev pub _∪_ : Tally → Tally → Tally
+a ∪ b = mergeOf a b .tally
+
 -- how merging goes, value for value
 pub record Merging : Type 0 where
   -- tallies that fit are merged
   pub accepts : (a b : Tally) → Fit a b → mergeOf a b .refusal ≡ 0
   -- the order of two does not matter, refused or not
   pub commutes : (a b : Tally) → mergeOf a b ≡ mergeOf b a
-  -- nor the bracketing of three of one board that fit together
-  pub associates : (a b c : Tally) → Fit a b → Fit b c → resultsIn a + resultsIn b + resultsIn c ≤ 128
-      → mergeOf (mergeOf a b .tally) c ≡ mergeOf a (mergeOf b c .tally)
+  -- nor the bracketing of any three, refused or not: a merge may be declared commutative and associative
+  pub associates : (a b c : Tally) → (a ∪ b) ∪ c ≡ a ∪ (b ∪ c)
+  -- of three of one board that fit together no merge is refused, in either bracketing
+  pub together : (a b c : Tally) → Fit a b → Fit b c → resultsIn a + resultsIn b + resultsIn c ≤ 128
+      → (mergeOf (a ∪ b) c .refusal ≡ 0) × (mergeOf a (b ∪ c) .refusal ≡ 0)
   -- the empty tally of the board changes nothing, on either side
   pub empty-first : (t : Tally) → wellFormed t ≡ true → mergeOf (tallyOf (t .board) []) t ≡ record { refusal = 0; tally = t }
   pub empty-second : (t : Tally) → wellFormed t ≡ true → mergeOf t (tallyOf (t .board) []) ≡ record { refusal = 0; tally = t }

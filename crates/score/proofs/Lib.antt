@@ -1,3 +1,4 @@
 pub mod Validity
 pub mod Scale
 pub mod Sums
+pub mod Told

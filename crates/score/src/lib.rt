@@ -2,10 +2,12 @@
 ghost use mathlib.Core.Path.{_≡_};
 ghost use mathlib.Core.Bool.{true};
 ghost use lib.IntN.{pos, _-ℤ_};
+ghost use lib.ListN.{getD};
 ghost use lib.Signed.{leZ};
+ghost use Prim.Native.Nat.{_<_};
 ghost use Rattle.laws.specs.Law77.{validScore};
-ghost use Rattle.laws.specs.Law78.{impsForSize, imps};
-ghost use Rattle.score.specs.Units.{impAnswer, impSum, matchpointSum};
+ghost use Rattle.laws.specs.Law78.{lowerEnds, impsForSize, imps};
+ghost use Rattle.score.specs.Units.{impAnswer, impSum, matchpointSum, impsAdded, matchpointsAdded};
 
 // A number of matchpoints. No sum takes one of each unit.
 pub struct Matchpoints(pub u32);
@@ -67,7 +69,15 @@ pub fn valid(score: i16) -> bool
     if 7600 < score {
         return false;
     }
-    score % 10 == 0
+    (score + 7600) as u16 % 10 == 0
+}
+
+// A lower end of the scale, counted from 0.
+fn lower_end(i: usize) -> u16
+    requires { ⌜ i < 24 ⌝ }
+    ensures { λ r. ⌜ r ≡ getD lowerEnds i 0 ⌝ }
+{
+    LOWER_ENDS[i]
 }
 
 // How many lower ends of the scale a difference reaches.
@@ -77,7 +87,7 @@ fn ends_reached(size: u16) -> u8
     let mut n: u8 = 0;
     let mut i: usize = 0;
     while i < 24 {
-        if LOWER_ENDS[i] <= size {
+        if lower_end(i) <= size {
             n += 1;
         }
         i += 1;
@@ -95,7 +105,7 @@ fn difference(high: i16, low: i16) -> u16
 
 // The IMPs of two scores, first less second; 20 where either is not valid.
 pub fn imps_of(first: i16, second: i16) -> ImpAnswer
-    ensures { λ r. ⌜ r ≡ impAnswer (imps first second) ⌝ }
+    ensures { λ r. ⌜ impAnswer r ≡ imps first second ⌝ }
 {
     if !valid(first) {
         return ImpAnswer::Refused(20);
@@ -113,7 +123,7 @@ pub fn imps_of(first: i16, second: i16) -> ImpAnswer
 
 // Two integers added, as a number of IMPs.
 fn total_imps(a: i32, b: i32) -> ImpSum
-    ensures { λ r. ⌜ r ≡ impSum a b ⌝ }
+    ensures { λ r. ⌜ impSum r ≡ impsAdded a b ⌝ }
 {
     let sum = a as i64 + b as i64;
     if sum < -2147483648 {
@@ -127,14 +137,14 @@ fn total_imps(a: i32, b: i32) -> ImpSum
 
 // The sum of two numbers of IMPs, exact, or that it does not fit.
 pub fn add_imps(a: Imps, b: Imps) -> ImpSum
-    ensures { λ r. ⌜ r ≡ impSum (a .0) (b .0) ⌝ }
+    ensures { λ r. ⌜ impSum r ≡ impsAdded (a .0) (b .0) ⌝ }
 {
     total_imps(a.0, b.0)
 }
 
 // The sum of two numbers of matchpoints, exact, or that it does not fit.
 pub fn add_matchpoints(a: Matchpoints, b: Matchpoints) -> MatchpointSum
-    ensures { λ r. ⌜ r ≡ matchpointSum (a .0) (b .0) ⌝ }
+    ensures { λ r. ⌜ matchpointSum r ≡ matchpointsAdded (a .0) (b .0) ⌝ }
 {
     let sum = a.0 as u64 + b.0 as u64;
     if 4294967295 < sum {

@@ -8,3 +8,4 @@ pub mod Rows
 pub mod Results
 pub mod FirstBytes
 pub mod Example
+pub mod Answering

@@ -44,5 +44,15 @@ length-1 n h = rw (one-digit n h) (omega arith)
 pub length-3 : (n : ℕ) → n < 1000 → length (decimal n) ≤ 3
 length-3 n h = longer n 100 2 (omega arith) h (λ g. longer (n / 10) 10 1 (omega arith) g (length-1 (n / 10 / 10)))
 
+-- 10, 100, 1000 ..
+abbrev pub tens : ℕ → ℕ
+tens zero = 10
+tens (suc k) = 10 * tens k
+
+-- a number below so many tens has so many digits and one more
+pub length-by : (k n : ℕ) → n < tens k → length (decimal n) ≤ suc k
+length-by zero n h = length-1 n h
+length-by (suc k) n h = longer n (tens k) (suc k) (omega arith) h (length-by k (n / 10))
+
 pub length-4 : (n : ℕ) → n < 10000 → length (decimal n) ≤ 4
 length-4 n h = longer n 1000 3 (omega arith) h (length-3 (n / 10))

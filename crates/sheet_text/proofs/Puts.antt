@@ -10,10 +10,11 @@ use borrow.Author.Tests.{le-leb, lt-leb, leb-true}
 use lib.Dec.{leb}
 use lib.ListN.{length, take, drop, getD, set, length-append, length-drop}
 use lib.Seq.{sets, length-sets, sets-eq, take-suc, take-length, length-take-le, take-at}
+use Rattle.laws.specs.Fitting.{Fitting, fits, doesNotFit}
 use Rattle.laws.proofs.Tests.{by-test}
 use Rattle.sheet_text.specs.declared.whole.Outcome.{Outcome}
 use Rattle.sheet_text.specs.declared.whole.Outcome.the-variants.{Written, TooShort}
-use Rattle.sheet_text.specs.Putting.{Put, outcomeFor, leftIn}
+use Rattle.sheet_text.specs.Putting.{Put, written, lengthWithin, leftIn}
 
 -- stores from a place on, and then from the place after them
 pub sets-append : (o : List ℕ) (at : ℕ) (s t : List ℕ) → sets o at (s ++ t) ≡ sets (sets o at s) (at + length s) t
@@ -63,7 +64,7 @@ put-front o l s n p h =
     let e : 0 + length s ≡ length s = omega arith in
     p .bytes ∙ sets-eq s o 0 (omega arith) ∙ rw e
 
--- ---- a sheet in a local array, and then in lent bytes
+-- ---- a text in a local array, and then in lent bytes
 module _ (text : List ℕ) (zeros local : List ℕ) (n : ℕ) (p : Put zeros 0 text local n) (room : length text ≤ length zeros) where
   pub local-length : n ≤ length local
   local-length = omega (arith, p .place, put-length p)
@@ -71,34 +72,32 @@ module _ (text : List ℕ) (zeros local : List ℕ) (n : ℕ) (p : Put zeros 0 t
   pub taken-length : n ≡ length (take n local)
   taken-length = sym (length-take-le n local local-length)
 
-  taken : take n local ≡ text
+  pub taken : take n local ≡ text
   taken =
       let e : n ≡ length text = omega (arith, p .place) in
       rw (put-front zeros local text n p room) (take-at text (drop (length text) zeros) n (sym e))
 
-  module _ (out : List ℕ) where
-    pub too-short : length out < n → (TooShort ≡ outcomeFor text (length out)) × (out ≡ leftIn out text)
-    unfolding outcomeFor leftIn
-    too-short h =
-        let e : length out < length text = omega (arith, p .place) in
-        rw (lt-leb (length text) (length out) e) (refl, refl)
+-- a text lent: too few bytes, or as many as it needs
+module _ (text out : List ℕ) where
+  pub too-short : length out < length text → (written TooShort ≡ lengthWithin text (length out)) × (out ≡ leftIn out text)
+  unfolding lengthWithin leftIn
+  too-short h = rw (lt-leb (length text) (length out) h) (refl, refl)
 
-    pub copied : (left : List ℕ) (m : ℕ) → n ≤ length out → Put out 0 (take n local) left m → (Written n ≡ outcomeFor text (length out)) × (left ≡ leftIn out text)
-    unfolding outcomeFor leftIn
-    copied left m h q =
-        let e : n ≡ length text = omega (arith, p .place) in
-        let k : length text ≤ length out = omega arith in
-        rw (le-leb (length text) (length out) k) (ap Written e, put-front out left text m (rw taken at q) k)
+  pub copied : (left : List ℕ) (m : ℕ) → length text ≤ length out → Put out 0 text left m
+      → (written (Written (length text)) ≡ lengthWithin text (length out)) × (left ≡ leftIn out text)
+  unfolding lengthWithin leftIn
+  copied left m h q = rw (le-leb (length text) (length out) h) (refl, put-front out left text m q h)
 
 -- ---- what a caller of `write` learns
-written-within : (text : List ℕ) (room n : ℕ) (r : Outcome) → r ≡ outcomeFor text room → r ≡ Written n → n ≤ room
-unfolding outcomeFor
+written-within : (text : List ℕ) (room n : ℕ) (r : Outcome) → written r ≡ lengthWithin text room → r ≡ Written n → n ≤ room
+unfolding lengthWithin
 written-within text room n r e q =
+    let told : fits n ≡ lengthWithin text room = sym (ap written q) ∙ e in
     by-test (leb (length text) room)
     (λ (t : leb (length text) room ≡ true).
-    let k : n ≡ length text = cc (rw t at e, q) in
+    let k : n ≡ length text = cc (rw t at told) in
     omega (arith, leb-true (length text) room t))
-    (λ (t : leb (length text) room ≡ false). absurd (let z : _≡_ {A = ℕ} 0 1 = cc (rw t at e, q) in omega arith))
+    (λ (t : leb (length text) room ≡ false). absurd (let z : _≡_ {A = ℕ} 0 1 = cc (rw t at told) in omega arith))
 
 left-length : (out text : List ℕ) → length (leftIn out text) ≡ length out
 unfolding leftIn
@@ -109,7 +108,7 @@ left-length out text =
     (λ (t : leb (length text) (length out) ≡ false). rw t)
 
 -- what was written is the start of the lent bytes
-module _ (out left text : List ℕ) (n : ℕ) (r : Outcome) (e : r ≡ outcomeFor text (length out)) (f : left ≡ leftIn out text) (q : r ≡ Written n) where
+module _ (out left text : List ℕ) (n : ℕ) (r : Outcome) (e : written r ≡ lengthWithin text (length out)) (f : left ≡ leftIn out text) (q : r ≡ Written n) where
   pub written-prefix : n ≤ length left
   written-prefix = rw (f, left-length out text) (written-within text (length out) n r e q)
 

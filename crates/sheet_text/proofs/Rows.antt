@@ -12,6 +12,7 @@ use mir.Syntax.{w16}
 use mir.Val.{SFits, toZ, ofZ}
 use mir.Facts.{toZ-ofZ}
 use Rattle.laws.specs.Decimal.{decimal, signedDecimal}
+use Rattle.laws.specs.Refusals.{refused, answered}
 use Rattle.laws.specs.Law77.{validScore}
 use Rattle.laws.specs.Law78.{sameScore, occurrences, nsMatchpoints, ewMatchpoints, matchpoints}
 use Rattle.laws.specs.Sheet.{fields, header, distinct, row, rows, table}
@@ -26,6 +27,7 @@ use Rattle.tally.specs.Points.{pointsAnswer, matchpointsOf}
 use Rattle.tally.specs.Tallies.{entriesIn, scoresIn, wellFormed, ceiling}
 use Rattle.tally.proofs.Ordered.{countOf}
 use Rattle.tally.proofs.Lists.{in-expand}
+use Rattle.tally.proofs.Told.{same-ns, same-ew}
 use Rattle.tally.proofs.Formed.{formed, entries-scores}
 use Rattle.tally.proofs.Places.{entriesAt, entries-used, entries-unused, entries-end}
 use Rattle.sheet_text.specs.Putting.{Put}
@@ -113,7 +115,7 @@ module _ (t : Tally) (out₀ : List ℕ) (at₀ : ℕ) (out : List ℕ) (at i : 
     counted = in-expand (sameScore at-i) (entriesIn t) ∙ entry-count _ _ _ _ here
 
     -- the matchpoints of the score at place i
-    pub answers : pointsAnswer (matchpointsOf t at-i) ≡ Points (record { 0 = nsMatchpoints (scoresIn t) at-i }) (record { 0 = ewMatchpoints (scoresIn t) at-i })
+    pub answers : matchpointsOf t at-i ≡ answered (record { ns = nsMatchpoints (scoresIn t) at-i; ew = ewMatchpoints (scoresIn t) at-i })
     unfolding matchpointsOf matchpoints
     answers = rw (w .well, is-valid, counted, ne-eqb of-i 0 u)
 
@@ -122,15 +124,17 @@ module _ (t : Tally) (out₀ : List ℕ) (at₀ : ℕ) (out : List ℕ) (at i : 
     as-held = toZ-ofZ (valid-fits at-i is-valid)
 
     -- what the call answers for it
-    module _ (r : MatchpointAnswer) (e : r ≡ pointsAnswer (matchpointsOf t (toZ w16 (ofZ w16 at-i)))) where
-      found : r ≡ Points (record { 0 = nsMatchpoints (scoresIn t) at-i }) (record { 0 = ewMatchpoints (scoresIn t) at-i })
-      found = e ∙ ap (λ (z : ℤ). pointsAnswer (matchpointsOf t z)) as-held ∙ answers
+    module _ (r : MatchpointAnswer) (e : pointsAnswer r ≡ matchpointsOf t (toZ w16 (ofZ w16 at-i))) where
+      found : pointsAnswer r ≡ answered (record { ns = nsMatchpoints (scoresIn t) at-i; ew = ewMatchpoints (scoresIn t) at-i })
+      found = e ∙ ap (matchpointsOf t) as-held ∙ answers
 
       pub not-refused : (n : ℕ) → r ≡ Refused n → ⊥
-      not-refused n q = let z : _≡_ {A = ℕ} 0 1 = cc (found, q) in omega arith
+      not-refused n q = let told : pointsAnswer r ≡ refused n = ap pointsAnswer q in let z : _≡_ {A = ℕ} 0 1 = cc (found, told) in omega arith
 
       pub both : (n m : Matchpoints) → r ≡ Points n m → (n .0 ≡ nsMatchpoints (scoresIn t) at-i) × (m .0 ≡ ewMatchpoints (scoresIn t) at-i)
-      both n m q = (cc (found, q), cc (found, q))
+      both n m q =
+          let told = sym (ap pointsAnswer q) ∙ found in
+          (same-ns _ _ told, same-ew _ _ told)
 
     -- its row
     its-row : rowsFrom t i ≡ fields (signedDecimal at-i) (decimal of-i) (decimal (nsMatchpoints (scoresIn t) at-i)) (decimal (ewMatchpoints (scoresIn t) at-i)) ++ rowsFrom t (suc i)

@@ -6,6 +6,7 @@ use lib.Dec.{leb}
 use lib.ListN.{length, drop}
 use lib.Seq.{sets}
 use Rattle.laws.specs.Choice.{if_then_else_}
+use Rattle.laws.specs.Fitting.{Fitting, fits, doesNotFit, whereFits}
 use Rattle.sheet_text.specs.declared.whole.Outcome.{Outcome}
 use Rattle.sheet_text.specs.declared.whole.Outcome.the-variants.{Written, TooShort}
 
@@ -14,9 +15,14 @@ pub record Put (out : List ℕ) (at : ℕ) (text : List ℕ) (left : List ℕ) (
   pub place : next ≡ at + length text
   pub bytes : left ≡ sets out at text
 
--- the answer for a text and so many bytes lent: its length, or that they are too few
-unfoldable pub outcomeFor : List ℕ → ℕ → Outcome
-outcomeFor text room = if leb (length text) room then Written (length text) else TooShort
+-- what an answer stands for: so many bytes written, or that the text does not fit
+abbrev pub written : Outcome → Fitting ℕ
+written (Written n) = fits n
+written TooShort = doesNotFit
+
+-- the length of a text, where it fits so many bytes
+unfoldable pub lengthWithin : List ℕ → ℕ → Fitting ℕ
+lengthWithin text room = whereFits (leb (length text) room) (length text)
 
 -- what the lent bytes are then: the text, with the other bytes as they were; or all as they were, where they are too few
 unfoldable pub leftIn : List ℕ → List ℕ → List ℕ

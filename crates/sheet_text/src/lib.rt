@@ -1,19 +1,20 @@
 // The sheet of a text of scores. Here: a line and the score on it are read, and the parts of the sheet are put into bytes at a place; each answers the
-// place after what it put. `whole` has the results of all lines, the table, and the sheet.
+// place after what it put. `whole` has the results of all lines, the table, and the sheet; `answers` the text of what the calls of a script answer.
+mod answers;
 mod whole;
 
+pub use answers::write_said;
+pub use answers::write_tally;
 use decimal::Number;
 use decimal::read_number;
 use score::valid;
 pub use whole::Outcome;
 pub use whole::write;
 ghost use mathlib.Core.Path.{_≡_};
-ghost use mathlib.Core.Bool.{true};
 ghost use mathlib.Core.List.{[], _∷_};
 ghost use Prim.Native.Nat.{_+_, _≤_, _<_};
 ghost use lib.ListN.{length, drop};
 ghost use Rattle.laws.specs.Decimal.{digit, decimal, signedDecimal};
-ghost use Rattle.laws.specs.Law77.{validScore};
 ghost use Rattle.laws.specs.Sheet.{fields};
 ghost use Rattle.sheet_text.specs.Reading.{lineLength, sizeOn, ifValid, positiveOf, negativeOf, saidOn};
 ghost use Rattle.sheet_text.specs.Putting.{Put};
@@ -131,14 +132,14 @@ fn put_byte(out: &mut [u8], at: usize, b: u8) -> usize
     at + 1
 }
 
-fn put_digit(out: &mut [u8], at: usize, n: u32) -> usize
+fn put_digit(out: &mut [u8], at: usize, n: u64) -> usize
     requires { ⌜ (at < length (now out)) × (n < 10) ⌝ }
     ensures { λ r. ⌜ Put (now (out .entry)) at (digit n ∷ []) (now (out .exit)) r ⌝ }
 {
     put_byte(out, at, 48 + n as u8)
 }
 
-fn put_decimal(out: &mut [u8], at: usize, n: u32) -> usize
+fn put_decimal(out: &mut [u8], at: usize, n: u64) -> usize
     requires { ⌜ at + length (decimal n) ≤ length (now out) ⌝ }
     ensures { λ r. ⌜ Put (now (out .entry)) at (decimal n) (now (out .exit)) r ⌝ }
 {
@@ -151,14 +152,14 @@ fn put_decimal(out: &mut [u8], at: usize, n: u32) -> usize
 
 // A score in decimal, with a minus where it is negative.
 fn put_score(out: &mut [u8], at: usize, score: i16) -> usize
-    requires { ⌜ (at + length (signedDecimal score) ≤ length (now out)) × (validScore score ≡ true) ⌝ }
+    requires { ⌜ at + length (signedDecimal score) ≤ length (now out) ⌝ }
     ensures { λ r. ⌜ Put (now (out .entry)) at (signedDecimal score) (now (out .exit)) r ⌝ }
 {
     if score < 0 {
         let next = put_byte(out, at, 45);
-        return put_decimal(out, next, (-score) as u32);
+        return put_decimal(out, next, (-(score as i64)) as u64);
     }
-    put_decimal(out, at, score as u32)
+    put_decimal(out, at, score as u64)
 }
 
 // A space and a number.
@@ -167,5 +168,5 @@ fn put_field(out: &mut [u8], at: usize, n: u32) -> usize
     ensures { λ r. ⌜ Put (now (out .entry)) at (32 ∷ decimal n) (now (out .exit)) r ⌝ }
 {
     let next = put_byte(out, at, 32);
-    put_decimal(out, next, n)
+    put_decimal(out, next, n as u64)
 }

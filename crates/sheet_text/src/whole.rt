@@ -14,10 +14,9 @@ ghost use mathlib.Core.Bool.{true};
 ghost use Prim.Native.Nat.{_+_, _≤_};
 ghost use lib.ListN.{length};
 ghost use Rattle.laws.specs.Decimal.{decimal, signedDecimal};
-ghost use Rattle.laws.specs.Law77.{validScore};
 ghost use Rattle.laws.specs.Sheet.{fields, table, refusal, sheet};
 ghost use Rattle.tally.specs.Tallies.{scoresIn, wellFormed};
-ghost use Rattle.sheet_text.specs.Putting.{Put, outcomeFor, leftIn};
+ghost use Rattle.sheet_text.specs.Putting.{Put, written, lengthWithin, leftIn};
 ghost use Rattle.sheet_text.specs.Whole.{Found};
 
 // How the writing of a sheet went: so many bytes written, or too few lent and none written.
@@ -30,6 +29,16 @@ pub enum Outcome {
 struct Results {
     refused: u32,
     tally: Tally,
+}
+
+// A line that finds 128 results before it.
+fn full_at(k: u32, t: Tally) -> Results
+    ensures { λ r. ⌜ r ≡ record { refused = k; tally = t } ⌝ }
+{
+    Results {
+        refused: k,
+        tally: t,
+    }
 }
 
 // The scores on the lines, up to the first line that is refused.
@@ -52,10 +61,7 @@ fn results_of(bytes: &[u8]) -> Results
         };
         let more = tally::add(t, score);
         if more.refusal != 0 {
-            return Results {
-                refused: k,
-                tally: t,
-            };
+            return full_at(k, t);
         }
         t = more.tally;
         at = end + 1;
@@ -67,7 +73,7 @@ fn results_of(bytes: &[u8]) -> Results
 }
 
 fn put_row(out: &mut [u8], at: usize, score: i16, count: u32, ns: u32, ew: u32) -> usize
-    requires { ⌜ (at + length (fields (signedDecimal score) (decimal count) (decimal ns) (decimal ew)) ≤ length (now out)) × (validScore score ≡ true) ⌝ }
+    requires { ⌜ at + length (fields (signedDecimal score) (decimal count) (decimal ns) (decimal ew)) ≤ length (now out) ⌝ }
     ensures { λ r. ⌜ Put (now (out .entry)) at (fields (signedDecimal score) (decimal count) (decimal ns) (decimal ew)) (now (out .exit)) r ⌝ }
 {
     let a = put_score(out, at, score);
@@ -100,7 +106,7 @@ fn put_table(out: &mut [u8], t: Tally) -> usize
     at
 }
 
-fn put_refusal(out: &mut [u8], k: u32) -> usize
+pub(crate) fn put_refusal(out: &mut [u8], k: u64) -> usize
     requires { ⌜ length (refusal k) ≤ length (now out) ⌝ }
     ensures { λ r. ⌜ Put (now (out .entry)) 0 (refusal k) (now (out .exit)) r ⌝ }
 {
@@ -117,22 +123,31 @@ fn put_sheet(out: &mut [u8], bytes: &[u8]) -> usize
     let results = results_of(bytes);
     let refused = results.refused;
     if refused != 0 {
-        return put_refusal(out, refused);
+        return put_refusal(out, refused as u64);
     }
     let t = results.tally;
     put_table(out, t)
 }
 
+// Copies a text to lent bytes where it fits them.
+pub(crate) fn lend(text: &[u8], out: &mut [u8]) -> Outcome
+    ensures answer { λ r. ⌜ written r ≡ lengthWithin (now (text .entry)) (length (now (out .entry))) ⌝ }
+    ensures bytes { λ r. ⌜ now (out .exit) ≡ leftIn (now (out .entry)) (now (text .entry)) ⌝ }
+{
+    let n = text.len();
+    if out.len() < n {
+        return Outcome::TooShort;
+    }
+    put_bytes(out, 0, text);
+    Outcome::Written(n)
+}
+
 // Writes the sheet of a text of scores to lent bytes. 2331 bytes are enough for every sheet.
 pub fn write(bytes: &[u8], out: &mut [u8]) -> Outcome
-    ensures answer { λ r. ⌜ r ≡ outcomeFor (sheet (now (bytes .entry))) (length (now (out .entry))) ⌝ }
+    ensures answer { λ r. ⌜ written r ≡ lengthWithin (sheet (now (bytes .entry))) (length (now (out .entry))) ⌝ }
     ensures bytes { λ r. ⌜ now (out .exit) ≡ leftIn (now (out .entry)) (sheet (now (bytes .entry))) ⌝ }
 {
     let mut text = [0u8; 2331];
     let n = put_sheet(&mut text, bytes);
-    if out.len() < n {
-        return Outcome::TooShort;
-    }
-    put_bytes(out, 0, &text[..n]);
-    Outcome::Written(n)
+    lend(&text[..n], out)
 }

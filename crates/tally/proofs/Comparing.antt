@@ -9,17 +9,17 @@ use borrow.Author.Tests.{ne-eqb}
 use lib.IntN.{ℤ, pos}
 use lib.ListN.{length, getD}
 use Rattle.laws.specs.Choice.{howMany}
+use Rattle.laws.specs.Refusals.{refused, answered}
 use Rattle.laws.specs.Law77.{validScore}
 use Rattle.laws.specs.Law78.{sameScore, occurrences, ewMatchpoints, matchpoints}
 use Rattle.laws.proofs.Tests.{by-test}
 use Rattle.laws.proofs.Comparisons.{lower, ns-counts, below-equal}
 use Rattle.tally.specs.declared.Entry.{Entry}
-use Rattle.tally.specs.declared.points.MatchpointAnswer.the-variants.{Refused, Points}
 use Rattle.tally.specs.declared.points.Standing.{Standing}
 use Rattle.tally.specs.declared.Tally.{Tally}
 use Rattle.tally.specs.Entries.{score, entry, expand}
 use Rattle.tally.specs.Tallies.{entriesIn, scoresIn, wellFormed}
-use Rattle.tally.specs.Points.{pointsAnswer, matchpointsOf, belowOf, equalOf, standingOf}
+use Rattle.tally.specs.Points.{matchpointsOf, belowOf, equalOf, standingOf}
 use Rattle.tally.proofs.Ordered.{inEntries, sumOf}
 use Rattle.tally.proofs.Lists.{in-expand, sum-expand}
 use Rattle.tally.proofs.Formed.{formed}
@@ -94,17 +94,17 @@ module _ (t : Tally) (s : ℤ) (below equal results i : ℕ) (w : Stood t s belo
 
 -- ---- the answer by the standing
 module _ (t : Tally) (s : ℤ) where
-  pub points-malformed : wellFormed t ≡ false → Refused 17 ≡ pointsAnswer (matchpointsOf t s)
+  pub points-malformed : wellFormed t ≡ false → refused 17 ≡ matchpointsOf t s
   unfolding matchpointsOf
   points-malformed e = rw e
 
   module _ (w : wellFormed t ≡ true) where
-    pub points-invalid : validScore s ≡ false → Refused 20 ≡ pointsAnswer (matchpointsOf t s)
+    pub points-invalid : validScore s ≡ false → refused 20 ≡ matchpointsOf t s
     unfolding matchpointsOf matchpoints
     points-invalid v = rw (w, v)
 
     module _ (v : validScore s ≡ true) (x : Standing) (ex : x ≡ standingOf t s) where
-      pub points-absent : x .equal ≡ 0 → Refused 21 ≡ pointsAnswer (matchpointsOf t s)
+      pub points-absent : x .equal ≡ 0 → refused 21 ≡ matchpointsOf t s
       unfolding matchpointsOf matchpoints
       points-absent z = let e : occurrences s (scoresIn t) ≡ 0 = rw ex at z in rw (w, v, e)
 
@@ -116,7 +116,7 @@ module _ (t : Tally) (s : ℤ) where
       ns-fits h = let b = below-equal s (scoresIn t) in let h′ = rw ex at h in rw ex (omega arith)
 
       pub points-found : (x .equal ≡ 0 → ⊥) → (below equal results : ℕ) → below ≡ x .below → equal ≡ x .equal → results ≡ x .results
-          → Points (record { 0 = 2 * below + equal - 1 }) (record { 0 = 2 * (results - 1) - (2 * below + equal - 1) }) ≡ pointsAnswer (matchpointsOf t s)
+          → answered (record { ns = 2 * below + equal - 1; ew = 2 * (results - 1) - (2 * below + equal - 1) }) ≡ matchpointsOf t s
       unfolding matchpointsOf matchpoints ewMatchpoints
       points-found h below equal results eb ee er =
           let h′ : occurrences s (scoresIn t) ≡ 0 → ⊥ = rw ex at h in

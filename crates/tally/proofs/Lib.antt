@@ -10,3 +10,5 @@ pub mod Comparing
 pub mod OfLists
 pub mod Shapes
 pub mod Tables
+pub mod Told
+pub mod Checking

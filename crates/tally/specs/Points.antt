@@ -17,10 +17,10 @@ use Rattle.tally.specs.Tallies.{scoresIn, wellFormed}
 unfoldable pub matchpointsOf : Tally → ℤ → Answer BothSides
 matchpointsOf t s = if wellFormed t then matchpoints (scoresIn t) s else refused malformedTally
 
--- an answer of Law 78A as the code gives it: the refusal's number, or the two numbers of matchpoints
-abbrev pub pointsAnswer : Answer BothSides → MatchpointAnswer
-pointsAnswer (refused n) = Refused n
-pointsAnswer (answered p) = Points (record { 0 = p .ns }) (record { 0 = p .ew })
+-- what an answer to a score stands for: a refusal by its number, or the matchpoints of both sides
+abbrev pub pointsAnswer : MatchpointAnswer → Answer BothSides
+pointsAnswer (Refused n) = refused n
+pointsAnswer (Points ns ew) = answered (record { ns = ns .0; ew = ew .0 })
 
 -- the results of an entry that are below a score
 unfoldable pub belowOf : ℤ → ℤ → ℕ → ℕ

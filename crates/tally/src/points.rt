@@ -84,7 +84,7 @@ fn wide(n: u8) -> u32
 
 // Law 78A's matchpoints of both sides for one result of a score; 17, 20 or 21.
 pub fn matchpoints(t: Tally, score: i16) -> MatchpointAnswer
-    ensures { λ r. ⌜ r ≡ pointsAnswer (matchpointsOf t score) ⌝ }
+    ensures { λ r. ⌜ pointsAnswer r ≡ matchpointsOf t score ⌝ }
 {
     if !well_formed(t) {
         return MatchpointAnswer::Refused(MALFORMED_TALLY);

@@ -20,7 +20,7 @@ fn read_some(run: Run) -> Turn {
             more: false,
         };
     }
-    let next = tree_run::feed(run, &buffer[..n]);
+    let next = tree_print::feed(run, &buffer[..n]);
     Turn {
         run: next,
         more: !next.over,
@@ -36,7 +36,7 @@ fn main() {
         let next = turn.run;
         run = next;
         if !turn.more {
-            tree_run::finish(run);
+            tree_print::finish(run);
             return;
         }
         turns -= 1;

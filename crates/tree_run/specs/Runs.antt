@@ -1,19 +1,23 @@
--- A run of a script, byte by byte. What it writes on the way no contract can say; what it leaves is this. Assumes nothing.
-use Prim.Native.Nat.{ℕ, _+_}
+-- A run of a script, byte by byte: what it leaves, and what each byte brings. Assumes nothing.
+use Prim.Native.Nat.{ℕ, _+_, _-_}
 use mathlib.Core.Bool.{Bool, true, false}
-use mathlib.Core.List.{List, [], _∷_}
 use lib.Dec.{ltb, eqb}
 use lib.ListN.{set, take, replicate}
 use Rattle.laws.specs.Choice.{if_then_else_}
 use Rattle.laws.specs.Sheet.{newline}
+use Rattle.tally.specs.declared.Tally.{Tally}
 use Rattle.tally.specs.Tallies.{noTally}
 use Rattle.tree_script.specs.declared.Call.{Call}
 use Rattle.tree_script.specs.declared.Call.the-variants.{Unreadable}
 use Rattle.tree_stack.specs.declared.Said.{Said}
 use Rattle.tree_stack.specs.declared.Said.the-variants.{Done, Refused, Points, Stopped}
 use Rattle.tree_run.specs.declared.Run.{Run}
+use Rattle.tree_run.specs.declared.Reply.{Reply}
+use Rattle.tree_run.specs.declared.Reply.the-variants.{Nothing, Answer}
+use Rattle.tree_run.specs.declared.Fed.{Fed}
 use Rattle.tree_script.specs.Calls.{callOn}
-use Rattle.tree_stack.specs.Stacks.{stepOf}
+use Rattle.tree_stack.specs.declared.Stack.{Stack}
+use Rattle.tree_stack.specs.Stacks.{tallyAt, lacks, stepOf}
 
 -- before the first byte: an empty stack and an empty line
 unfoldable pub startOf : Run
@@ -48,26 +52,33 @@ withByte r b =
 unfoldable pub callIn : Run → Call
 callIn r = if ltb 18 (r .length) then Unreadable else callOn (take (r .length) (r .line))
 
--- the line is whole: its call is made on the stack
-unfoldable pub lineDone : Run → Run
+-- nothing is answered
+abbrev pub silently : Run → Fed
+silently r = record { run = r; reply = Nothing }
+
+-- the line is whole: its call is made on the stack, and answers
+unfoldable pub lineDone : Run → Fed
 lineDone r =
     record {
-      stack = stepOf (r .stack) (callIn r) .stack;
-      line = r .line;
-      length = 0;
-      number = nextNumber (r .number);
-      over = isStopped (stepOf (r .stack) (callIn r) .said);
+      run =
+          record {
+            stack = stepOf (r .stack) (callIn r) .stack;
+            line = r .line;
+            length = 0;
+            number = nextNumber (r .number);
+            over = isStopped (stepOf (r .stack) (callIn r) .said);
+          };
+      reply = Answer (stepOf (r .stack) (callIn r) .said);
     }
 
 -- one byte more; a run that is over takes none
-unfoldable pub takenByte : Run → ℕ → Run
-takenByte r b = if r .over then r else if eqb b newline then lineDone r else withByte r b
-
--- more bytes
-unfoldable pub fedOf : Run → List ℕ → Run
-fedOf r [] = r
-fedOf r (b ∷ bytes) = fedOf (takenByte r b) bytes
+unfoldable pub takenByte : Run → ℕ → Fed
+takenByte r b = if r .over then silently r else if eqb b newline then lineDone r else silently (withByte r b)
 
 -- the end of the script: its last line may lack a newline
-unfoldable pub finishedOf : Run → Run
-finishedOf r = if r .over then r else if eqb (r .length) 0 then r else lineDone r
+unfoldable pub finishedOf : Run → Fed
+finishedOf r = if r .over then silently r else if eqb (r .length) 0 then silently r else lineDone r
+
+-- the top tally of a stack; an all-zero one where it has none
+unfoldable pub topOf : Stack → Tally
+topOf s = if lacks s 1 then noTally else tallyAt s (s .used - 1)

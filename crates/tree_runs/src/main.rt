@@ -5,8 +5,8 @@ use libc::STDOUT_FILENO;
 fn script(name: &[u8], bytes: &[u8]) {
     io::write_all(STDOUT_FILENO, name);
     io::write_all(STDOUT_FILENO, b":\n");
-    let run = tree_run::feed(tree_run::start(), bytes);
-    tree_run::finish(run);
+    let run = tree_print::feed(tree_run::start(), bytes);
+    tree_print::finish(run);
 }
 
 // A script in a file of that name.

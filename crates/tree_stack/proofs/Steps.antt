@@ -8,22 +8,22 @@ use lib.Dec.{ltb}
 use lib.IntN.{ℤ}
 use Rattle.laws.specs.Choice.{if_then_else_}
 use Rattle.tally.specs.Tallies.{addOf, mergeOf}
-use Rattle.tally.specs.Points.{pointsAnswer, matchpointsOf}
+use Rattle.tally.specs.Points.{matchpointsOf}
 use Rattle.tree_stack.specs.declared.Stack.{Stack}
 use Rattle.tree_stack.specs.Stacks.{tallyAt, stopped, landed, lacks, lowered, saidOf, addStep, mergeStep, matchpointsStep}
 
 -- too few tallies, too many, or enough
-few : (s : Stack) (n : ℕ) → s .used < n → lacks s n ≡ true
+pub few : (s : Stack) (n : ℕ) → s .used < n → lacks s n ≡ true
 few s n h = rw (lt-ltb (s .used) n h)
 
-many : (s : Stack) (n : ℕ) → 16 < s .used → lacks s n ≡ true
+pub many : (s : Stack) (n : ℕ) → 16 < s .used → lacks s n ≡ true
 many s n h = rw (lt-ltb 16 (s .used) h) (or-true (ltb (s .used) n))
   where
     or-true : (b : Bool) → (b || true) ≡ true
     or-true true = refl
     or-true false = refl
 
-enough : (s : Stack) (n : ℕ) → n ≤ s .used → s .used ≤ 16 → lacks s n ≡ false
+pub enough : (s : Stack) (n : ℕ) → n ≤ s .used → s .used ≤ 16 → lacks s n ≡ false
 enough s n h k = rw (le-ltb (s .used) n h, le-ltb 16 (s .used) k)
 
 module _ (s : Stack) (z : ℤ) where
@@ -48,7 +48,7 @@ module _ (s : Stack) (z : ℤ) where
   points-long h = rw (many s 1 h)
 
   pub points-said : 1 ≤ s .used → s .used ≤ 16
-      → record { stack = s; said = saidOf (pointsAnswer (matchpointsOf (tallyAt s (s .used - 1)) z)) } ≡ matchpointsStep s z
+      → record { stack = s; said = saidOf (matchpointsOf (tallyAt s (s .used - 1)) z) } ≡ matchpointsStep s z
   unfolding matchpointsStep
   points-said h k = rw (enough s 1 h k)
 

@@ -6,12 +6,12 @@ use lib.Dec.{ltb, eqb}
 use lib.IntN.{ℤ}
 use lib.ListN.{set, getD}
 use Rattle.laws.specs.Choice.{if_then_else_}
+use Rattle.laws.specs.Law78.{Points as BothSides}
+use Rattle.laws.specs.Refusals.{Answer, refused, answered}
 use Rattle.tally.specs.declared.Tally.{Tally}
 use Rattle.tally.specs.declared.Tallied.{Tallied}
-use Rattle.tally.specs.declared.points.MatchpointAnswer.{MatchpointAnswer}
-use Rattle.tally.specs.declared.points.MatchpointAnswer.the-variants as answer
 use Rattle.tally.specs.Tallies.{freshOf, addOf, mergeOf}
-use Rattle.tally.specs.Points.{pointsAnswer, matchpointsOf}
+use Rattle.tally.specs.Points.{matchpointsOf}
 use Rattle.tree_script.specs.declared.Call.{Call}
 use Rattle.tree_script.specs.declared.Call.the-variants.{Fresh, Add, Merge, Matchpoints, Unreadable}
 use Rattle.tree_stack.specs.declared.Stack.{Stack}
@@ -56,15 +56,15 @@ mergeStep s =
     else landed (lowered s) (s .used - 2) (s .used - 1) (mergeOf (tallyAt s (s .used - 2)) (tallyAt s (s .used - 1)))
 
 -- an answer for matchpoints, as it is said
-abbrev pub saidOf : MatchpointAnswer → Said
-saidOf (answer.Refused n) = Refused n
-saidOf (answer.Points ns ew) = Points (ns .0) (ew .0)
+abbrev pub saidOf : Answer BothSides → Said
+saidOf (refused n) = Refused n
+saidOf (answered p) = Points (p .ns) (p .ew)
 
 -- `matchpoints S`: asked of the top tally
 unfoldable pub matchpointsStep : Stack → ℤ → Step
 matchpointsStep s score =
     if lacks s 1 then stopped s
-    else record { stack = s; said = saidOf (pointsAnswer (matchpointsOf (tallyAt s (s .used - 1)) score)) }
+    else record { stack = s; said = saidOf (matchpointsOf (tallyAt s (s .used - 1)) score) }
 
 -- a call on a stack: its own step; a line that cannot be read ends the run
 unfoldable pub stepOf : Stack → Call → Step

@@ -5,6 +5,7 @@ use tally::Tally;
 use tree_script::Call;
 ghost use mathlib.Core.Path.{_≡_};
 ghost use Prim.Native.Nat.{_<_};
+ghost use Rattle.tally.specs.Points.{pointsAnswer};
 ghost use Rattle.tree_stack.specs.Stacks.{stopped, landed, saidOf, freshStep, addStep, mergeStep, matchpointsStep, stepOf};
 
 // The first `used` of 16 places hold tallies, the top last.
@@ -105,7 +106,7 @@ fn merge_step(s: Stack) -> Step
 
 // An answer for matchpoints.
 fn said_of(answer: MatchpointAnswer) -> Said
-    ensures { λ r. ⌜ r ≡ saidOf answer ⌝ }
+    ensures { λ r. ⌜ r ≡ saidOf (pointsAnswer answer) ⌝ }
 {
     match answer {
         MatchpointAnswer::Refused(n) => Said::Refused(n),

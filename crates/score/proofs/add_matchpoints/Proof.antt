@@ -1,37 +1,30 @@
+-- `score::add_matchpoints` meets its contract: the sum is exact in 64 bits, and is tested against the range of 32. Assumes nothing.
 use Prim.Native.Nat.{_+_, _^_}
 use native.Mathlib.Omega.{arith}
 use borrow.Author.Needs.{needs}
 use borrow.Author.Tests.{lt-ltb, le-ltb}
-use Rattle.score.specs.Units.{matchpointSum}
+use Rattle.score.specs.Units.{matchpointsAdded}
 use Rattle.score.proofs.add_matchpoints.Statement.{statement}
 use Rattle.score.proofs.add_matchpoints.Tie as tie
-use Rattle.score.proofs.add_matchpoints.Reads as reads
-use Rattle.score.proofs.add_matchpoints.Lts as lts
 
--- src/lib.rt:121:15
 cast-sum : tie.Need-cast-sum
 cast-sum c = search needs
 
--- src/lib.rt:121:28
 cast-sum-2 : tie.Need-cast-sum-2
 cast-sum-2 c = search needs
 
--- src/lib.rt:121:15
 add-sum : tie.Need-add-sum
 add-sum c = search needs
 
--- src/lib.rt:123:9
 returns : tie.Need-returns
-unfolding matchpointSum
+unfolding matchpointsAdded
 returns c = simp (le-ltb _ _ (c .if1 .taken))
 
--- src/lib.rt:125:48
 cast-t7 : tie.Need-cast-t7
 cast-t7 c = search needs
 
--- src/lib.rt:118:1
 returns-2 : tie.Need-returns-2
-unfolding matchpointSum
+unfolding matchpointsAdded
 returns-2 c =
     let st = c .before .before .before in
     simp (lt-ltb (st .args .a .0 + st .args .b .0) (2 ^ 32) (omega arith))

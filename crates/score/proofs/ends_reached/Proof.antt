@@ -5,8 +5,7 @@ use mathlib.Core.Path.{_≡_, sym}
 use mathlib.Core.Logic.{⊎-elim}
 use native.Mathlib.Omega.{arith}
 use borrow.Author.Tests.{le-leb, lt-leb}
-use lib.ListN.{getD}
-use Rattle.laws.specs.Law78.{lowerEnds, impsForSize}
+use Rattle.laws.specs.Law78.{impsForSize}
 use Rattle.score.proofs.Scale.{reachedFrom, from-first, from-end, from-next}
 use Rattle.score.proofs.ends_reached.Statement.{statement}
 use Rattle.score.proofs.ends_reached.Tie as tie
@@ -20,11 +19,8 @@ abbrev μ-loop : tie.MeasureT-loop
 loop-holds : tie.Need-loop-holds Inv-loop μ-loop
 loop-holds c = (omega arith, omega arith, omega (arith, from-first (c .args .size)))
 
-mul-if1 : tie.Need-mul-if1 Inv-loop μ-loop
-mul-if1 c = omega arith
-
-array-read-if1 : tie.Need-array-read-if1 Inv-loop μ-loop
-array-read-if1 c = omega arith
+lower-end-requires : tie.Need-lower-end-requires Inv-loop μ-loop
+lower-end-requires c κs = omega arith
 
 add-n : tie.Need-add-n Inv-loop μ-loop
 add-n c = omega arith
@@ -36,14 +32,14 @@ loop-less : tie.Need-loop-less Inv-loop μ-loop
 loop-less c = omega arith
 
 loop-again : tie.Need-loop-again Inv-loop μ-loop
-unfolding lowerEnds
 loop-again c =
-    let l = c .before .before .loop in
-    let size = c .before .before .before .args .size in
+    let l = c .before .before .before .loop in
+    let size = c .before .before .before .before .args .size in
     let next = from-next size (l .i) (omega arith) in
+    let end = c .before .lower-end .ensures in
     ⊎-elim
-    (λ w. (omega arith, omega arith, omega (arith, rw (le-leb (getD lowerEnds (l .i) 0) size (w .0 .taken)) at next)))
-    (λ w. (omega arith, omega arith, omega (arith, rw (lt-leb (getD lowerEnds (l .i) 0) size (w .0 .left)) at next)))
+    (λ w. (omega arith, omega arith, omega (arith, rw (← end, le-leb _ _ (w .0 .taken)) at next)))
+    (λ w. (omega arith, omega arith, omega (arith, rw (← end, lt-leb _ _ (w .0 .left)) at next)))
     (c .if1 .came)
 
 returns : tie.Need-returns Inv-loop μ-loop
@@ -58,8 +54,7 @@ ends-reached-spec =
     Inv-loop
     μ-loop
     loop-holds
-    mul-if1
-    array-read-if1
+    lower-end-requires
     add-n
     add-i
     loop-less

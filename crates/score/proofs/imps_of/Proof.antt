@@ -11,13 +11,11 @@ use mir.Syntax.{w16, w32}
 use mir.Val.{SFits, toZ, ofZ}
 use mir.Facts.{toZ-ofZ, toZ-pos}
 use Rattle.laws.specs.Law77.{validScore}
-use Rattle.laws.specs.Law78.{impsForSize, imps}
-use Rattle.laws.specs.Refusals.{Answer}
+use Rattle.laws.specs.Law78.{impsForSize}
+use Rattle.laws.specs.Refusals.{answered}
 use Rattle.laws.proofs.Integers.{size-neg, mag-le-size}
 use Rattle.laws.proofs.Scores.{below-at-most}
 use Rattle.laws.proofs.Scale.{at-most-24, not-first, not-second, gained, lost}
-use Rattle.score.specs.Units.{impAnswer}
-use Rattle.score.specs.declared.ImpAnswer.the-variants.{Scored}
 use Rattle.score.proofs.imps_of.Statement.{statement}
 use Rattle.score.proofs.imps_of.Tie as tie
 
@@ -49,9 +47,10 @@ record Valid (first second : ℤ) : Type 0 where
 
 passed : (c : tie.Else2) → Valid (c .before .before .before .before .args .first) (c .before .before .before .before .args .second)
 passed c =
+    let st = c .before .before .before .before in
     record {
-      one = told _ _ _ (c .before .before .before .before .fits .first) (c .before .before .before .valid .ensures) (not-false _ (c .before .before .if1 .left));
-      two = told _ _ _ (c .before .before .before .before .fits .second) (c .before .valid2 .ensures) (not-false _ (c .if2 .left));
+      one = told _ _ _ (st .fits .first) (c .before .before .before .valid .ensures) (not-false _ (c .before .before .if1 .left));
+      two = told _ _ _ (st .fits .second) (c .before .valid2 .ensures) (not-false _ (c .if2 .left));
     }
 
 valid-requires : tie.Need-valid-requires
@@ -60,7 +59,7 @@ valid-requires c κs = search needs
 returns : tie.Need-returns
 returns c =
     let st = c .before .before in
-    sym (ap impAnswer (not-first (st .args .first) (st .args .second) (told _ _ _ (st .fits .first) (c .before .valid .ensures) (not-true _ (c .if1 .taken)))))
+    sym (not-first _ _ (told _ _ _ (st .fits .first) (c .before .valid .ensures) (not-true _ (c .if1 .taken))))
 
 valid-requires-2 : tie.Need-valid-requires-2
 valid-requires-2 c κs = search needs
@@ -69,10 +68,9 @@ returns-2 : tie.Need-returns-2
 returns-2 c =
     let st = c .before .before .before .before in
     sym
-    (ap impAnswer
-    (not-second (st .args .first) (st .args .second)
+    (not-second _ _
     (told _ _ _ (st .fits .first) (c .before .before .before .valid .ensures) (not-false _ (c .before .before .if1 .left)))
-    (told _ _ _ (st .fits .second) (c .before .valid2 .ensures) (not-true _ (c .if2 .taken)))))
+    (told _ _ _ (st .fits .second) (c .before .valid2 .ensures) (not-true _ (c .if2 .taken))))
 
 difference-requires : tie.Need-difference-requires
 difference-requires c κs =
@@ -90,8 +88,8 @@ returns-3 : tie.Need-returns-3
 returns-3 c =
     let st = c .before .before .before .before .before .before .before in
     let ok = passed (c .before .before .before) in
-    ap (λ (z : ℤ). Scored (record { 0 = z })) (gained-imps (c .before .difference .result) (c .ends-reached .result) (c .ends-reached .ensures))
-    ∙ sym (ap impAnswer (gained (st .args .first) (st .args .second) (c .before .difference .result) (ok .one) (ok .two) (apart _ _ _ (st .fits .first) (st .fits .second) (c .before .difference .ensures))))
+    ap answered (gained-imps _ _ (c .ends-reached .ensures))
+    ∙ sym (gained _ _ _ (ok .one) (ok .two) (apart _ _ _ (st .fits .first) (st .fits .second) (c .before .difference .ensures)))
 
 difference-requires-2 : tie.Need-difference-requires-2
 difference-requires-2 c κs =
@@ -116,8 +114,8 @@ returns-4 c =
     let st = c .before .before .before .before .before .before .before in
     let ok = passed (c .before .before .before) in
     let size = c .before .difference2 .result in
-    rw (gained-imps size (c .ends-reached2 .result) (c .ends-reached2 .ensures), +ℤ-idl, toZ-ofZ (small-negative (impsForSize size) (at-most-24 size)))
-    (sym (ap impAnswer (lost (st .args .first) (st .args .second) size (ok .one) (ok .two) (apart _ _ _ (st .fits .second) (st .fits .first) (c .before .difference2 .ensures)))))
+    rw (gained-imps size _ (c .ends-reached2 .ensures), +ℤ-idl, toZ-ofZ (small-negative (impsForSize size) (at-most-24 size)))
+    (sym (lost _ _ size (ok .one) (ok .two) (apart _ _ _ (st .fits .second) (st .fits .first) (c .before .difference2 .ensures))))
 
 pub imps-of-spec : {M : Type 1} → statement M
 imps-of-spec =

@@ -4,7 +4,7 @@ use lib.IntN.{ℤ, _+ℤ_}
 use mir.Syntax.{w32, w64}
 use mir.Val.{SFits, toZ, ofZ}
 use mir.Facts.{toZ-ofZ, sfits-widen}
-use Rattle.score.specs.Units.{impSum}
+use Rattle.score.specs.Units.{impsAdded}
 use Rattle.score.proofs.Sums.{widened, sum-fits, too-low, too-high, within-fits, within-true}
 use Rattle.score.proofs.total_imps.Statement.{statement}
 use Rattle.score.proofs.total_imps.Tie as tie
@@ -26,11 +26,11 @@ add-sum c =
     rw (widened (c .args .a) (c .fits .a), widened (c .args .b) (c .fits .b)) (sum-fits (c .args .a) (c .args .b) (c .fits .a) (c .fits .b))
 
 returns : tie.Need-returns
-unfolding impSum
+unfolding impsAdded
 returns c = rw (too-low (c .before .args .a +ℤ c .before .args .b) (rw (sum (c .before)) at (c .if1 .taken)))
 
 returns-2 : tie.Need-returns-2
-unfolding impSum
+unfolding impsAdded
 returns-2 c =
     let st = c .before .before in
     rw (too-high (st .args .a +ℤ st .args .b) (rw (sum st) at (c .if2 .taken)))
@@ -41,7 +41,7 @@ cast-t7 c =
     rw (sum st) (within-fits (st .args .a +ℤ st .args .b) (rw (sum st) at (c .before .if1 .left)) (rw (sum st) at (c .if2 .left)))
 
 returns-3 : tie.Need-returns-3
-unfolding impSum
+unfolding impsAdded
 returns-3 c =
     let st = c .before .before in
     let z = st .args .a +ℤ st .args .b in

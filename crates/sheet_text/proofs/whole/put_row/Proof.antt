@@ -12,20 +12,20 @@ use Rattle.sheet_text.proofs.whole.put_row.Tie as tie
 put-score-requires : tie.Need-put-score-requires
 put-score-requires c κs =
     let a = c .before .before .args in
-    rw (toZ-ofZ (c .before .before .fits .score)) (omega (arith, fields-length (signedDecimal (a .score)) (decimal (a .count)) (decimal (a .ns)) (decimal (a .ew))), c .before .before .pre .1)
+    rw (toZ-ofZ (c .before .before .fits .score)) (omega (arith, fields-length (signedDecimal (a .score)) (decimal (a .count)) (decimal (a .ns)) (decimal (a .ew)), c .before .before .pre))
 
 put-field-requires : tie.Need-put-field-requires
 put-field-requires c κs =
     let a = c .before .before .before .before .before .before .args in
     let p = rw (toZ-ofZ (c .before .before .before .before .before .before .fits .score)) at (c .before .before .before .put-score .ensures) in
-    omega (arith, fields-length (signedDecimal (a .score)) (decimal (a .count)) (decimal (a .ns)) (decimal (a .ew)), p .place, put-length p, c .before .before .before .before .before .before .pre .0)
+    omega (arith, fields-length (signedDecimal (a .score)) (decimal (a .count)) (decimal (a .ns)) (decimal (a .ew)), p .place, put-length p, c .before .before .before .before .before .before .pre)
 
 put-field-requires-2 : tie.Need-put-field-requires-2
 put-field-requires-2 c κs =
     let a = c .before .before .before .before .before .before .before .before .before .before .args in
     let p = rw (toZ-ofZ (c .before .before .before .before .before .before .before .before .before .before .fits .score)) at (c .before .before .before .before .before .before .before .put-score .ensures) in
     let q = c .before .before .before .put-field .ensures in
-    omega (arith, fields-length (signedDecimal (a .score)) (decimal (a .count)) (decimal (a .ns)) (decimal (a .ew)), p .place, put-length p, q .place, put-length q, c .before .before .before .before .before .before .before .before .before .before .pre .0)
+    omega (arith, fields-length (signedDecimal (a .score)) (decimal (a .count)) (decimal (a .ns)) (decimal (a .ew)), p .place, put-length p, q .place, put-length q, c .before .before .before .before .before .before .before .before .before .before .pre)
 
 put-field-requires-3 : tie.Need-put-field-requires-3
 put-field-requires-3 c κs =
@@ -33,7 +33,7 @@ put-field-requires-3 c κs =
     let p = rw (toZ-ofZ (c .before .before .before .before .before .before .before .before .before .before .before .before .before .before .fits .score)) at (c .before .before .before .before .before .before .before .before .before .before .before .put-score .ensures) in
     let q = c .before .before .before .before .before .before .before .put-field .ensures in
     let r = c .before .before .before .put-field2 .ensures in
-    omega (arith, fields-length (signedDecimal (a .score)) (decimal (a .count)) (decimal (a .ns)) (decimal (a .ew)), p .place, put-length p, q .place, put-length q, r .place, put-length r, c .before .before .before .before .before .before .before .before .before .before .before .before .before .before .pre .0)
+    omega (arith, fields-length (signedDecimal (a .score)) (decimal (a .count)) (decimal (a .ns)) (decimal (a .ew)), p .place, put-length p, q .place, put-length q, r .place, put-length r, c .before .before .before .before .before .before .before .before .before .before .before .before .before .before .pre)
 
 put-byte-requires : tie.Need-put-byte-requires
 put-byte-requires c κs =
@@ -42,7 +42,7 @@ put-byte-requires c κs =
     let q = c .before .before .before .before .before .before .before .before .before .before .before .put-field .ensures in
     let r = c .before .before .before .before .before .before .before .put-field2 .ensures in
     let s = c .before .before .before .put-field3 .ensures in
-    omega (arith, fields-length (signedDecimal (a .score)) (decimal (a .count)) (decimal (a .ns)) (decimal (a .ew)), p .place, put-length p, q .place, put-length q, r .place, put-length r, s .place, put-length s, c .before .before .before .before .before .before .before .before .before .before .before .before .before .before .before .before .before .before .pre .0)
+    omega (arith, fields-length (signedDecimal (a .score)) (decimal (a .count)) (decimal (a .ns)) (decimal (a .ew)), p .place, put-length p, q .place, put-length q, r .place, put-length r, s .place, put-length s, c .before .before .before .before .before .before .before .before .before .before .before .before .before .before .before .before .before .before .pre)
 
 same-length : tie.Need-same-length
 same-length c = search needs

@@ -11,6 +11,9 @@ use Rattle.sheet_text.proofs.whole.put_sheet.Tie as tie
 results-of-requires : tie.Need-results-of-requires
 results-of-requires c κs = search needs
 
+cast-put-refusal : tie.Need-cast-put-refusal
+cast-put-refusal c = search needs
+
 put-refusal-requires : tie.Need-put-refusal-requires
 put-refusal-requires c κs = omega (arith, refusal-short _ (refused-few _ _ (c .before .before .results-of .ensures)))
 
@@ -37,6 +40,7 @@ put-sheet-spec =
     tie.close
     (tie.spec
     results-of-requires
+    cast-put-refusal
     put-refusal-requires
     same-length
     returns

@@ -6,7 +6,7 @@ use borrow.Author.Needs.{needs}
 use lib.ListN.{length, length-append}
 use Rattle.laws.specs.Sheet.{header, table}
 use Rattle.sheet_text.proofs.Puts.{then, put-length}
-use Rattle.sheet_text.proofs.Rows.{Printed, rowsFrom, header-room, table-rows, begins, ends, full, as-held, is-valid, not-refused, both, row-room, goes}
+use Rattle.sheet_text.proofs.Rows.{Printed, rowsFrom, header-room, table-rows, begins, ends, full, as-held, not-refused, both, row-room, goes}
 use Rattle.sheet_text.proofs.whole.put_table.Statement.{statement}
 use Rattle.sheet_text.proofs.whole.put_table.Tie as tie
 
@@ -75,7 +75,7 @@ put-row-requires c κs =
     let u = c .before .before .before .before .before .before .if1 .left in
     let p = both _ _ _ _ _ _ (l .inv) h u _ (c .before .before .before .before .matchpoints .ensures) _ _ (c .before .before .points .given .1) in
     rw (as-held _ _ _ _ _ _ (l .inv) h u)
-    (row-room _ _ _ _ _ _ (l .inv) h u _ _ (p .0) (p .1), is-valid _ _ _ _ _ _ (l .inv) h u)
+    (row-room _ _ _ _ _ _ (l .inv) h u _ _ (p .0) (p .1))
 
 add-i : tie.Need-add-i Inv-loop μ-loop
 add-i c = omega arith

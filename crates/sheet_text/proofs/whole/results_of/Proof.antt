@@ -49,8 +49,16 @@ returns c = bad _ _ _ _ (c .before .before .before .before .before .before .loop
 add-requires : tie.Need-add-requires Inv-loop μ-loop
 add-requires c κs = search needs
 
+full-at-requires : tie.Need-full-at-requires Inv-loop μ-loop
+full-at-requires c κs = search needs
+
 returns-2 : tie.Need-returns-2 Inv-loop μ-loop
-returns-2 c = over _ _ _ _ (c .before .before .before .before .before .before .before .before .before .before .loop .inv) (c .before .before .before .before .before .before .before .before .before .loop-test .taken) _ (c .before .before .before .before .before .before .before .before .line-end .ensures) _ _ (c .before .before .before .before .before .before .said-on .ensures) (c .before .before .before .before .score .given .1) _ (c .before .before .add .ensures) (λ z. c .if1 .taken (rw z))
+returns-2 c =
+    let d = c .before .before .before .before .before in
+    let l = d .before .before .before .before in
+    rw (c .full-at .ensures)
+    (over _ _ _ _ (l .before .before .loop .inv) (l .before .loop-test .taken) _ (l .line-end .ensures) _ _ (d .before .before .said-on .ensures) (d .score .given .1) _ (c .before .before .before .add .ensures)
+    (λ z. c .before .if1 .taken (rw z)))
 
 add-at : tie.Need-add-at Inv-loop μ-loop
 add-at c = omega (arith, end-within _ _ _ _ (c .before .before .before .before .before .before .before .before .before .before .before .loop .inv) (c .before .before .before .before .before .before .before .before .before .before .loop-test .taken) _ (c .before .before .before .before .before .before .before .before .before .line-end .ensures))
@@ -82,6 +90,7 @@ results-of-spec =
     enum-told
     returns
     add-requires
+    full-at-requires
     returns-2
     add-at
     loop-less

@@ -1,8 +1,7 @@
 -- `sheet_text::whole::write` meets its contract. Assumes nothing.
-use native.Mathlib.Omega.{arith}
-use borrow.Author.Needs.{needs}
-use Rattle.sheet_text.proofs.Puts.{local-length, taken-length, too-short, copied}
+use Rattle.sheet_text.proofs.Puts.{local-length, taken-length, taken}
 use Rattle.sheet_text.proofs.Enough.{enough}
+use borrow.Author.Needs.{needs}
 use Rattle.sheet_text.proofs.whole.write.Statement.{statement}
 use Rattle.sheet_text.proofs.whole.write.Tie as tie
 
@@ -12,23 +11,20 @@ slice-aggregate-put-sheet c = search needs
 put-sheet-requires : tie.Need-put-sheet-requires
 put-sheet-requires c κs = search needs
 
-returns : tie.Need-returns
-returns c = too-short _ _ _ _ (c .before .before .put-sheet .ensures) (enough _) _ (c .if1 .taken)
-
 array-share-prefix-text : tie.Need-array-share-prefix-text
-array-share-prefix-text c = local-length _ _ _ _ (c .before .before .before .put-sheet .ensures) (enough _)
+array-share-prefix-text c = local-length _ _ _ _ (c .before .put-sheet .ensures) (enough _)
 
-slice-aggregate-put-bytes : tie.Need-slice-aggregate-put-bytes
-slice-aggregate-put-bytes c = taken-length _ _ _ _ (c .before .before .before .before .put-sheet .ensures) (enough _)
+slice-aggregate-lend : tie.Need-slice-aggregate-lend
+slice-aggregate-lend c = taken-length _ _ _ _ (c .before .before .put-sheet .ensures) (enough _)
 
-put-bytes-requires : tie.Need-put-bytes-requires
-put-bytes-requires c κs = omega (arith, taken-length _ _ _ _ (c .before .before .before .before .put-sheet .ensures) (enough (c .before .before .before .before .before .before .before .before .args .bytes .now)), c .before .before .if1 .left)
+lend-requires : tie.Need-lend-requires
+lend-requires c κs = search needs
 
 same-length : tie.Need-same-length
 same-length c = search needs
 
-returns-2 : tie.Need-returns-2
-returns-2 c = copied _ _ _ _ (c .before .before .before .before .before .before .before .put-sheet .ensures) (enough _) _ _ _ (c .before .before .before .before .before .if1 .left) (c .before .before .put-bytes .ensures)
+returns : tie.Need-returns
+returns c = rw (← taken _ _ _ _ (c .before .before .before .before .before .before .put-sheet .ensures) (enough _)) (c .before .before .lend .ensures)
 
 pub write-spec : {M : Type 1} → statement M
 write-spec =
@@ -36,9 +32,8 @@ write-spec =
     (tie.spec
     slice-aggregate-put-sheet
     put-sheet-requires
-    returns
     array-share-prefix-text
-    slice-aggregate-put-bytes
-    put-bytes-requires
+    slice-aggregate-lend
+    lend-requires
     same-length
-    returns-2)
+    returns)

@@ -1,0 +1,109 @@
+-- The text of what calls answer: how long it is, and the loop that prints a tally's entries. Assumes nothing.
+use Prim.Native.Nat.{ℕ, zero, suc, _+_, _-_, _*_, _^_, _≤_, _<_}
+use native.Mathlib.Numerals.{add-one}
+use native.Mathlib.Omega.{arith}
+use mathlib.Core.Path.{_≡_, refl, sym, ap, _∙_}
+use mathlib.Core.List.{List, [], _∷_, _++_, append-assoc, append-nil}
+use borrow.Author.Tests.{eq-eqb, ne-eqb}
+use lib.IntN.{ℤ, pos, negsuc, natAbs}
+use lib.ListN.{length, getD, drop, length-append, drop-of-length-le}
+use lib.Seq.{drop-cons}
+use mir.Syntax.{w16}
+use mir.Val.{SFits}
+use Rattle.laws.specs.Decimal.{decimal, signedDecimal}
+use Rattle.laws.specs.Sheet.{refusal}
+use Rattle.tally.specs.declared.Tally.{Tally}
+use Rattle.sheet_text.specs.Answers.{refusedText, pointsText, entryText, placesText}
+use Rattle.sheet_text.specs.Putting.{Put}
+use Rattle.sheet_text.proofs.Enough.{refusal-length}
+use Rattle.sheet_text.proofs.Printed.{length-3, length-by}
+use Rattle.sheet_text.proofs.Puts.{then, put-none}
+
+-- ---- lengths
+pub refused-length : (n : ℕ) → length (refusedText n) ≡ length (decimal n) + 9
+refused-length n = simp length-append (omega arith)
+
+pub points-length : (ns ew : ℕ) → length (pointsText ns ew) ≡ length (decimal ns) + length (decimal ew) + 2
+points-length ns ew = simp length-append (omega arith)
+
+pub entry-length : (s : ℤ) (c : ℕ) → length (entryText s c) ≡ length (signedDecimal s) + length (decimal c) + 2
+entry-length s c = simp length-append (omega arith)
+
+pub refused-short : (n : ℕ) → n < 256 → length (refusedText n) ≤ 34
+refused-short n h = omega (arith, refused-length n, length-3 n (omega arith))
+
+pub points-short : (ns ew : ℕ) → ns < 2 ^ 32 → ew < 2 ^ 32 → length (pointsText ns ew) ≤ 34
+points-short ns ew h k = omega (arith, points-length ns ew, length-by 9 ns (omega arith), length-by 9 ew (omega arith))
+
+pub line-short : (k : ℕ) → k < 2 ^ 64 → length (refusal k) ≤ 34
+line-short k h = omega (arith, refusal-length k, length-by 19 k (omega arith))
+
+size-short : (s : ℤ) → SFits w16 s → length (signedDecimal s) ≤ 6
+unfolding signedDecimal
+size-short (pos n) f = omega (arith, length-by 4 n (omega (arith, f .sfits)))
+size-short (negsuc n) f = omega (arith, length-by 4 (suc n) (omega (arith, f .sfits)))
+
+pub entry-short : (s : ℤ) (c : ℕ) → SFits w16 s → c < 256 → length (entryText s c) ≤ 11
+entry-short s c f h = omega (arith, entry-length s c, size-short s f, length-3 c (omega arith))
+
+-- ---- a tally's places
+-- the lines of the places from i on
+abbrev pub linesFrom : Tally → ℕ → List ℕ
+linesFrom t i = placesText (drop i (t .scores)) (drop i (t .counts))
+
+-- the lines of the places before i are put, of at most 11 bytes each
+pub record Shown (t : Tally) (out₀ : List ℕ) (out : List ℕ) (at i : ℕ) : Type 0 where
+  pub places : i ≤ 128
+  pub scores : length (t .scores) ≡ 128
+  pub counts : length (t .counts) ≡ 128
+  pub done : List ℕ
+  pub put : Put out₀ 0 done out at
+  pub short : length done ≤ 11 * i
+  pub whole : linesFrom t 0 ≡ done ++ linesFrom t i
+
+pub begins : (t : Tally) (out : List ℕ) → length (t .scores) ≡ 128 → length (t .counts) ≡ 128 → Shown t out out 0 0
+begins t out ss cs =
+    record { places = omega arith; scores = ss; counts = cs; done = []; put = put-none out 0; short = omega arith; whole = refl }
+
+module _ (t : Tally) (out₀ out : List ℕ) (at i : ℕ) (w : Shown t out₀ out at i) where
+  ended : linesFrom t i ≡ [] → Put out₀ 0 (linesFrom t 0) out at × (length (linesFrom t 0) ≤ 1408)
+  ended e =
+      let d : linesFrom t 0 ≡ w .done = w .whole ∙ rw e (append-nil (w .done)) in
+      rw d (w .put, omega (arith, w .short, w .places))
+
+  pub ends : i < 128 → getD (t .counts) i 0 ≡ 0 → Put out₀ 0 (linesFrom t 0) out at × (length (linesFrom t 0) ≤ 1408)
+  unfolding placesText
+  ends h z =
+      let hs : i < length (t .scores) = omega (arith, w .scores) in
+      let hc : i < length (t .counts) = omega (arith, w .counts) in
+      ended (rw (drop-cons (t .scores) i (pos 0) hs, drop-cons (t .counts) i 0 hc, eq-eqb (getD (t .counts) i 0) 0 z))
+
+  pub full : 128 ≤ i → Put out₀ 0 (linesFrom t 0) out at × (length (linesFrom t 0) ≤ 1408)
+  unfolding placesText
+  full h = let hs : length (t .scores) ≤ i = omega (arith, w .scores) in ended (rw (drop-of-length-le (t .scores) hs))
+
+  pub at-most : at ≤ 11 * i
+  at-most = omega (arith, w .short, w .put .place)
+
+  module _ (h : i < 128) (u : getD (t .counts) i 0 ≡ 0 → ⊥) where
+    abbrev line : List ℕ
+    line = entryText (getD (t .scores) i (pos 0)) (getD (t .counts) i 0)
+
+    its-line : linesFrom t i ≡ line ++ linesFrom t (i + 1)
+    unfolding placesText
+    its-line =
+        let hs : i < length (t .scores) = omega (arith, w .scores) in
+        let hc : i < length (t .counts) = omega (arith, w .counts) in
+        rw (add-one i, drop-cons (t .scores) i (pos 0) hs, drop-cons (t .counts) i 0 hc, ne-eqb (getD (t .counts) i 0) 0 u)
+
+    pub goes : (out′ : List ℕ) (at′ : ℕ) → length line ≤ 11 → Put out at line out′ at′ → Shown t out₀ out′ at′ (i + 1)
+    goes out′ at′ k p =
+        record {
+          places = omega arith;
+          scores = w .scores;
+          counts = w .counts;
+          done = w .done ++ line;
+          put = then (w .put) p;
+          short = omega (arith, length-append (w .done) line, w .short);
+          whole = w .whole ∙ rw its-line (sym (append-assoc (w .done) line (linesFrom t (i + 1))));
+        }

@@ -1,0 +1,106 @@
+-- `sheet_text::answers::put_said` meets its contract. Assumes nothing.
+use native.Mathlib.Omega.{arith}
+use Prim.Native.Nat.{_<_, _^_}
+use mathlib.Core.Path.{_≡_}
+use Rattle.sheet_text.specs.Answers.{saidText}
+use Rattle.sheet_text.proofs.Answering.{refused-short, points-short, line-short}
+use borrow.Author.Needs.{needs}
+use Rattle.sheet_text.proofs.answers.put_said.Statement.{statement}
+use Rattle.sheet_text.proofs.answers.put_said.Tie as tie
+
+enum-told : tie.Need-enum-told
+enum-told c = search needs
+
+slice-aggregate-put-bytes : tie.Need-slice-aggregate-put-bytes
+slice-aggregate-put-bytes c = search needs
+
+put-bytes-requires : tie.Need-put-bytes-requires
+put-bytes-requires c κs = omega arith
+
+enum-known-said : tie.Need-enum-known-said
+enum-known-said c = search needs
+
+put-refused-requires : tie.Need-put-refused-requires
+put-refused-requires c κs =
+    let n = c .before .before .said .given .0 .0 in
+    let k : n < 256 = search needs in
+    omega (arith, refused-short n k, c .before .before .before .before .before .pre)
+
+enum-known-said-2 : tie.Need-enum-known-said-2
+enum-known-said-2 c = search needs
+
+put-points-requires : tie.Need-put-points-requires
+put-points-requires c κs =
+    let ns = c .before .before .said2 .given .0 .0 in
+    let ew = c .before .before .said2 .given .0 .1 .0 in
+    let k : ns < 2 ^ 32 = search needs in
+    let m : ew < 2 ^ 32 = search needs in
+    omega (arith, points-short ns ew k m, c .before .before .before .before .before .pre)
+
+enum-told-2 : tie.Need-enum-told-2
+enum-told-2 c = search needs
+
+put-refusal-requires : tie.Need-put-refusal-requires
+put-refusal-requires c κs =
+    let st = c .before .before .before .before in
+    omega (arith, line-short (st .args .line) (omega (arith, st .fits .line .fits)), st .pre)
+
+same-length : tie.Need-same-length
+same-length c = search needs
+
+returns : tie.Need-returns
+unfolding saidText
+returns c = rw (c .before .before .before .before .before .enum-told .given .1) (c .before .before .put-bytes .ensures, omega arith)
+
+same-length-2 : tie.Need-same-length-2
+same-length-2 c = search needs
+
+returns-2 : tie.Need-returns-2
+unfolding saidText
+returns-2 c =
+    let n = c .before .before .before .before .before .said .given .0 .0 in
+    let k : n < 256 = search needs in
+    rw (c .before .before .before .before .before .said .given .1) (c .before .before .put-refused .ensures, refused-short n k)
+
+same-length-3 : tie.Need-same-length-3
+same-length-3 c = search needs
+
+returns-3 : tie.Need-returns-3
+unfolding saidText
+returns-3 c =
+    let ns = c .before .before .before .before .before .said2 .given .0 .0 in
+    let ew = c .before .before .before .before .before .said2 .given .0 .1 .0 in
+    let k : ns < 2 ^ 32 = search needs in
+    let m : ew < 2 ^ 32 = search needs in
+    rw (c .before .before .before .before .before .said2 .given .1) (c .before .before .put-points .ensures, points-short ns ew k m)
+
+same-length-4 : tie.Need-same-length-4
+same-length-4 c = search needs
+
+returns-4 : tie.Need-returns-4
+unfolding saidText
+returns-4 c =
+    let st = c .before .before .before .before .before .before .before in
+    rw (c .before .before .before .before .enum-told2 .given .1) (c .before .before .put-refusal .ensures, line-short (st .args .line) (omega (arith, st .fits .line .fits)))
+
+pub put-said-spec : {M : Type 1} → statement M
+put-said-spec =
+    tie.close
+    (tie.spec
+    enum-told
+    slice-aggregate-put-bytes
+    put-bytes-requires
+    enum-known-said
+    put-refused-requires
+    enum-known-said-2
+    put-points-requires
+    enum-told-2
+    put-refusal-requires
+    same-length
+    returns
+    same-length-2
+    returns-2
+    same-length-3
+    returns-3
+    same-length-4
+    returns-4)

@@ -1,0 +1,40 @@
+-- What the calls of a script answer, as text: a line for each call, and a line for each entry of a tally. Bytes are ASCII codes.
+-- Assumes nothing.
+use Prim.Native.Nat.{ℕ}
+use mathlib.Core.List.{List, [], _∷_, _++_}
+use lib.Dec.{eqb}
+use lib.IntN.{ℤ}
+use Rattle.laws.specs.Choice.{if_then_else_}
+use Rattle.laws.specs.Decimal.{decimal, signedDecimal}
+use Rattle.laws.specs.Sheet.{newline, refusal}
+use Rattle.tree_stack.specs.declared.Said.{Said}
+use Rattle.tree_stack.specs.declared.Said.the-variants.{Done, Refused, Points, Stopped}
+
+-- `ok`
+abbrev pub okText : List ℕ
+okText = 111 ∷ 107 ∷ newline ∷ []
+
+-- `refused N`
+abbrev pub refusedText : ℕ → List ℕ
+refusedText n = ((114 ∷ 101 ∷ 102 ∷ 117 ∷ 115 ∷ 101 ∷ 100 ∷ 32 ∷ []) ++ decimal n) ++ (newline ∷ [])
+
+-- `NS EW`
+abbrev pub pointsText : ℕ → ℕ → List ℕ
+pointsText ns ew = (decimal ns ++ (32 ∷ decimal ew)) ++ (newline ∷ [])
+
+-- what a call answers; where the run ends there, that its line is refused
+unfoldable pub saidText : Said → ℕ → List ℕ
+saidText Done line = okText
+saidText (Refused n) line = refusedText n
+saidText (Points ns ew) line = pointsText ns ew
+saidText Stopped line = refusal line
+
+-- `SCORE COUNT`
+abbrev pub entryText : ℤ → ℕ → List ℕ
+entryText score count = (signedDecimal score ++ (32 ∷ decimal count)) ++ (newline ∷ [])
+
+-- a tally's places up to the first without a result, a line each
+unfoldable pub placesText : List ℤ → List ℕ → List ℕ
+placesText [] counts = []
+placesText (s ∷ scores) [] = []
+placesText (s ∷ scores) (c ∷ counts) = if eqb c 0 then [] else entryText s c ++ placesText scores counts

@@ -1,0 +1,93 @@
+// What the calls of a script of tally calls answer, as text, and the lines of a tally.
+use super::put_byte;
+use super::put_bytes;
+use super::put_decimal;
+use super::put_field;
+use super::put_score;
+use super::whole::Outcome;
+use super::whole::lend;
+use super::whole::put_refusal;
+use tally::Tally;
+use tree_stack::Said;
+ghost use mathlib.Core.Path.{_≡_};
+ghost use Prim.Native.Nat.{_+_, _≤_};
+ghost use lib.ListN.{length};
+ghost use Rattle.sheet_text.specs.Answers.{refusedText, pointsText, saidText, entryText, placesText};
+ghost use Rattle.sheet_text.specs.Putting.{Put, written, lengthWithin, leftIn};
+
+fn put_refused(out: &mut [u8], n: u8) -> usize
+    requires { ⌜ length (refusedText n) ≤ length (now out) ⌝ }
+    ensures { λ r. ⌜ Put (now (out .entry)) 0 (refusedText n) (now (out .exit)) r ⌝ }
+{
+    let number = put_bytes(out, 0, b"refused ");
+    let end = put_decimal(out, number, n as u64);
+    put_byte(out, end, 10)
+}
+
+fn put_points(out: &mut [u8], ns: u32, ew: u32) -> usize
+    requires { ⌜ length (pointsText ns ew) ≤ length (now out) ⌝ }
+    ensures { λ r. ⌜ Put (now (out .entry)) 0 (pointsText ns ew) (now (out .exit)) r ⌝ }
+{
+    let next = put_decimal(out, 0, ns as u64);
+    let end = put_field(out, next, ew);
+    put_byte(out, end, 10)
+}
+
+fn put_said(out: &mut [u8], said: Said, line: u64) -> usize
+    requires { ⌜ 34 ≤ length (now out) ⌝ }
+    ensures { λ r. ⌜ Put (now (out .entry)) 0 (saidText said line) (now (out .exit)) r × (length (saidText said line) ≤ 34) ⌝ }
+{
+    match said {
+        Said::Done => put_bytes(out, 0, b"ok\n"),
+        Said::Refused(n) => put_refused(out, n),
+        Said::Points(ns, ew) => put_points(out, ns, ew),
+        Said::Stopped => put_refusal(out, line),
+    }
+}
+
+// Writes what a call on a line answers to lent bytes. 34 bytes are enough.
+pub fn write_said(said: Said, line: u64, out: &mut [u8]) -> Outcome
+    ensures answer { λ r. ⌜ written r ≡ lengthWithin (saidText said line) (length (now (out .entry))) ⌝ }
+    ensures bytes { λ r. ⌜ now (out .exit) ≡ leftIn (now (out .entry)) (saidText said line) ⌝ }
+{
+    let mut text = [0u8; 34];
+    let n = put_said(&mut text, said, line);
+    lend(&text[..n], out)
+}
+
+fn put_entry(out: &mut [u8], at: usize, score: i16, count: u8) -> usize
+    requires { ⌜ at + length (entryText score count) ≤ length (now out) ⌝ }
+    ensures { λ r. ⌜ Put (now (out .entry)) at (entryText score count) (now (out .exit)) r ⌝ }
+{
+    let next = put_score(out, at, score);
+    let end = put_field(out, next, count as u32);
+    put_byte(out, end, 10)
+}
+
+fn put_entries(out: &mut [u8], t: Tally) -> usize
+    requires { ⌜ 1408 ≤ length (now out) ⌝ }
+    ensures { λ r. ⌜ Put (now (out .entry)) 0 (placesText (t .scores) (t .counts)) (now (out .exit)) r × (length (placesText (t .scores) (t .counts)) ≤ 1408) ⌝ }
+{
+    let mut at: usize = 0;
+    let mut i: usize = 0;
+    while i < 128 {
+        let count = t.counts[i];
+        if count == 0 {
+            return at;
+        }
+        let score = t.scores[i];
+        at = put_entry(out, at, score, count);
+        i += 1;
+    }
+    at
+}
+
+// Writes the entries of a tally to lent bytes, a line each. 1408 bytes are enough.
+pub fn write_tally(t: Tally, out: &mut [u8]) -> Outcome
+    ensures answer { λ r. ⌜ written r ≡ lengthWithin (placesText (t .scores) (t .counts)) (length (now (out .entry))) ⌝ }
+    ensures bytes { λ r. ⌜ now (out .exit) ≡ leftIn (now (out .entry)) (placesText (t .scores) (t .counts)) ⌝ }
+{
+    let mut text = [0u8; 1408];
+    let n = put_entries(&mut text, t);
+    lend(&text[..n], out)
+}
