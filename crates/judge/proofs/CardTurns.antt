@@ -18,8 +18,8 @@ use Rattle.play.specs.declared.Play.{Play}
 use Rattle.play.specs.Position.{startOf, step, verdictOf, verdictNumber}
 use Rattle.play.specs.History.{positionOf, AllPlayed}
 use Rattle.play.proofs.Verdicts.{verdict-law}
-use Rattle.judge.specs.declared.cards.Carded.{Carded}
-use Rattle.judge.specs.Sections.{faultOf, noCards, cardedOf}
+use Rattle.judge.specs.declared.cards.Cards.{Cards}
+use Rattle.judge.specs.Sections.{noCards, cardsOf}
 use Rattle.judge.proofs.Turns.{Clean, Reached, begins, ends, short, stops, goes}
 
 placed : (g : List ℕ) → cardsPlayed g ≡ length g
@@ -54,14 +54,14 @@ module _ (bytes deal : List ℕ) (trump opening at n : ℕ) where
   unfolding positionOf
   card-begins e = begins 6 cardsPlayed (cardRefusal trump opening deal) placed bytes at n (positionOf deal trump opening) e
 
-  pub card-ends : {p : Play} {here i : ℕ} → CardsAt p here i → n ≤ i → record { ok = true; fault = 0; next = here; after = p } ≡ cardedOf deal trump opening cards
+  pub card-ends : {p : Play} {here i : ℕ} → CardsAt p here i → n ≤ i → record { refusal = 0; next = here; after = p } ≡ cardsOf deal trump opening cards
   card-ends {p} {here} r t =
-      ap (λ (x : Play). record { ok = true; fault = 0; next = here; after = x }) (r .position)
-      ∙ sym (ap (cardedOf deal trump opening) (ends 6 cardsPlayed (cardRefusal trump opening deal) placed bytes at n (positionOf deal trump opening) r t))
+      ap (λ (x : Play). record { refusal = 0; next = here; after = x }) (r .position)
+      ∙ sym (ap (cardsOf deal trump opening) (ends 6 cardsPlayed (cardRefusal trump opening deal) placed bytes at n (positionOf deal trump opening) r t))
 
   module _ {p : Play} {here i : ℕ} (r : CardsAt p here i) (t : i < n) where
-    pub card-short : read 6 bytes here ≡ refused 2 0 → noCards 2048 ≡ cardedOf deal trump opening cards
-    card-short q = sym (ap (cardedOf deal trump opening) (short 6 cardsPlayed (cardRefusal trump opening deal) placed bytes at n (positionOf deal trump opening) r t q))
+    pub card-short : read 6 bytes here ≡ refused 2 0 → noCards 2 0 ≡ cardsOf deal trump opening cards
+    card-short q = sym (ap (cardsOf deal trump opening) (short 6 cardsPlayed (cardRefusal trump opening deal) placed bytes at n (positionOf deal trump opening) r t q))
 
     module _ (all : length deal ≡ 52) {c f : ℕ} (q : read 6 bytes here ≡ found c (here + 6)) (e : f ≡ verdictNumber (verdictOf p c)) where
       law : f ≡ cardRefusal trump opening deal (r .history) c
@@ -69,8 +69,8 @@ module _ (bytes deal : List ℕ) (trump opening at n : ℕ) where
           e ∙ ap (λ (x : Play). verdictNumber (verdictOf x c)) (r .position)
           ∙ verdict-law deal trump opening all (r .history) (all-played deal trump opening (r .history) (r .clean)) c
 
-      pub card-stops : (f ≡ 0 → ⊥) → noCards (faultOf f i) ≡ cardedOf deal trump opening cards
-      card-stops z = sym (ap (cardedOf deal trump opening) (stops 6 cardsPlayed (cardRefusal trump opening deal) placed bytes at n (positionOf deal trump opening) r t q law z))
+      pub card-stops : (f ≡ 0 → ⊥) → noCards f i ≡ cardsOf deal trump opening cards
+      card-stops z = sym (ap (cardsOf deal trump opening) (stops 6 cardsPlayed (cardRefusal trump opening deal) placed bytes at n (positionOf deal trump opening) r t q law z))
 
       pub card-goes : f ≡ 0 → {b : Play} → b ≡ step p c → CardsAt b (here + 6) (i + 1)
       unfolding positionOf

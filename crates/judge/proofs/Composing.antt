@@ -11,7 +11,7 @@ use lib.ListN.{length}
 use Rattle.laws.specs.Choice.{if_then_else_}
 use Rattle.laws.specs.Reading.{Reading, Reading.refused, Reading.found, onward, numberAt, read, refuse, readEach}
 use Rattle.laws.specs.Law44.{cardsPlayed}
-use Rattle.laws.specs.Refusals.{auctionUnfinished, playCount}
+use Rattle.laws.specs.Refusals.{auctionUnfinished, tooManyCards}
 use Rattle.laws.specs.CallRefusal.{callRefusal}
 use Rattle.laws.specs.CardRefusal.{cardRefusal}
 use Rattle.laws.specs.Law2.{dealer}
@@ -19,6 +19,8 @@ use Rattle.laws.specs.Auction as Law
 use Rattle.laws.specs.Judge as Judge
 use Rattle.laws.proofs.Tests.{by-test, not-both}
 use Rattle.laws.proofs.Bits.{number-lt}
+use Rattle.laws.proofs.CardRefusals.{refusal-le}
+use Rattle.laws.proofs.Numbered.{Fair, not-0, fair-read, fair-test, fair-each}
 use Rattle.laws.proofs.Readings.{refused-found, first-of, first-read, first-test}
 use Rattle.laws.specs.Cards.{clockwise}
 use Rattle.laws.specs.Law44.{tricksComplete}
@@ -31,10 +33,10 @@ use Rattle.auction.proofs.Laws.{contract-is}
 use Rattle.play.specs.History.{AllPlayed, positionOf}
 use Rattle.play.proofs.Stands.{Stands, stands}
 use Rattle.play.proofs.Thirteen.{at-most-52}
-use Rattle.judge.specs.declared.cards.Carded.{Carded}
+use Rattle.judge.specs.declared.cards.Cards.{Cards}
 use Rattle.judge.specs.declared.whole.Judged.{Judged}
-use Rattle.judge.specs.Sections.{cardsBy, cardedOf}
-use Rattle.judge.specs.Whole.{Good, CardsTold, CallsTold, afterCards, afterCalls, afterDeal, noJudgement, judgedOf}
+use Rattle.judge.specs.Sections.{cardsBy, cardsOf}
+use Rattle.judge.specs.Whole.{ThirteenEach, OfCards, OfCalls, afterCards, afterCalls, afterDeal, noJudgement, judgedOf}
 use Rattle.judge.proofs.Turns.{Clean}
 use Rattle.judge.proofs.CardTurns.{all-played}
 
@@ -68,39 +70,47 @@ calls-next d bytes at q =
     omega (arith, f .1, z .1, number-lt bytes at 9)
 
 -- ---- the cards that were read: none was refused, and they end soon enough
-pub record Cards (trump opening : ℕ) (deal g : List ℕ) (at e : ℕ) : Type 0 where
+pub record Allowed (trump opening : ℕ) (deal g : List ℕ) (at e : ℕ) : Type 0 where
   pub played : AllPlayed deal trump opening g
   pub next : e ≤ at + 384
 
 pub cards-found : (out : Bool) (trump opening : ℕ) (deal bytes : List ℕ) (at : ℕ) {g : List ℕ} {e : ℕ} → cardsBy out trump opening deal bytes at ≡ found g e
-    → Cards trump opening deal g at e
+    → Allowed trump opening deal g at e
 unfolding cardsBy Clean
 cards-found out trump opening deal bytes at {g} {e} q =
     let r = first-read 6 bytes at _ q in
     let count = numberAt bytes at 6 in
-    let t = first-test playCount count (ltb 52 count || (out && ltb 0 count)) bytes (at + 6) _ (r .1) in
+    let t = first-test tooManyCards count (ltb 52 count || (out && ltb 0 count)) bytes (at + 6) _ (r .1) in
     let f = each-found 6 cardsPlayed (cardRefusal trump opening deal) bytes count [] (at + 6) (t .1) tt in
     record { played = all-played deal trump opening g (f .0); next = omega (arith, f .1, number-lt bytes at 6) }
+
+-- a refusal of the cards is not 0
+fair-by : (out : Bool) (trump opening : ℕ) (deal bytes : List ℕ) (at : ℕ) → Fair (cardsBy out trump opening deal bytes at)
+unfolding cardsBy cardsPlayed
+fair-by out trump opening deal bytes at =
+    fair-read 6 bytes at _ (λ n ln.
+    fair-test tooManyCards n (ltb 52 n || (out && ltb 0 n)) bytes (at + 6) _ (λ t. omega arith)
+    (fair-each 6 cardsPlayed (cardRefusal trump opening deal) (λ g. refl) (λ g c. omega (arith, refusal-le trump opening deal g c)) n [] bytes (at + 6) (omega arith)))
 
 -- ---- the cards in the code: bounds on the position, whatever the calls were
 module _ (out : Bool) (trump opening : ℕ) (deal bytes : List ℕ) (at : ℕ) (all : length deal ≡ 52) where
   abbrev cards : Reading (List ℕ)
   cards = cardsBy out trump opening deal bytes at
 
-  record Bounded (k : Carded) : Type 0 where
+  record Bounded (k : Cards) : Type 0 where
     played : k .after .played ≤ 52
     next : k .next ≤ at + 384
 
-  bounded : (r : Reading (List ℕ)) → cards ≡ r → cardedOf deal trump opening r .ok ≡ true → Bounded (cardedOf deal trump opening r)
-  bounded (refused n place) q e = not-both false e refl
+  bounded : (r : Reading (List ℕ)) → cards ≡ r → cardsOf deal trump opening r .refusal ≡ 0 → Bounded (cardsOf deal trump opening r)
+  bounded (refused n place) q e = absurd (not-0 (subst Fair q (fair-by out trump opening deal bytes at)) e)
   bounded (found g next) q e =
       let f = cards-found out trump opening deal bytes at q in
       record { played = rw (stands deal trump opening all g (f .played) .played) (at-most-52 deal trump opening all g (f .played)); next = f .next }
 
-  pub card-bounds : (k : Carded) → k ≡ cardedOf deal trump opening cards → k .ok ≡ true → at < 16384
+  pub card-bounds : (k : Cards) → k ≡ cardsOf deal trump opening cards → k .refusal ≡ 0 → at < 16384
       → (k .after .played ≤ 52) × (k .next < 32768)
   card-bounds k ek e h =
-      let b = subst (λ (x : Carded). Bounded x) (sym ek) (bounded cards refl (rw ek at e)) in
+      let b = subst (λ (x : Cards). Bounded x) (sym ek) (bounded cards refl (rw ek at e)) in
       (b .played, omega (arith, b .next))
 
 -- ---- from the calls on
@@ -108,7 +118,7 @@ pub section-cards : (d : ℕ) (deal h bytes : List ℕ) (at : ℕ) → cardsBy (
 unfolding cardsBy Judge.readCards
 section-cards d deal h bytes at = refl
 
-module _ (board table : ℕ) (a : Auction) (deal h : List ℕ) (told : CallsTold board a deal h) (bytes : List ℕ) (at : ℕ)
+module _ (board table : ℕ) (a : Auction) (deal h : List ℕ) (told : OfCalls board a deal h) (bytes : List ℕ) (at : ℕ)
     (out : Bool) (eo : out ≡ passedOutOf a) (k : Contract) (ek : k ≡ contractOf a) (opening : ℕ) (ep : opening ≡ clockwise (k .declarer) 1) where
   passed : out ≡ Law.passedOut h
   passed = eo ∙ ap passedOutOf (told .position) ∙ passed-out-is (dealer board) h
@@ -134,33 +144,33 @@ module _ (board table : ℕ) (a : Auction) (deal h : List ℕ) (told : CallsTold
   unfolding afterCalls
   whole = rw cards-law
 
-  module _ (c : Carded) (ec : c ≡ cardedOf deal (k .strain) opening (cardsBy out (k .strain) opening deal bytes at)) where
-    stopped : (r : Reading (List ℕ)) → cardedOf deal (k .strain) opening r .ok ≡ false → noJudgement (cardedOf deal (k .strain) opening r .fault) ≡ judgedOf (rest r)
+  module _ (c : Cards) (ec : c ≡ cardsOf deal (k .strain) opening (cardsBy out (k .strain) opening deal bytes at)) where
+    stopped : (r : Reading (List ℕ)) → (cardsOf deal (k .strain) opening r .refusal ≡ 0 → ⊥) → noJudgement (cardsOf deal (k .strain) opening r .refusal) ≡ judgedOf (rest r)
     stopped (refused n place) e = refl
-    stopped (found g next) e = not-both true refl e
+    stopped (found g next) e = absurd (e refl)
 
-    pub cards-refused : c .ok ≡ false → noJudgement (c .fault) ≡ judgedOf (afterCalls board table deal h bytes at)
+    pub cards-refused : (c .refusal ≡ 0 → ⊥) → noJudgement (c .refusal) ≡ judgedOf (afterCalls board table deal h bytes at)
     cards-refused e = rw (whole, ec) (stopped (cardsBy out (k .strain) opening deal bytes at) (rw ec at e))
 
     module _ (r : Judged) where
       -- the answer, given any histories that these positions are of
-      abbrev Tells : Carded → Type 0
-      Tells x = (dealt calls cards : List ℕ) → CardsTold board out k dealt calls cards (x .after) → r ≡ judgedOf (afterCards board table dealt calls cards bytes (x .next))
+      abbrev Tells : Cards → Type 0
+      Tells x = (dealt calls cards : List ℕ) → OfCards board out k dealt calls cards (x .after) → r ≡ judgedOf (afterCards board table dealt calls cards bytes (x .next))
 
-      goes-on : (q : Reading (List ℕ)) → cardsBy out (k .strain) opening deal bytes at ≡ q → cardedOf deal (k .strain) opening q .ok ≡ true
-          → Tells (cardedOf deal (k .strain) opening q)
+      goes-on : (q : Reading (List ℕ)) → cardsBy out (k .strain) opening deal bytes at ≡ q → cardsOf deal (k .strain) opening q .refusal ≡ 0
+          → Tells (cardsOf deal (k .strain) opening q)
           → r ≡ judgedOf (rest q)
-      goes-on (refused n place) e o f = not-both false o refl
+      goes-on (refused n place) e o f = absurd (not-0 (subst Fair e (fair-by out (k .strain) opening deal bytes at)) o)
       goes-on (found g next) e o f =
           f deal h g (record {
             passed = passed;
             contract = contracted;
-            good = told .good;
+            deal-of = told .deal-of;
             position = ap₂ (λ (t l : ℕ). positionOf deal t l g) trumped led;
             played = rw (sym trumped, sym led) (cards-found out (k .strain) opening deal bytes at e .played);
           })
 
-      pub cards-read : c .ok ≡ true
+      pub cards-read : c .refusal ≡ 0
           → Tells c
           → r ≡ judgedOf (afterCalls board table deal h bytes at)
-      cards-read e f = rw whole (goes-on (cardsBy out (k .strain) opening deal bytes at) refl (rw ec at e) (subst (λ (x : Carded). Tells x) ec f))
+      cards-read e f = rw whole (goes-on (cardsBy out (k .strain) opening deal bytes at) refl (rw ec at e) (subst (λ (x : Cards). Tells x) ec f))

@@ -17,8 +17,8 @@ use Rattle.laws.proofs.Tests.{by-test}
 use Rattle.laws.proofs.Readings.{read-is, read-short}
 use Rattle.deal.specs.Hands.{wordsOf, notThirteenFrom}
 use Rattle.deal.proofs.Thirteen.{by-hands}
-use Rattle.judge.specs.declared.reading.Dealt.{Dealt}
-use Rattle.judge.specs.Sections.{rowAt, foursOf, noDeal, dealtOf}
+use Rattle.judge.specs.declared.reading.Deal.{Deal}
+use Rattle.judge.specs.Sections.{rowAt, foursOf, noDeal, dealOf}
 
 -- ---- a holder: two bits of its byte
 two-bits : (b m : ℕ) → m < 4 → b / 2 ^ (7 - 2 * m) % 2 * 2 + b / 2 ^ (6 - 2 * m) % 2 ≡ b / 2 ^ (6 - 2 * m) % 4
@@ -90,7 +90,7 @@ module _ (bytes : List ℕ) where
       (λ (q : ltb (length bytes) 2 ≡ true). none-there (ltb-true (length bytes) 2 q))
       (λ (q : ltb (length bytes) 2 ≡ false). row-short bytes 2 52 16 (omega (arith, ltb-false (length bytes) 2 q)) (omega arith))
 
-  pub deal-short : length bytes < 15 → noDeal 2048 ≡ dealtOf (readDeal bytes 16)
+  pub deal-short : length bytes < 15 → noDeal 2 0 ≡ dealOf (readDeal bytes 16)
   unfolding readDeal
   deal-short h = rw (row-missing h)
 
@@ -98,10 +98,10 @@ module _ (bytes : List ℕ) where
     es : seat ≡ seatWithoutThirteen row
     es = eq ∙ ap (notThirteenFrom 0) eh ∙ by-hands row
 
-    pub deal-uneven : (seat ≡ 4 → ⊥) → noDeal (4096 + seat) ≡ dealtOf (readDeal bytes 16)
+    pub deal-uneven : (seat ≡ 4 → ⊥) → noDeal 4 seat ≡ dealOf (readDeal bytes 16)
     unfolding readDeal refuse
     deal-uneven n = rw (row-reads bytes 2 52 16 (omega arith), ← er, ← es, ne-eqb seat 4 n)
 
-    pub deal-read : seat ≡ 4 → record { ok = true; fault = 0; holders = row; hands = hands } ≡ dealtOf (readDeal bytes 16)
+    pub deal-read : seat ≡ 4 → record { refusal = 0; holders = row; hands = hands } ≡ dealOf (readDeal bytes 16)
     unfolding readDeal refuse
     deal-read e = rw (row-reads bytes 2 52 16 (omega arith), ← er, ← es, eq-eqb seat 4 e, ← eh)

@@ -21,6 +21,7 @@ use Rattle.laws.specs.Law68.{Claim, none, agreed, claimedTricks, atClaimPoint, 
 use Rattle.laws.specs.Law77.{declarerScore, nsScore}
 use Rattle.laws.specs.Record.{Parts, Field, field, number}
 use Rattle.laws.specs.Judgement.{callsOf, cardsOf, contractOf, winnersOf, revokesOf, claimedOf, wonOf, transferredOf, afterOf, stakeOf, scoreOf, playedFields, answerFields, twosComplement, revokeByte, revokeBytes}
+use Rattle.laws.proofs.Numbered.{Fair, not-0, fair-claim}
 use Rattle.laws.proofs.Tests.{by-test, not-both}
 use Rattle.auction.specs.declared.Contract.{Contract}
 use Rattle.auction.specs.Asked.{asLaw}
@@ -29,14 +30,15 @@ use Rattle.play.specs.declared.Tricks.{Tricks}
 use Rattle.play.specs.declared.Revokes.{Revokes}
 use Rattle.play.specs.Told.{tricksIn, revokesIn}
 use Rattle.play.specs.History.{positionOf, AllPlayed, tricksOf, revokesOf as Play·revokesOf}
+use Rattle.play.proofs.Thirteen.{at-most-52}
 use Rattle.play.proofs.Stands.{Stands, stands}
 use Rattle.play.proofs.Complete.{tricks-law}
 use Rattle.play.proofs.Listed.{revokes-law}
 use Rattle.transfer.specs.Inputs.{claimedBy, transferredIn}
 use Rattle.transfer.proofs.History.{revokes-back, transferred-law, plain-bytes}
 use Rattle.judge.specs.Settled.{headFields, playFields, wonIn, afterIn, stakeIn, settledFields}
-use Rattle.judge.specs.Whole.{Good, CardsTold, listedIn, afterCards, noJudgement, judgedOf, boardFields}
-use Rattle.judge.specs.declared.claim.Claimed.{Claimed}
+use Rattle.judge.specs.Whole.{ThirteenEach, OfCards, listedIn, afterCards, noJudgement, judgedOf, boardFields}
+use Rattle.judge.specs.declared.claim.Claim.{Claim as Read}
 use Rattle.judge.specs.declared.whole.Judged.{Judged}
 use Rattle.judge.specs.Sections.{claimOf, pointAt, noClaimBy, markedBy, claimBy}
 
@@ -76,7 +78,7 @@ own-claim : (declarer c l : ℕ) → claimedBy declarer c l (sideOf declarer) �
 unfolding claimedBy claimedTricks
 own-claim declarer c l = rw (eq-eqb (sideOf declarer) (sideOf declarer) refl)
 
-module _ (board table : ℕ) (out : Bool) (k : Contract) (deal h g : List ℕ) (p : Play) (t : CardsTold board out k deal h g p) (claim : Claim) where
+module _ (board table : ℕ) (out : Bool) (k : Contract) (deal h g : List ℕ) (p : Play) (t : OfCards board out k deal h g p) (claim : Claim) where
   abbrev q : Parts
   q = partsOf board table deal h g claim
 
@@ -99,17 +101,17 @@ module _ (board table : ℕ) (out : Bool) (k : Contract) (deal h g : List ℕ) (
   revokes-is = rw (reverse-reverse h, reverse-reverse g)
 
   tricks-is : tricksIn p ≡ tricksOf trump opening g
-  tricks-is = ap tricksIn (t .position) ∙ tricks-law deal trump opening (t .good .places) g (t .played)
+  tricks-is = ap tricksIn (t .position) ∙ tricks-law deal trump opening (t .deal-of .places) g (t .played)
 
   listed-is : revokesIn p ≡ Play·revokesOf deal trump opening g
-  listed-is = ap revokesIn (t .position) ∙ revokes-law deal trump opening (t .good .places) (t .good .thirteen) g (t .played)
+  listed-is = ap revokesIn (t .position) ∙ revokes-law deal trump opening (t .deal-of .places) (t .deal-of .thirteen) g (t .played)
 
   declarer-is : k .declarer ≡ contractOf q .declarer
   declarer-is = ap (λ (x : Law.Contract). x .declarer) contract-is
 
   pub list-is : revokesIn p ≡ listedIn q
   unfolding listedIn revokeBytes Play·revokesOf
-  list-is = listed-is ∙ rw (revokes-is, plain-bytes deal trump opening (t .good .places) (t .good .thirteen) g (t .played), length-map (revokes trump opening deal g) revokeByte)
+  list-is = listed-is ∙ rw (revokes-is, plain-bytes deal trump opening (t .deal-of .places) (t .deal-of .thirteen) g (t .played), length-map (revokes trump opening deal g) revokeByte)
 
   -- ---- with the two numbers of the claim
   module _ (c l : ℕ) (sides : claimedBy (k .declarer) c l ≡ claimedOf q) (own : c ≡ claimedOf q (sideOf (k .declarer))) where
@@ -120,14 +122,14 @@ module _ (board table : ℕ) (out : Bool) (k : Contract) (deal h g : List ℕ) (
     moved-is : transferredIn (revokesIn p) (tricksIn p) (k .declarer) c l ≡ transferredOf q
     unfolding transferredOf
     moved-is =
-        rw (listed-is, tricks-is) (transferred-law deal trump opening (t .good .places) (t .good .thirteen) g (t .played) (k .declarer) c l
+        rw (listed-is, tricks-is) (transferred-law deal trump opening (t .deal-of .places) (t .deal-of .thirteen) g (t .played) (k .declarer) c l
         ∙ rw (sides, sym winners-is, sym revokes-is, declarer-is))
 
     after-is : afterIn k (tricksIn p) (revokesIn p) c l ≡ afterOf q
     unfolding afterIn afterOf
     after-is =
         rw
-        (won-is, moved-is, listed-is, revokes-back deal trump opening (t .good .places) (t .good .thirteen) g (t .played), sym revokes-is, sym declarer-is)
+        (won-is, moved-is, listed-is, revokes-back deal trump opening (t .deal-of .places) (t .deal-of .thirteen) g (t .played), sym revokes-is, sym declarer-is)
 
     stake-is : stakeIn board k ≡ stakeOf q
     unfolding stakeOf
@@ -158,11 +160,11 @@ section-is : (h g bytes : List ℕ) (at : ℕ) → claimBy (Law.passedOut h) (ca
 unfolding claimBy noClaimBy markedBy pointAt readClaim readNoClaim readMarkedClaim atClaimPoint allPlayed claimable tricksLeft tricksComplete cardsInTrick
 section-is h g bytes at = refl
 
-module _ (board table : ℕ) (out : Bool) (k : Contract) (deal h g : List ℕ) (p : Play) (t : CardsTold board out k deal h g p) (bytes : List ℕ) (at : ℕ) where
+module _ (board table : ℕ) (out : Bool) (k : Contract) (deal h g : List ℕ) (p : Play) (t : OfCards board out k deal h g p) (bytes : List ℕ) (at : ℕ) where
   pub count-is : p .played ≡ cardsPlayed g
-  count-is = ap (λ (x : Play). x .played) (t .position) ∙ stands deal (Law.trumpAfter h) (Law.openingAfter (dealer board) h) (t .good .places) g (t .played) .played
+  count-is = ap (λ (x : Play). x .played) (t .position) ∙ stands deal (Law.trumpAfter h) (Law.openingAfter (dealer board) h) (t .deal-of .places) g (t .played) .played
 
-  module _ (played : ℕ) (ep : played ≡ p .played) (claimed : Claimed) (ec : claimed ≡ claimOf (claimBy out played bytes at)) where
+  module _ (played : ℕ) (ep : played ≡ p .played) (claimed : Read) (ec : claimed ≡ claimOf (claimBy out played bytes at)) where
     claim-is : claimed ≡ claimOf (readClaim h g bytes at)
     claim-is = ec ∙ rw (t .passed, ep, count-is) (ap claimOf (section-is h g bytes at))
 
@@ -173,22 +175,27 @@ module _ (board table : ℕ) (out : Bool) (k : Contract) (deal h g : List ℕ) (
     unfolding afterCards
     whole = refl
 
-    stopped : (r : Reading Claim) → claimOf r .ok ≡ false → noJudgement (claimOf r .fault) ≡ judgedOf (rest r)
+    stopped : (r : Reading Claim) → (claimOf r .refusal ≡ 0 → ⊥) → noJudgement (claimOf r .refusal) ≡ judgedOf (rest r)
     stopped (refused n place) e = refl
-    stopped (found none next) e = not-both true refl e
-    stopped (found (agreed tricks) next) e = not-both true refl e
+    stopped (found none next) e = absurd (e refl)
+    stopped (found (agreed tricks) next) e = absurd (e refl)
 
-    pub claim-refused : claimed .ok ≡ false → noJudgement (claimed .fault) ≡ judgedOf (afterCards board table deal h g bytes at)
+    pub claim-refused : (claimed .refusal ≡ 0 → ⊥) → noJudgement (claimed .refusal) ≡ judgedOf (afterCards board table deal h g bytes at)
     claim-refused e = rw (claim-is, whole) (stopped (readClaim h g bytes at) (rw claim-is at e))
 
-    unpadded : (r : Reading Claim) → claimOf r .ok ≡ true → overfull bytes (claimOf r .next) ≡ true → noJudgement 16384 ≡ judgedOf (rest r)
-    unfolding ending refuse
-    unpadded (refused n place) e o = not-both false e refl
-    unpadded (found none next) e o = rw o
-    unpadded (found (agreed tricks) next) e o = rw o
+    -- a refusal of the claim is not 0
+    fair : Fair (readClaim h g bytes at)
+    unfolding cardsPlayed
+    fair = fair-claim h g bytes at (at-most-52 deal (Law.trumpAfter h) (Law.openingAfter (dealer board) h) (t .deal-of .places) g (t .played))
 
-    pub not-padded : claimed .ok ≡ true → overfull bytes (claimed .next) ≡ true → noJudgement 16384 ≡ judgedOf (afterCards board table deal h g bytes at)
-    not-padded e o = rw whole (unpadded (readClaim h g bytes at) (rw claim-is at e) (rw claim-is at o))
+    unpadded : (r : Reading Claim) → Fair r → claimOf r .refusal ≡ 0 → overfull bytes (claimOf r .next) ≡ true → noJudgement 16384 ≡ judgedOf (rest r)
+    unfolding ending refuse
+    unpadded (refused n place) f e o = absurd (not-0 f e)
+    unpadded (found none next) f e o = rw o
+    unpadded (found (agreed tricks) next) f e o = rw o
+
+    pub not-padded : claimed .refusal ≡ 0 → overfull bytes (claimed .next) ≡ true → noJudgement 16384 ≡ judgedOf (afterCards board table deal h g bytes at)
+    not-padded e o = rw whole (unpadded (readClaim h g bytes at) fair (rw claim-is at e) (rw claim-is at o))
 
     -- ---- accepted: the bits and the list are the Laws' on the parts
     module _ (left : ℕ) (el : left ≡ 13 - played / 4) where
@@ -208,27 +215,27 @@ module _ (board table : ℕ) (out : Bool) (k : Contract) (deal h g : List ℕ) (
           rw (left-is (agreed tricks)) (claim-some (k .declarer) (tricksLeft (reverse (reverse g))) tricks
           ∙ ap {B = ℕ → ℕ} (λ (d side : ℕ). claimedTricks (agreed tricks) (tricksLeft (reverse (reverse g))) (eqb side (sideOf d))) (declarer-is board table out k deal h g p t (agreed tricks)))
 
-      pack-is : (claim : Claim) (c l : ℕ) → claimedBy (k .declarer) c l ≡ claimedOf (partsOf board table deal h g claim)
+      bits-is : (claim : Claim) (c l : ℕ) → claimedBy (k .declarer) c l ≡ claimedOf (partsOf board table deal h g claim)
           → (if out then headFields board table else settledFields board table k (tricksIn p) (revokesIn p) c l) ≡ answerFields (partsOf board table deal h g claim)
-      pack-is claim c l sides =
+      bits-is claim c l sides =
           by-test out
           (λ (q : out ≡ true). rw q (passed-is board table out k deal h g p t claim (sym (t .passed) ∙ q)))
           (λ (q : out ≡ false).
           rw q (fields-is board table out k deal h g p t claim c l sides (sym (own-claim (k .declarer) c l) ∙ ap (λ (f : ℕ → ℕ). f (sideOf (k .declarer))) sides) (sym (t .passed) ∙ q)))
 
       abbrev given : ℕ → Revokes → Judged
-      given pack rs = record { fault = 0; pack = pack; revokes = rs }
+      given bits rs = record { refusal = 0; bits = bits; revokes = rs }
 
-      agreed-on : (r : Reading Claim) → claimOf r .ok ≡ true → overfull bytes (claimOf r .next) ≡ false
+      agreed-on : (r : Reading Claim) → Fair r → claimOf r .refusal ≡ 0 → overfull bytes (claimOf r .next) ≡ false
           → given (number (boardFields board table out k (tricksIn p) (revokesIn p) (claimOf r) left)) (revokesIn p) ≡ judgedOf (rest r)
       unfolding ending refuse boardFields
-      agreed-on (refused n place) e o = not-both false e refl
-      agreed-on (found none next) e o = rw (o, pack-is none 0 0 sides-none) (ap (given _) (list-is board table out k deal h g p t none))
-      agreed-on (found (agreed tricks) next) e o =
-          rw (o, pack-is (agreed tricks) tricks left (sides-some tricks)) (ap (given _) (list-is board table out k deal h g p t (agreed tricks)))
+      agreed-on (refused n place) f e o = absurd (not-0 f e)
+      agreed-on (found none next) f e o = rw (o, bits-is none 0 0 sides-none) (ap (given _) (list-is board table out k deal h g p t none))
+      agreed-on (found (agreed tricks) next) f e o =
+          rw (o, bits-is (agreed tricks) tricks left (sides-some tricks)) (ap (given _) (list-is board table out k deal h g p t (agreed tricks)))
 
-      pub claim-accepted : (ts : Tricks) (rs : Revokes) → ts ≡ tricksIn p → rs ≡ revokesIn p → (pack : ℕ) → claimed .ok ≡ true
-          → overfull bytes (claimed .next) ≡ false → pack ≡ number (boardFields board table out k ts rs claimed left)
-          → given pack rs ≡ judgedOf (afterCards board table deal h g bytes at)
-      claim-accepted ts rs et er pack e o ek =
-          rw (whole, ek, et, er, claim-is) (agreed-on (readClaim h g bytes at) (rw claim-is at e) (rw claim-is at o))
+      pub claim-accepted : (ts : Tricks) (rs : Revokes) → ts ≡ tricksIn p → rs ≡ revokesIn p → (bits : ℕ) → claimed .refusal ≡ 0
+          → overfull bytes (claimed .next) ≡ false → bits ≡ number (boardFields board table out k ts rs claimed left)
+          → given bits rs ≡ judgedOf (afterCards board table deal h g bytes at)
+      claim-accepted ts rs et er bits e o ek =
+          rw (whole, ek, et, er, claim-is) (agreed-on (readClaim h g bytes at) fair (rw claim-is at e) (rw claim-is at o))

@@ -1,6 +1,9 @@
 // The cards, read in order and judged each on those before it, as the Laws' section of that name is.
 use crate::reading::narrow;
 use field::Field;
+use laws::RECORD_ENDS;
+use laws::TOO_MANY_CARDS;
+use laws::refusal_number;
 use play::Play;
 ghost use mathlib.Core.Path.{_≡_};
 ghost use mathlib.Core.List.{[]};
@@ -10,23 +13,21 @@ ghost use Rattle.laws.specs.Law44.{cardsPlayed};
 ghost use Rattle.laws.specs.CardRefusal.{cardRefusal};
 ghost use Rattle.laws.specs.Reading.{readEach};
 ghost use Rattle.deal.specs.Hands.{wordsOf};
-ghost use Rattle.judge.specs.Sections.{noCards, cardedOf, cardsBy};
+ghost use Rattle.judge.specs.Sections.{noCards, cardsOf, cardsBy};
 
-// The position after the cards and the bit behind them, or why they are refused.
-pub struct Carded {
-    pub ok: bool,
-    pub fault: u32,
+// The position after the cards and the bit behind them; or the number of their refusal, 0 where there is none.
+pub struct Cards {
+    pub refusal: u32,
     pub next: usize,
     pub after: Play,
 }
 
-fn no_cards(fault: u32) -> Carded
-    ensures { λ r. ⌜ r ≡ noCards fault ⌝ }
+fn no_cards(refusal: u8, place: u16) -> Cards
+    ensures { λ r. ⌜ r ≡ noCards refusal place ⌝ }
 {
     let after = Play::new([0u8; 52], [0u64; 4], 0, 0);
-    Carded {
-        ok: false,
-        fault,
+    Cards {
+        refusal: refusal_number(refusal, place),
         next: 0,
         after,
     }
@@ -41,29 +42,28 @@ fn read_each_card(
     opening: u8,
     at: usize,
     count: u8,
-) -> Carded
+) -> Cards
     requires { ⌜ (at < 65536) × (count < 64) × (hands ≡ wordsOf deal) ⌝ }
-    ensures { λ r. ⌜ r ≡ cardedOf deal trump opening (readEach 6 cardsPlayed (cardRefusal trump opening deal) count [] (now (bytes .entry)) at) ⌝ }
+    ensures { λ r. ⌜ r ≡ cardsOf deal trump opening (readEach 6 cardsPlayed (cardRefusal trump opening deal) count [] (now (bytes .entry)) at) ⌝ }
 {
     let mut p = Play::new(deal, hands, trump, opening);
     let mut here = at;
     let mut i: u8 = 0;
     while i < count {
         let Field::Value(code) = field::read(bytes, here, 6) else {
-            return no_cards(2048);
+            return no_cards(RECORD_ENDS, 0);
         };
         let c = narrow(code);
         let f = p.refusal(c);
         if f != 0 {
-            return no_cards(f as u32 * 1024 + i as u32);
+            return no_cards(f, i as u16);
         }
         p = p.play(c);
         here += 6;
         i += 1;
     }
-    Carded {
-        ok: true,
-        fault: 0,
+    Cards {
+        refusal: 0,
         next: here,
         after: p,
     }
@@ -85,16 +85,16 @@ pub(crate) fn read_cards(
     trump: u8,
     opening: u8,
     at: usize,
-) -> Carded
+) -> Cards
     requires { ⌜ (at < 32768) × (hands ≡ wordsOf deal) ⌝ }
-    ensures { λ r. ⌜ r ≡ cardedOf deal trump opening (cardsBy out trump opening deal (now (bytes .entry)) at) ⌝ }
+    ensures { λ r. ⌜ r ≡ cardsOf deal trump opening (cardsBy out trump opening deal (now (bytes .entry)) at) ⌝ }
 {
     let Field::Value(count) = field::read(bytes, at, 6) else {
-        return no_cards(2048);
+        return no_cards(RECORD_ENDS, 0);
     };
     let n = narrow(count);
     if most_cards(out) < n {
-        return no_cards(10240 + n as u32);
+        return no_cards(TOO_MANY_CARDS, n as u16);
     }
     read_each_card(bytes, deal, hands, trump, opening, at + 6, n)
 }

@@ -7,6 +7,8 @@ mod settle;
 mod whole;
 
 use crate::whole::judge;
+use laws::SHORT_BUFFER;
+use laws::refusal_number;
 ghost use mathlib.Core.Path.{_≡_};
 ghost use mathlib.Core.List.{_++_};
 ghost use Prim.Native.Nat.{_<_, _≤_};
@@ -57,21 +59,21 @@ pub extern "C" fn judge_record(bytes: &[u8], answer: &mut [u8], list: &mut [u8])
     ensures listed { λ r. ⌜ now (list .exit) ≡ listLeft (judgeOf (now (bytes .entry)) (length (now (answer .entry))) (length (now (list .entry)))) (now (list .entry)) ⌝ }
 {
     if answer.len() < 7 {
-        return 1024;
+        return refusal_number(SHORT_BUFFER, 0);
     }
     if list.len() < 36 {
-        return 1025;
+        return refusal_number(SHORT_BUFFER, 1);
     }
     let judged = judge(bytes);
-    let fault = judged.fault;
-    if fault != 0 {
-        return fault;
+    let refusal = judged.refusal;
+    if refusal != 0 {
+        return refusal;
     }
-    let pack = judged.pack;
+    let bits = judged.bits;
     let revokes = judged.revokes;
     let listed = revokes.list;
     let count = revokes.count as usize;
-    put7(answer, pack);
+    put7(answer, bits);
     put_list(list, listed, count);
-    fault
+    refusal
 }

@@ -1,6 +1,11 @@
 // The record up to the last call, read in order: board and table, deal, calls. Each section is read as the Laws' section of that name is.
 use auction::Auction;
 use field::Field;
+use laws::AUCTION_UNFINISHED;
+use laws::NO_BOARD_OR_TABLE;
+use laws::NOT_THIRTEEN;
+use laws::RECORD_ENDS;
+use laws::refusal_number;
 ghost use mathlib.Core.Path.{_≡_};
 ghost use mathlib.Core.List.{[]};
 ghost use Prim.Native.Nat.{_+_, _*_, _<_, _≤_};
@@ -9,28 +14,25 @@ ghost use Rattle.laws.specs.Auction.{callPlace};
 ghost use Rattle.laws.specs.CallRefusal.{callRefusal};
 ghost use Rattle.laws.specs.Reading.{readEach};
 ghost use Rattle.laws.specs.Judge.{readHeading, readDeal, readCalls};
-ghost use Rattle.judge.specs.Sections.{noHeading, headingOf, noCalls, calledOf, noDeal, dealtOf, rowAt, foursOf};
+ghost use Rattle.judge.specs.Sections.{noHeading, headingOf, noCalls, callsOf, noDeal, dealOf, rowAt, foursOf};
 
-// Board and table, or why they are refused.
+// Board and table; or the number of their refusal, 0 where there is none.
 pub struct Heading {
-    pub ok: bool,
-    pub fault: u32,
+    pub refusal: u32,
     pub board: u8,
     pub table: u16,
 }
 
-// The position after the calls and the bit behind them, or why they are refused.
-pub struct Called {
-    pub ok: bool,
-    pub fault: u32,
+// The position after the calls and the bit behind them; or the number of their refusal, 0 where there is none.
+pub struct Calls {
+    pub refusal: u32,
     pub next: usize,
     pub after: Auction,
 }
 
-// The holders of the cards and the hands of the four seats, or why the deal is refused.
-pub struct Dealt {
-    pub ok: bool,
-    pub fault: u32,
+// The holders of the cards and the hands of the four seats; or the number of the refusal, 0 where there is none.
+pub struct Deal {
+    pub refusal: u32,
     pub holders: [u8; 52],
     pub hands: [u64; 4],
 }
@@ -42,12 +44,11 @@ pub(crate) fn narrow(x: u16) -> u8
     x as u8
 }
 
-fn no_heading(fault: u32) -> Heading
-    ensures { λ r. ⌜ r ≡ noHeading fault ⌝ }
+fn no_heading(refusal: u8, place: u16) -> Heading
+    ensures { λ r. ⌜ r ≡ noHeading refusal place ⌝ }
 {
     Heading {
-        ok: false,
-        fault,
+        refusal: refusal_number(refusal, place),
         board: 0,
         table: 0,
     }
@@ -58,91 +59,87 @@ pub(crate) fn read_heading(bytes: &[u8]) -> Heading
     ensures { λ r. ⌜ r ≡ headingOf (readHeading (now (bytes .entry)) 0) ⌝ }
 {
     let Field::Value(board) = field::read(bytes, 0, 7) else {
-        return no_heading(2048);
+        return no_heading(RECORD_ENDS, 0);
     };
     let Field::Value(table) = field::read(bytes, 7, 9) else {
-        return no_heading(2048);
+        return no_heading(RECORD_ENDS, 0);
     };
     if board == 0 {
-        return no_heading(3072);
+        return no_heading(NO_BOARD_OR_TABLE, 0);
     }
     if table == 0 {
-        return no_heading(3073);
+        return no_heading(NO_BOARD_OR_TABLE, 1);
     }
     Heading {
-        ok: true,
-        fault: 0,
+        refusal: 0,
         board: narrow(board),
         table,
     }
 }
 
-fn no_calls(fault: u32) -> Called
-    ensures { λ r. ⌜ r ≡ noCalls fault ⌝ }
+fn no_calls(refusal: u8, place: u16) -> Calls
+    ensures { λ r. ⌜ r ≡ noCalls refusal place ⌝ }
 {
     let after = Auction::new(0);
-    Called {
-        ok: false,
-        fault,
+    Calls {
+        refusal: refusal_number(refusal, place),
         next: 0,
         after,
     }
 }
 
 // So many calls from a bit on, each judged on those before it.
-fn read_each_call(bytes: &[u8], dealer: u8, at: usize, count: u16) -> Called
+fn read_each_call(bytes: &[u8], dealer: u8, at: usize, count: u16) -> Calls
     requires { ⌜ (at < 65536) × (count < 512) ⌝ }
-    ensures { λ r. ⌜ r ≡ calledOf dealer (readEach 6 callPlace (callRefusal dealer) count [] (now (bytes .entry)) at) ⌝ }
+    ensures { λ r. ⌜ r ≡ callsOf dealer (readEach 6 callPlace (callRefusal dealer) count [] (now (bytes .entry)) at) ⌝ }
 {
     let mut a = Auction::new(dealer);
     let mut here = at;
     let mut i: u16 = 0;
     while i < count {
         let Field::Value(code) = field::read(bytes, here, 6) else {
-            return no_calls(2048);
+            return no_calls(RECORD_ENDS, 0);
         };
         let c = narrow(code);
         let f = a.refusal(c);
         if f != 0 {
-            return no_calls(f as u32 * 1024 + i as u32);
+            return no_calls(f, i);
         }
         a = a.call(c);
         here += 6;
         i += 1;
     }
-    Called {
-        ok: true,
-        fault: 0,
+    Calls {
+        refusal: 0,
         next: here,
         after: a,
     }
 }
 
 // The calls, from their count on.
-pub(crate) fn read_calls(bytes: &[u8], dealer: u8, at: usize) -> Called
+pub(crate) fn read_calls(bytes: &[u8], dealer: u8, at: usize) -> Calls
     requires { ⌜ at < 32768 ⌝ }
-    ensures { λ r. ⌜ r ≡ calledOf dealer (readCalls dealer (now (bytes .entry)) at) ⌝ }
+    ensures { λ r. ⌜ r ≡ callsOf dealer (readCalls dealer (now (bytes .entry)) at) ⌝ }
 {
     let Field::Value(count) = field::read(bytes, at, 9) else {
-        return no_calls(2048);
+        return no_calls(RECORD_ENDS, 0);
     };
     let called = read_each_call(bytes, dealer, at + 9, count);
-    if !called.ok {
+    if called.refusal != 0 {
         return called;
     }
     let after = called.after;
     if !after.is_over() {
-        return no_calls(9216 + count as u32);
+        return no_calls(AUCTION_UNFINISHED, count);
     }
     called
 }
 
-fn no_deal(fault: u32) -> Dealt
-    ensures { λ r. ⌜ r ≡ noDeal fault ⌝ }
+fn no_deal(refusal: u8, place: u16) -> Deal
+    ensures { λ r. ⌜ r ≡ noDeal refusal place ⌝ }
 {
-    Dealt {
-        ok: false,
-        fault,
+    Deal {
+        refusal: refusal_number(refusal, place),
         holders: [0u8; 52],
         hands: [0u64; 4],
     }
@@ -179,21 +176,20 @@ fn holders(bytes: &[u8]) -> [u8; 52]
 }
 
 // The deal, which stands behind board and table.
-pub(crate) fn read_deal(bytes: &[u8]) -> Dealt
-    ensures { λ r. ⌜ r ≡ dealtOf (readDeal (now (bytes .entry)) 16) ⌝ }
+pub(crate) fn read_deal(bytes: &[u8]) -> Deal
+    ensures { λ r. ⌜ r ≡ dealOf (readDeal (now (bytes .entry)) 16) ⌝ }
 {
     if bytes.len() < 15 {
-        return no_deal(2048);
+        return no_deal(RECORD_ENDS, 0);
     }
     let row = holders(bytes);
     let hands = deal::hands(row);
     let seat = deal::seat_without_thirteen(hands);
     if seat != 4 {
-        return no_deal(4096 + seat as u32);
+        return no_deal(NOT_THIRTEEN, seat as u16);
     }
-    Dealt {
-        ok: true,
-        fault: 0,
+    Deal {
+        refusal: 0,
         holders: row,
         hands,
     }

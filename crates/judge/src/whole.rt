@@ -1,6 +1,6 @@
 // The whole record judged: its sections in order, then the answer's bits and the revokes.
 use crate::cards::read_cards;
-use crate::claim::Claimed;
+use crate::claim::Claim;
 use crate::claim::is_padding;
 use crate::claim::read_claim;
 use crate::reading::read_calls;
@@ -10,6 +10,8 @@ use crate::settle::settle;
 use crate::settle::settle_passed_out;
 use auction::Auction;
 use auction::Contract;
+use laws::NOT_PADDING;
+use laws::refusal_number;
 use play::Play;
 use play::Revokes;
 use play::Tricks;
@@ -21,25 +23,25 @@ ghost use Rattle.laws.specs.Cards.{clockwise};
 ghost use Rattle.laws.specs.Record.{number};
 ghost use Rattle.laws.specs.Judge.{readRecord};
 ghost use Rattle.deal.specs.Hands.{wordsOf};
-ghost use Rattle.judge.specs.Whole.{noJudgement, judgedOf, boardFields, CardsTold, CallsTold, afterCards, afterCalls, afterDeal};
+ghost use Rattle.judge.specs.Whole.{noJudgement, judgedOf, boardFields, OfCards, OfCalls, afterCards, afterCalls, afterDeal};
 
-// The answer's bits and the revokes; or why the record is refused, which is 0 where it is accepted.
+// The answer's bits and the revokes; or the number of the refusal, 0 where the record is accepted.
 pub struct Judged {
-    pub fault: u32,
-    pub pack: u64,
+    pub refusal: u32,
+    pub bits: u64,
     pub revokes: Revokes,
 }
 
-fn refused(fault: u32) -> Judged
-    ensures { λ r. ⌜ r ≡ noJudgement fault ⌝ }
+fn refused(refusal: u32) -> Judged
+    ensures { λ r. ⌜ r ≡ noJudgement refusal ⌝ }
 {
     let revokes = Revokes {
         count: 0,
         list: [0u8; 36],
     };
     Judged {
-        fault,
-        pack: 0,
+        refusal,
+        bits: 0,
         revokes,
     }
 }
@@ -63,7 +65,7 @@ fn settle_board(
     k: Contract,
     ts: Tricks,
     rs: Revokes,
-    claimed: Claimed,
+    claimed: Claim,
     left: u8,
 ) -> u64
     ensures { λ r. ⌜ r ≡ number (boardFields board table out k ts rs claimed left) ⌝ }
@@ -95,22 +97,22 @@ fn judge_claim(
     at: usize,
 ) -> Judged
     requires { ⌜ (p .played ≤ 52) × (at < 32768) ⌝ }
-    ensures { λ r. ⌜ ((deal h g : List ℕ) → CardsTold board out k deal h g p → r ≡ judgedOf (afterCards board table deal h g (now (bytes .entry)) at)) ⌝ }
+    ensures { λ r. ⌜ ((deal h g : List ℕ) → OfCards board out k deal h g p → r ≡ judgedOf (afterCards board table deal h g (now (bytes .entry)) at)) ⌝ }
 {
     let played = count(p.played);
     let claimed = read_claim(bytes, out, played, at);
-    if !claimed.ok {
-        return refused(claimed.fault);
+    if claimed.refusal != 0 {
+        return refused(claimed.refusal);
     }
     if !is_padding(bytes, claimed.next) {
-        return refused(16384);
+        return refused(refusal_number(NOT_PADDING, 0));
     }
     let ts = p.tricks();
     let rs = p.revokes();
-    let pack = settle_board(board, table, out, k, ts, rs, claimed, tricks_left(played));
+    let bits = settle_board(board, table, out, k, ts, rs, claimed, tricks_left(played));
     Judged {
-        fault: 0,
-        pack,
+        refusal: 0,
+        bits,
         revokes: rs,
     }
 }
@@ -133,11 +135,11 @@ fn judge_play(
     at: usize,
 ) -> Judged
     requires { ⌜ (at < 16384) × (hands ≡ wordsOf holders) ⌝ }
-    ensures { λ r. ⌜ ((h : List ℕ) → CallsTold board a holders h → r ≡ judgedOf (afterCalls board table holders h (now (bytes .entry)) at)) ⌝ }
+    ensures { λ r. ⌜ ((h : List ℕ) → OfCalls board a holders h → r ≡ judgedOf (afterCalls board table holders h (now (bytes .entry)) at)) ⌝ }
 {
     let out = a.is_passed_out();
     let k = a.contract();
-    let carded = read_cards(
+    let cards = read_cards(
         bytes,
         holders,
         hands,
@@ -146,11 +148,11 @@ fn judge_play(
         opening_leader(k.declarer),
         at,
     );
-    if !carded.ok {
-        return refused(carded.fault);
+    if cards.refusal != 0 {
+        return refused(cards.refusal);
     }
-    let p = carded.after;
-    judge_claim(bytes, board, table, out, k, p, carded.next)
+    let p = cards.after;
+    judge_claim(bytes, board, table, out, k, p, cards.next)
 }
 
 // The whole record.
@@ -158,16 +160,16 @@ pub(crate) fn judge(bytes: &[u8]) -> Judged
     ensures { λ r. ⌜ r ≡ judgedOf (readRecord (now (bytes .entry)) 0) ⌝ }
 {
     let top = read_heading(bytes);
-    if !top.ok {
-        return refused(top.fault);
+    if top.refusal != 0 {
+        return refused(top.refusal);
     }
     let dealt = read_deal(bytes);
-    if !dealt.ok {
-        return refused(dealt.fault);
+    if dealt.refusal != 0 {
+        return refused(dealt.refusal);
     }
     let called = read_calls(bytes, deal::dealer(top.board), 120);
-    if !called.ok {
-        return refused(called.fault);
+    if called.refusal != 0 {
+        return refused(called.refusal);
     }
     let holders = dealt.holders;
     let hands = dealt.hands;

@@ -7,7 +7,7 @@ use mathlib.Core.List.{List, [], _∷_, reverse}
 use borrow.Author.Tests.{not-false, eqb-true, eqb-false, eq-eqb, ne-eqb, le-ltb, ltb-false}
 use lib.Dec.{eqb, ltb, lit<}
 use lib.ListN.{length}
-use Rattle.laws.specs.Refusals.{noSuchBoard, notThirteen, auctionUnfinished, playCount}
+use Rattle.laws.specs.Refusals.{noBoardOrTable, notThirteen, auctionUnfinished, tooManyCards}
 use Rattle.laws.specs.Cards.{noSeat, cardsDealt, hasThirteen, firstWithoutThirteen, seatWithoutThirteen}
 use Rattle.laws.specs.Auction.{callPlace, isOver, passedOut, allowed, trumpAfter, openingAfter}
 use Rattle.laws.specs.CallRefusal.{callRefusal}
@@ -45,8 +45,8 @@ heading-exact =
       reads = λ bytes at x end l q.
           let a = first-read 7 bytes at _ q in
           let b = first-read 9 bytes (at + 7) _ (a .1) in
-          let s = first-test noSuchBoard 0 (eqb (numberAt bytes at 7) 0) bytes (at + 7 + 9) _ (b .1) in
-          let t = first-test noSuchBoard 1 (eqb (numberAt bytes (at + 7) 9) 0) bytes (at + 7 + 9) _ (s .1) in
+          let s = first-test noBoardOrTable 0 (eqb (numberAt bytes at 7) 0) bytes (at + 7 + 9) _ (b .1) in
+          let t = first-test noBoardOrTable 1 (eqb (numberAt bytes (at + 7) 9) 0) bytes (at + 7 + 9) _ (s .1) in
           landed HeadingStands headingFields (t .1) (
             record {
               board-from = from-one (numberAt bytes at 7) (s .0);
@@ -190,7 +190,7 @@ module _ (d : ℕ) (deal h : List ℕ) (full : length deal ≡ 52) where
         reads = λ bytes at x end l q.
             let n : ℕ = numberAt bytes at 6 in
             let a = first-read 6 bytes at _ q in
-            let t = first-test playCount n _ bytes (at + 6) _ (a .1) in
+            let t = first-test tooManyCards n _ bytes (at + 6) _ (a .1) in
             let r = cards-each n .reads bytes (at + 6) x end (a .0) (t .1) in
             let few : n ≤ 52 = ltb-false 52 n (or-left (ltb 52 n) _ (t .0)) in
             let rest = or-right (ltb 52 n) _ (t .0) in (

@@ -1,12 +1,14 @@
 -- `read_each_card` meets its contract: what the reading comes to from a turn on is what it comes to in all. Assumes nothing.
-use Prim.Native.Nat.{_-_}
-use mathlib.Core.Path.{_≡_, sym, ap, _∙_}
+use Prim.Native.Nat.{ℕ, _-_, _+_}
+use mathlib.Core.List.{List}
+use mathlib.Core.Path.{_≡_, sym, _∙_}
 use native.Mathlib.Omega.{arith}
 use borrow.Author.Needs.{needs}
 use lib.Dec.{lit≤}
 use lib.ListN.{length}
 use Rattle.field.proofs.ThreeBytes.{value-reads, value-lt, short-stops}
-use Rattle.judge.proofs.CardTurns.{CardsFrom, from-first, from-deal, from-places, card-ends, card-short, card-stops, card-goes}
+use Rattle.laws.specs.Reading.{Reading.found, read}
+use Rattle.judge.proofs.CardTurns.{CardsFrom, CardsAt, from-first, from-deal, from-places, card-ends, card-short, card-stops, card-goes}
 use Rattle.judge.proofs.cards.read_each_card.Statement.{statement}
 use Rattle.judge.proofs.cards.read_each_card.Tie as tie
 
@@ -18,6 +20,23 @@ abbrev μ-loop : tie.MeasureT-loop
 
 deal-52 : (c : tie.Start Inv-loop μ-loop) → length (c .args .deal) ≡ 52
 deal-52 c = search needs
+
+-- the invariant, of the deal that the function was given
+of-deal : (c : tie.At-loop Inv-loop μ-loop)
+    → (let a = c .before .before .before .args in CardsAt (a .bytes .now) (a .deal) (a .trump) (a .opening) (a .at) (a .count) (c .loop .p) (c .loop .here) (c .loop .i))
+of-deal c =
+    let a = c .before .before .before .args in
+    from-deal (a .bytes .now) (a .deal) (a .hands) (a .trump) (a .opening) (a .at) (a .count) (c .before .new .ensures) (c .loop .inv)
+
+-- the bytes, and the code once it is read
+abbrev bytes-of : tie.After-read Inv-loop μ-loop → List ℕ
+bytes-of r = r .before .before .before .before .before .args .bytes .now
+
+code-reads : (c : tie.After-known-told Inv-loop μ-loop)
+    → (let r = c .before .before .before in read 6 (bytes-of r) (r .before .before .loop .here) ≡ found (c .before .code .given .0 .0) (r .before .before .loop .here + 6))
+code-reads c =
+    let r = c .before .before .before in
+    value-reads (bytes-of r) (r .before .before .loop .here) 6 (sym (r .read .ensures) ∙ c .before .code .given .1)
 
 new-requires : tie.Need-new-requires Inv-loop μ-loop
 new-requires c κs = search needs
@@ -41,18 +60,15 @@ no-cards-requires c κs = search needs
 
 returns : tie.Need-returns Inv-loop μ-loop
 returns c =
-    let t = c .before .before .before .before .before in
-    let s = t .before .before .before in
-    let a = s .args in
-    let b = a .bytes .now in
+    let r = c .before .before .before in
     c .no-cards .ensures
-    ∙ card-short b (a .deal) (a .trump) (a .opening) (a .at) (a .count) (from-deal b (a .deal) (a .hands) _ _ _ _ (t .before .new .ensures) (t .loop .inv))
-    (c .before .before .before .before .loop-test .taken) (short-stops b (t .loop .here) 6 (lit≤ tt) (sym (c .before .before .before .read .ensures) ∙ c .before .enum-told .given .1))
+    ∙ card-short _ _ _ _ _ _ (of-deal (r .before .before)) (r .before .loop-test .taken)
+    (short-stops _ (r .before .before .loop .here) 6 (lit≤ tt) (sym (r .read .ensures) ∙ c .before .enum-told .given .1))
 
 narrow-requires : tie.Need-narrow-requires Inv-loop μ-loop
 narrow-requires c κs =
-    let t = c .before .before .before .before .before in
-    omega (arith, value-lt (t .before .before .before .args .bytes .now) (t .loop .here) 6 (sym (c .before .before .before .read .ensures) ∙ c .before .code .given .1))
+    let r = c .before .before .before in
+    omega (arith, value-lt (bytes-of r) (r .before .before .loop .here) 6 (sym (r .read .ensures) ∙ c .before .code .given .1))
 
 refusal-requires : tie.Need-refusal-requires Inv-loop μ-loop
 refusal-requires c κs = search needs
@@ -60,28 +76,15 @@ refusal-requires c κs = search needs
 cast-no-cards : tie.Need-cast-no-cards Inv-loop μ-loop
 cast-no-cards c = search needs
 
-mul-no-cards : tie.Need-mul-no-cards Inv-loop μ-loop
-mul-no-cards c = search needs
-
-cast-no-cards-2 : tie.Need-cast-no-cards-2 Inv-loop μ-loop
-cast-no-cards-2 c = search needs
-
-add-no-cards : tie.Need-add-no-cards Inv-loop μ-loop
-add-no-cards c = search needs
-
 no-cards-requires-2 : tie.Need-no-cards-requires-2 Inv-loop μ-loop
 no-cards-requires-2 c κs = search needs
 
 returns-2 : tie.Need-returns-2 Inv-loop μ-loop
 returns-2 c =
     let w = c .before .before .before in
-    let t = w .before .before .before .before .before .before in
-    let s = t .before .before .before in
-    let a = s .args in
-    let b = a .bytes .now in
+    let r = w .before .before .before .before in
     c .no-cards2 .ensures
-    ∙ card-stops b (a .deal) (a .trump) (a .opening) (a .at) (a .count) (from-deal b (a .deal) (a .hands) _ _ _ _ (t .before .new .ensures) (t .loop .inv))
-    (w .before .before .before .before .before .loop-test .taken) (deal-52 s) (value-reads b (t .loop .here) 6 (sym (w .before .before .before .before .read .ensures) ∙ w .before .before .code .given .1))
+    ∙ card-stops _ _ _ _ _ _ (of-deal (r .before .before)) (r .before .loop-test .taken) (deal-52 (r .before .before .before .before .before)) (code-reads (w .before))
     (rw (w .narrow .ensures) at (c .before .before .refusal .ensures)) (c .before .if1 .taken)
 
 play-requires : tie.Need-play-requires Inv-loop μ-loop
@@ -99,20 +102,15 @@ loop-less c = search needs
 loop-again : tie.Need-loop-again Inv-loop μ-loop
 loop-again c =
     let w = c .before .before .before in
-    let t = w .before .before .before .before .before .before in
-    let s = t .before .before .before in
-    let a = s .args in
-    let b = a .bytes .now in
-    card-goes b (t .before .new .result .holders) (a .trump) (a .opening) (a .at) (a .count) (t .loop .inv) (w .before .before .before .before .before .loop-test .taken)
-    (from-places b (a .deal) (a .hands) (a .trump) (a .opening) (a .at) (a .count) (t .before .new .ensures) (deal-52 s))
-    (value-reads b (t .loop .here) 6 (sym (w .before .before .before .before .read .ensures) ∙ w .before .before .code .given .1))
-    (rw (w .narrow .ensures) at (c .before .before .refusal .ensures)) (c .before .if1 .left) (rw (w .narrow .ensures) at (c .play .ensures))
+    let r = w .before .before .before .before in
+    let t = r .before .before in
+    let a = t .before .before .before .args in
+    card-goes _ _ _ _ _ _ (t .loop .inv) (r .before .loop-test .taken)
+    (from-places (a .bytes .now) (a .deal) (a .hands) (a .trump) (a .opening) (a .at) (a .count) (t .before .new .ensures) (deal-52 (t .before .before .before)))
+    (code-reads (w .before)) (rw (w .narrow .ensures) at (c .before .before .refusal .ensures)) (c .before .if1 .left) (rw (w .narrow .ensures) at (c .play .ensures))
 
 returns-3 : tie.Need-returns-3 Inv-loop μ-loop
-returns-3 c =
-    let t = c .before in
-    let a = t .before .before .before .args in
-    card-ends (a .bytes .now) (a .deal) (a .trump) (a .opening) (a .at) (a .count) (from-deal (a .bytes .now) (a .deal) (a .hands) _ _ _ _ (t .before .new .ensures) (t .loop .inv)) (c .loop-test .left)
+returns-3 c = card-ends _ _ _ _ _ _ (of-deal (c .before)) (c .loop-test .left)
 
 pub read-each-card-spec : {M : Type 1} → statement M
 read-each-card-spec =
@@ -130,9 +128,6 @@ read-each-card-spec =
     narrow-requires
     refusal-requires
     cast-no-cards
-    mul-no-cards
-    cast-no-cards-2
-    add-no-cards
     no-cards-requires-2
     returns-2
     play-requires

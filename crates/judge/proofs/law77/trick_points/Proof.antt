@@ -18,13 +18,13 @@ less-requires c κs = search needs
 trick-value-requires : tie.Need-trick-value-requires
 trick-value-requires c κs = search needs
 
-mul-bid : tie.Need-mul-bid
-mul-bid c = let s = c .before .before .before .args .s in
+mul-odd-tricks : tie.Need-mul-odd-tricks
+mul-odd-tricks c = let s = c .before .before .before .args .s in
     let l : s .level < 256 = search needs in
     record { fits = rw (c .before .less .ensures, c .trick-value .ensures) (omega (arith, later-le (s .level) (s .strain) l)) }
 
-add-bid : tie.Need-add-bid
-add-bid c = let s = c .before .before .before .args .s in
+add-odd-tricks : tie.Need-add-odd-tricks
+add-odd-tricks c = let s = c .before .before .before .args .s in
     let l : s .level < 256 = search needs in
     record { fits = rw (c .before .less .ensures, c .trick-value .ensures, c .before .before .first-trick-value .ensures) (omega (arith, later-le (s .level) (s .strain) l, first-le (s .strain))) }
 
@@ -48,8 +48,8 @@ trick-points-spec =
     first-trick-value-requires
     less-requires
     trick-value-requires
-    mul-bid
-    add-bid
+    mul-odd-tricks
+    add-odd-tricks
     by-doubling-requires
     mul-result
     returns)

@@ -23,9 +23,6 @@ seat-without-thirteen-requires c κs = search needs
 cast-no-deal : tie.Need-cast-no-deal
 cast-no-deal c = search needs
 
-add-no-deal : tie.Need-add-no-deal
-add-no-deal c = search needs
-
 no-deal-requires-2 : tie.Need-no-deal-requires-2
 no-deal-requires-2 c κs = search needs
 
@@ -52,7 +49,6 @@ read-deal-spec =
     hands-requires
     seat-without-thirteen-requires
     cast-no-deal
-    add-no-deal
     no-deal-requires-2
     returns-2
     returns-3)

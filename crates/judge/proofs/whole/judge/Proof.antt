@@ -17,7 +17,7 @@ refused-requires c κs = search needs
 returns : tie.Need-returns
 returns c =
     let t = c .before .before .before in
-    c .refused .ensures ∙ heading-refused (t .before .before .args .bytes .now) _ (t .read-heading .ensures) (not-true _ (c .before .if1 .taken))
+    c .refused .ensures ∙ heading-refused (t .before .before .args .bytes .now) _ (t .read-heading .ensures) (c .before .if1 .taken)
 
 read-deal-requires : tie.Need-read-deal-requires
 read-deal-requires c κs = search needs
@@ -30,8 +30,8 @@ returns-2 c =
     let d = c .before .before .before in
     let t = d .before .before .before in
     c .refused2 .ensures
-    ∙ deal-refused (t .before .before .args .bytes .now) _ (t .read-heading .ensures) (not-false _ (d .before .if1 .left)) _ (d .read-deal .ensures)
-    (not-true _ (c .before .if2 .taken))
+    ∙ deal-refused (t .before .before .args .bytes .now) _ (t .read-heading .ensures) (d .before .if1 .left) _ (d .read-deal .ensures)
+    (c .before .if2 .taken)
 
 dealer-requires : tie.Need-dealer-requires
 dealer-requires c κs = search needs
@@ -48,8 +48,8 @@ returns-3 c =
     let d = k .before .before .before .before in
     let t = d .before .before .before in
     c .refused3 .ensures
-    ∙ calls-refused (t .before .before .args .bytes .now) _ (t .read-heading .ensures) (not-false _ (d .before .if1 .left)) _ (d .read-deal .ensures)
-    (not-false _ (k .before .before .if2 .left)) _ (k .before .dealer .ensures) _ (k .read-calls .ensures) (not-true _ (c .before .if3 .taken))
+    ∙ calls-refused (t .before .before .args .bytes .now) _ (t .read-heading .ensures) (d .before .if1 .left) _ (d .read-deal .ensures)
+    (k .before .before .if2 .left) _ (k .before .dealer .ensures) _ (k .read-calls .ensures) (c .before .if3 .taken)
 
 judge-play-requires : tie.Need-judge-play-requires
 judge-play-requires c κs =
@@ -57,8 +57,8 @@ judge-play-requires c κs =
     let k = e .before .before in
     let d = k .before .before .before .before in
     let t = d .before .before .before in
-    calls-bound (t .before .before .args .bytes .now) _ (t .read-heading .ensures) (not-false _ (d .before .if1 .left)) _ (d .read-deal .ensures)
-    (not-false _ (k .before .before .if2 .left)) _ (k .before .dealer .ensures) _ (k .read-calls .ensures) (not-false _ (e .if3 .left))
+    calls-bound (t .before .before .args .bytes .now) _ (t .read-heading .ensures) (d .before .if1 .left) _ (d .read-deal .ensures)
+    (k .before .before .if2 .left) _ (k .before .dealer .ensures) _ (k .read-calls .ensures) (e .if3 .left)
 
 returns-4 : tie.Need-returns-4
 returns-4 c =
@@ -66,8 +66,8 @@ returns-4 c =
     let k = e .before .before in
     let d = k .before .before .before .before in
     let t = d .before .before .before in
-    calls-read (t .before .before .args .bytes .now) _ (t .read-heading .ensures) (not-false _ (d .before .if1 .left)) _ (d .read-deal .ensures)
-    (not-false _ (k .before .before .if2 .left)) _ (k .before .dealer .ensures) _ (k .read-calls .ensures) _ (not-false _ (e .if3 .left)) (c .judge-play .ensures)
+    calls-read (t .before .before .args .bytes .now) _ (t .read-heading .ensures) (d .before .if1 .left) _ (d .read-deal .ensures)
+    (k .before .before .if2 .left) _ (k .before .dealer .ensures) _ (k .read-calls .ensures) _ (e .if3 .left) (c .judge-play .ensures)
 
 pub judge-spec : {M : Type 1} → statement M
 judge-spec =

@@ -1,6 +1,7 @@
 -- `judge_claim` meets its contract: a law of Judging for each way out. Assumes nothing.
-use mathlib.Core.Path.{sym, _∙_}
+use mathlib.Core.Path.{sym, ap, _∙_}
 use borrow.Author.Tests.{not-true, not-false}
+use Rattle.judge.specs.Whole.{noJudgement}
 use Rattle.judge.proofs.Judging.{claim-refused, not-padded, claim-accepted}
 use borrow.Author.Needs.{needs}
 use Rattle.judge.proofs.whole.judge_claim.Statement.{statement}
@@ -21,22 +22,26 @@ returns c = λ deal h g told.
     let a = r .before .before .before .args in
     c .refused .ensures
     ∙ claim-refused (a .board) (a .table) (a .out) (a .k) deal h g (a .p) told (a .bytes .now) (a .at) _ (r .before .count .ensures) _ (r .read-claim .ensures)
-    (not-true _ (c .before .if1 .taken))
+    (c .before .if1 .taken)
 
 is-padding-requires : tie.Need-is-padding-requires
 is-padding-requires c κs = search needs
+
+refusal-number-requires : tie.Need-refusal-number-requires
+refusal-number-requires c κs = search needs
 
 refused-requires-2 : tie.Need-refused-requires-2
 refused-requires-2 c κs = search needs
 
 returns-2 : tie.Need-returns-2
 returns-2 c = λ deal h g told.
-    let p = c .before .before in
+    let p = c .before .before .before in
     let r = p .before .before .before in
     let a = r .before .before .before .args in
     c .refused2 .ensures
+    ∙ ap noJudgement (c .before .refusal-number .ensures)
     ∙ not-padded (a .board) (a .table) (a .out) (a .k) deal h g (a .p) told (a .bytes .now) (a .at) _ (r .before .count .ensures) _ (r .read-claim .ensures)
-    (not-false _ (p .before .if1 .left)) (not-false _ (sym (p .is-padding .ensures) ∙ not-true _ (c .before .if2 .taken)))
+    (p .before .if1 .left) (not-false _ (sym (p .is-padding .ensures) ∙ not-true _ (c .before .before .if2 .taken)))
 
 tricks-requires : tie.Need-tricks-requires
 tricks-requires c κs = search needs
@@ -56,8 +61,8 @@ returns-3 c = λ deal h g told.
     let p = w .before .before .before in
     let r = p .before .before .before in
     let a = r .before .before .before .args in
-    claim-accepted (a .board) (a .table) (a .out) (a .k) deal h g (a .p) told (a .bytes .now) (a .at) _ (r .before .count .ensures) _ (r .read-claim .ensures) _ (c .before .tricks-left .ensures)
-    _ _ (w .before .tricks .ensures) (w .revokes .ensures) _ (not-false _ (p .before .if1 .left))
+    claim-accepted (a .board) (a .table) (a .out) (a .k) deal h g (a .p) told (a .bytes .now) (a .at) _ (r .before .count .ensures) _ (r .read-claim .ensures)
+    _ (c .before .tricks-left .ensures) _ _ (w .before .tricks .ensures) (w .revokes .ensures) _ (p .before .if1 .left)
     (not-true _ (sym (p .is-padding .ensures) ∙ not-false _ (w .before .before .if2 .left))) (c .settle-board .ensures)
 
 pub judge-claim-spec : {M : Type 1} → statement M
@@ -69,6 +74,7 @@ judge-claim-spec =
     refused-requires
     returns
     is-padding-requires
+    refusal-number-requires
     refused-requires-2
     returns-2
     tricks-requires

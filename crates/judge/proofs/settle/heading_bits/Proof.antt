@@ -1,9 +1,9 @@
--- `head_pack` meets its contract. Assumes nothing.
+-- `heading_bits` meets its contract. Assumes nothing.
 use Rattle.judge.proofs.Settling.{head-number}
 use native.Mathlib.Omega.{arith}
 use borrow.Author.Needs.{needs}
-use Rattle.judge.proofs.settle.head_pack.Statement.{statement}
-use Rattle.judge.proofs.settle.head_pack.Tie as tie
+use Rattle.judge.proofs.settle.heading_bits.Statement.{statement}
+use Rattle.judge.proofs.settle.heading_bits.Tie as tie
 
 mul-result : tie.Need-mul-result
 mul-result c = search needs
@@ -17,5 +17,5 @@ add-result c = search needs
 returns : tie.Need-returns
 returns c = (head-number (c .args .board) (c .args .table), omega arith)
 
-pub head-pack-spec : {M : Type 1} → statement M
-head-pack-spec = tie.close (tie.spec mul-result mul-result-2 add-result returns)
+pub heading-bits-spec : {M : Type 1} → statement M
+heading-bits-spec = tie.close (tie.spec mul-result mul-result-2 add-result returns)

@@ -1,9 +1,9 @@
--- `play_pack` meets its contract. Assumes nothing.
+-- `contract_bits` meets its contract. Assumes nothing.
 use Rattle.judge.proofs.Settling.{play-number}
 use native.Mathlib.Omega.{arith}
 use borrow.Author.Needs.{needs}
-use Rattle.judge.proofs.settle.play_pack.Statement.{statement}
-use Rattle.judge.proofs.settle.play_pack.Tie as tie
+use Rattle.judge.proofs.settle.contract_bits.Statement.{statement}
+use Rattle.judge.proofs.settle.contract_bits.Tie as tie
 
 cast-contract : tie.Need-cast-contract
 cast-contract c = search needs
@@ -62,8 +62,8 @@ add-result-3 c = search needs
 returns : tie.Need-returns
 returns c = let s = c .before .before .before .before in (play-number (s .args .k) (s .args .won) (s .args .after) (s .args .revokes) (s .args .word), omega arith)
 
-pub play-pack-spec : {M : Type 1} → statement M
-play-pack-spec =
+pub contract-bits-spec : {M : Type 1} → statement M
+contract-bits-spec =
     tie.close
     (tie.spec
     cast-contract
