@@ -18,10 +18,10 @@ unfolding validScore
 too-low (pos n) e = cc
 too-low (negsuc n) e = rw (lt-leb (suc n) 7600 (omega (arith, ltb-true 7599 n e)))
 
-pub too-high : (z : ℤ) → ltZ (pos 7600) z ≡ true → false ≡ validScore z
+pub too-high : (z : ℤ) (most : ℕ) → 7600 ≤ most → ltZ (pos most) z ≡ true → false ≡ validScore z
 unfolding validScore
-too-high (pos n) e = rw (lt-leb n 7600 (ltb-true 7600 n e))
-too-high (negsuc n) e = cc
+too-high (pos n) most h e = rw (lt-leb n 7600 (omega (arith, ltb-true most n e)))
+too-high (negsuc n) most h e = cc
 
 -- a score in the range, 7600 added: a number that ends in 0 exactly when the score is a multiple of ten
 pub record Lifted (z : ℤ) : Type 0 where

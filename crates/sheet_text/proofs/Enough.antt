@@ -13,7 +13,8 @@ use Rattle.laws.specs.Choice.{if_then_else_}
 use Rattle.laws.specs.Decimal.{decimal, signedDecimal}
 use Rattle.laws.specs.Law77.{validScore}
 use Rattle.laws.specs.Law78.{sameScore, occurrences, comparison, comparisons, others, nsMatchpoints, ewMatchpoints}
-use Rattle.laws.specs.Sheet.{fields, header, row, rows, table, refusal, insert, distinct, linesOf, scoreOf, isScore, isZero, isSize, unsigned, refusedLine, sheetOf, sheet}
+use Rattle.laws.specs.Sheet.{fields, header, row, rows, table, refusal, insert, distinct}
+use Rattle.laws.specs.Sheet.{linesOf, scoreOf, isScore, isZero, isSize, unsigned, refusedLine, sheetOf, sheet}
 use Rattle.laws.specs.Tally.{AllValid}
 use Rattle.laws.proofs.Counts.{many-le}
 use Rattle.laws.proofs.Tests.{by-test, and-right, or-left, or-right}

@@ -161,7 +161,8 @@ module _ (k n : ℕ) (s : List ℕ) (longer : n < length s) (one : 1 ≤ n) wher
       (omega (arith, first-length k (take n s) cut-some, line-cut s n (ltb-false (lineLength s) n y)))))))
 
   cut-taken : lineLength s < n → refuses (take (lineLength s) s) k ≡ false
-      → refusedLine (suc k) (linesOf (drop (suc (lineLength s)) s)) ≡ refusedLine (suc k) (linesOf (take (n - suc (lineLength s)) (drop (suc (lineLength s)) s)))
+      → refusedLine (suc k) (linesOf (drop (suc (lineLength s)) s)) ≡ refusedLine (suc k)
+      (linesOf (take (n - suc (lineLength s)) (drop (suc (lineLength s)) s)))
       → refusedLine k (linesOf s) ≡ refusedLine k (linesOf (take n s))
   cut-taken h q e =
       later k s some q ∙ e ∙ sym (later k (take n s) cut-some (rw (same-line h) q)

@@ -137,7 +137,9 @@ module _ (t : Tally) (out₀ : List ℕ) (at₀ : ℕ) (out : List ℕ) (at i : 
           (same-ns _ _ told, same-ew _ _ told)
 
     -- its row
-    its-row : rowsFrom t i ≡ fields (signedDecimal at-i) (decimal of-i) (decimal (nsMatchpoints (scoresIn t) at-i)) (decimal (ewMatchpoints (scoresIn t) at-i)) ++ rowsFrom t (suc i)
+    its-row : rowsFrom t i
+        ≡ fields (signedDecimal at-i) (decimal of-i) (decimal (nsMatchpoints (scoresIn t) at-i)) (decimal (ewMatchpoints (scoresIn t) at-i))
+        ++ rowsFrom t (suc i)
     unfolding rows row
     its-row = rw (used, counted)
 

@@ -62,7 +62,8 @@ module _ (ss : List ℤ) (cs : List ℕ) (i : ℕ) where
   unfolding inOrder
   order-end top room h = rw (drop-of-length-le ss h)
 
-  pub entries-used : i < length ss → i < length cs → (getD cs i 0 ≡ 0 → ⊥) → entriesAt ss cs i ≡ entry (getD ss i (pos 0)) (getD cs i 0) ∷ entriesAt ss cs (suc i)
+  pub entries-used : i < length ss → i < length cs → (getD cs i 0 ≡ 0 → ⊥)
+      → entriesAt ss cs i ≡ entry (getD ss i (pos 0)) (getD cs i 0) ∷ entriesAt ss cs (suc i)
   unfolding entries
   entries-used hs hc u = rw (drop-cons ss i (pos 0), drop-cons cs i 0, ne-eqb (getD cs i 0) 0 u)
 
@@ -99,7 +100,8 @@ module _ (ss : List ℤ) (cs : List ℕ) (i : ℕ) (hs : i < length ss) (hc : i 
   low = (some-low (sameScore (getD ss i (pos 0)) (pos 0)) p ep, some-low (eqb (getD cs i 0) 0) q eq)
 
   pub zeros-turn : (o : ℕ) → (eqb o 0 && zerosAt ss cs i) ≡ (eqb (o + (p + q)) 0 && zerosAt ss cs (i + 1))
-  zeros-turn o = rw (zeros-step ss cs i hs hc, add-one i) (zero-turn (sameScore (getD ss i (pos 0)) (pos 0)) (eqb (getD cs i 0) 0) (zerosAt ss cs (suc i)) o p q ep eq)
+  zeros-turn o =
+      rw (zeros-step ss cs i hs hc, add-one i) (zero-turn (sameScore (getD ss i (pos 0)) (pos 0)) (eqb (getD cs i 0) 0) (zerosAt ss cs (suc i)) o p q ep eq)
 
 -- ---- the whole test
 module _ (t : Tally) where
@@ -107,6 +109,7 @@ module _ (t : Tally) where
   unfolding wellFormed
   bad-board e = rw e
 
-  pub good-board : freshRefusal (t .board) ≡ 0 → length (t .scores) ≡ 128 → length (t .counts) ≡ 128 → wellFormed t ≡ orderAt (t .scores) (t .counts) ceiling 128 0
+  pub good-board : freshRefusal (t .board) ≡ 0 → length (t .scores) ≡ 128 → length (t .counts) ≡ 128
+      → wellFormed t ≡ orderAt (t .scores) (t .counts) ceiling 128 0
   unfolding wellFormed
   good-board e hs hc = rw (e, hs, hc)

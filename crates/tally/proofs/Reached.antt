@@ -52,7 +52,14 @@ module _ (none a : Tally) (n : ℕ) (b : Tally) (m : ℕ) (g : Joinable none a n
   pub counts-split : (y : ℤ) → countOf y (wholeOf a b) ≡ countOf y (entriesIn a) + countOf y (entriesIn b)
   unfolding scoresIn
   counts-split y =
-      omega (arith, in-list (sameScore y) (scoresIn a ++ scoresIn b), many-append (sameScore y) (scoresIn a) (scoresIn b), in-expand (sameScore y) (entriesIn a), in-expand (sameScore y) (entriesIn b))
+      omega (
+        arith,
+        in-list (sameScore y) (scoresIn a ++ scoresIn b),
+        many-append (sameScore y) (scoresIn a) (scoresIn b),
+        in-expand (sameScore y)
+            (entriesIn a),
+        in-expand (sameScore y) (entriesIn b),
+      )
 
   pub whole-split : Split (entriesIn a) (entriesIn b) (wholeOf a b)
   unfolding scoresIn
@@ -67,7 +74,14 @@ module _ (none a : Tally) (n : ℕ) (b : Tally) (m : ℕ) (g : Joinable none a n
 
   pub whole-length : length (wholeOf a b) ≤ 128
   whole-length =
-      omega (arith, length-sum ceiling (wholeOf a b) (ordered-list (scoresIn a ++ scoresIn b) all-valid), sum-list (scoresIn a ++ scoresIn b), length-append (scoresIn a) (scoresIn b), g .room)
+      omega (
+        arith,
+        length-sum ceiling (wholeOf a b) (ordered-list (scoresIn a ++ scoresIn b) all-valid),
+        sum-list (scoresIn a ++ scoresIn b),
+        length-append
+            (scoresIn a) (scoresIn b),
+        g .room,
+      )
 
   pub begins : Reached none a n b m none 0 0 0
   unfolding tallyOf tallyWith entriesOf
@@ -84,7 +98,8 @@ module _ (none a : Tally) (n : ℕ) (b : Tally) (m : ℕ) (g : Joinable none a n
       }
 
 -- the tally where all is written
-all-written : (none a b u : Tally) (k : ℕ) → u .board ≡ none .board → u .scores ≡ written (pos 0) score 128 k (wholeOf a b) → u .counts ≡ written 0 count 128 k (wholeOf a b)
+all-written : (none a b u : Tally) (k : ℕ) → u .board ≡ none .board → u .scores ≡ written (pos 0) score 128 k (wholeOf a b)
+    → u .counts ≡ written 0 count 128 k (wholeOf a b)
     → take k (wholeOf a b) ≡ wholeOf a b → u ≡ tallyOf (none .board) (scoresIn a ++ scoresIn b)
 unfolding tallyOf tallyWith
 all-written none a b u k e f g h =
@@ -127,7 +142,8 @@ module _ (none a : Tally) (n : ℕ) (b : Tally) (m : ℕ) (u : Tally) (i j k : �
       ends z = all-written none a b u k (w .board) (w .scores) (w .counts) (all-taken k (wholeOf a b) (the-turn .ends z))
 
       pub goes : (e .count ≡ 0 → ⊥) → k < 128
-          → Reached none a n b m (record { board = u .board; scores = set (u .scores) k (e .score); counts = set (u .counts) k (e .count) }) (i + e .first) (j + e .second) (k + 1)
+          → Reached none a n b m (record { board = u .board; scores = set (u .scores) k (e .score); counts = set (u .counts) k (e .count) }) (i + e .first)
+          (j + e .second) (k + 1)
       goes z h =
           let t = the-turn .goes z in
           let r = t .rest in

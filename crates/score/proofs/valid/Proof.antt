@@ -16,7 +16,7 @@ returns : tie.Need-returns
 returns c = too-low (c .before .args .score) (rw (whole (c .before)) at (c .if1 .taken))
 
 returns-2 : tie.Need-returns-2
-returns-2 c = too-high (c .before .before .args .score) (rw (whole (c .before .before)) at (c .if2 .taken))
+returns-2 c = too-high (c .before .before .args .score) _ (omega arith) (rw (whole (c .before .before)) at (c .if2 .taken))
 
 add-result : tie.Need-add-result
 add-result c =

@@ -19,7 +19,8 @@ use Rattle.laws.specs.Tally.{freshRefusal}
 use Rattle.laws.proofs.Scores.{le-not-below, not-le-below}
 use Rattle.tally.specs.Tallies.{entriesIn, ceiling, wellFormed}
 use Rattle.tally.proofs.Refusing.{board-zero, board-over, board-good}
-use Rattle.tally.proofs.Places.{orderAt, order-used, order-unused, order-end, entriesAt, entries-used, entries-unused, entries-end, bad-board, good-board}
+use Rattle.tally.proofs.Places.{orderAt, order-used, order-unused, order-end, entriesAt}
+use Rattle.tally.proofs.Places.{entries-used, entries-unused, entries-end, bad-board, good-board}
 use Rattle.tally.proofs.Ordered.{sumOf}
 use Rattle.tally.proofs.Checking.{not-good, counted}
 use Rattle.tally.proofs.check.Statement.{statement}
@@ -47,7 +48,8 @@ by-places c = good-board (c .before .before .args .t1) (board-ok c) (search need
 used : (c : tie.Else3 Inv-loop μ-loop) →
     let a = c .before .before .before .before .before .before .args .t1 in
     let l = c .before .before .before .loop in
-    orderAt (a .scores) (a .counts) ceiling 128 0 ≡ validScore (getD (a .scores) (l .i) (pos 0)) && (ltZ (getD (a .scores) (l .i) (pos 0)) (toZ w16 (l .top)) && (leb (getD (a .counts) (l .i) 0) (l .room)
+    orderAt (a .scores) (a .counts) ceiling 128 0 ≡ validScore (getD (a .scores) (l .i) (pos 0)) &&
+    (ltZ (getD (a .scores) (l .i) (pos 0)) (toZ w16 (l .top)) && (leb (getD (a .counts) (l .i) 0) (l .room)
     && orderAt (a .scores) (a .counts) (getD (a .scores) (l .i) (pos 0)) (l .room - getD (a .counts) (l .i) 0) (suc (l .i))))
 used c =
     let a = c .before .before .before .before .before .before .args .t1 in
@@ -59,7 +61,8 @@ score-is : (c : tie.After-s Inv-loop μ-loop) →
     let x = getD (c .before .before .before .before .before .before .before .args .t1 .scores) (c .before .before .before .before .loop .i) (pos 0) in
     toZ w16 (ofZ w16 x) ≡ x
 score-is c =
-    let f : SFits w16 (getD (c .before .before .before .before .before .before .before .args .t1 .scores) (c .before .before .before .before .loop .i) (pos 0)) = search needs in
+    let f : SFits w16 (getD (c .before .before .before .before .before .before .before .args .t1 .scores) (c .before .before .before .before .loop .i)
+    (pos 0)) = search needs in
     toZ-ofZ f
 
 malformed-requires : tie.Need-malformed-requires Inv-loop μ-loop
@@ -74,7 +77,9 @@ malformed-requires-2 c κs = search needs
 
 returns-2 : tie.Need-returns-2 Inv-loop μ-loop
 returns-2 c =
-    not-good _ _ (c .malformed2 .ensures) (bad-board (c .before .before .before .args .t1) (board-over (c .before .before .before .args .t1 .board) (c .before .before .if1 .left) (c .before .if2 .taken)))
+    not-good _ _ (c .malformed2 .ensures)
+    (bad-board (c .before .before .before .args .t1)
+    (board-over (c .before .before .before .args .t1 .board) (c .before .before .if1 .left) (c .before .if2 .taken)))
 
 loop-holds : tie.Need-loop-holds Inv-loop μ-loop
 loop-holds c = (search needs, search needs, search needs, search needs, refl, omega arith, omega arith)
@@ -116,7 +121,8 @@ returns-4 : tie.Need-returns-4 Inv-loop μ-loop
 returns-4 c =
     let z = score-is (c .before .before .before) in
     let v = sym (rw z at (c .before .before .valid .ensures)) ∙ not-true _ (c .before .if4 .taken) in
-    not-good _ _ (c .malformed3 .ensures) (rw (by-places (c .before .before .before .before .before .before .before .before)) (sym (used (c .before .before .before .before) ∙ rw v)))
+    not-good _ _ (c .malformed3 .ensures)
+    (rw (by-places (c .before .before .before .before .before .before .before .before)) (sym (used (c .before .before .before .before) ∙ rw v)))
 
 malformed-requires-4 : tie.Need-malformed-requires-4 Inv-loop μ-loop
 malformed-requires-4 c κs = search needs
@@ -129,14 +135,17 @@ returns-5 c =
     let z = score-is (c .before .before .before .before) in
     let v = sym (rw z at (c .before .before .before .valid .ensures)) ∙ not-false _ (c .before .before .if4 .left) in
     let q = le-not-below (toZ w16 (l .top)) x (rw z at (c .before .if5 .taken)) in
-    not-good _ _ (c .malformed4 .ensures) (rw (by-places (c .before .before .before .before .before .before .before .before .before)) (sym (used (c .before .before .before .before .before) ∙ rw (v, q))))
+    not-good _ _ (c .malformed4 .ensures)
+    (rw (by-places (c .before .before .before .before .before .before .before .before .before))
+    (sym (used (c .before .before .before .before .before) ∙ rw (v, q))))
 
 -- past the tests of the score the answer is that of its count, and of the places after it
 falling : (d : tie.Else5 Inv-loop μ-loop) →
     let a = d .before .before .before .before .before .before .before .before .before .before .args .t1 in
     let l = d .before .before .before .before .before .before .before .loop in
     let x = getD (a .scores) (l .i) (pos 0) in
-    orderAt (a .scores) (a .counts) ceiling 128 0 ≡ (leb (getD (a .counts) (l .i) 0) (l .room) && orderAt (a .scores) (a .counts) x (l .room - getD (a .counts) (l .i) 0) (suc (l .i)))
+    orderAt (a .scores) (a .counts) ceiling 128 0 ≡
+    (leb (getD (a .counts) (l .i) 0) (l .room) && orderAt (a .scores) (a .counts) x (l .room - getD (a .counts) (l .i) 0) (suc (l .i)))
 falling d =
     let a = d .before .before .before .before .before .before .before .before .before .before .args .t1 in
     let l = d .before .before .before .before .before .before .before .loop in
@@ -151,7 +160,9 @@ malformed-requires-5 c κs = search needs
 
 returns-6 : tie.Need-returns-6 Inv-loop μ-loop
 returns-6 c =
-    not-good _ _ (c .malformed5 .ensures) (rw (by-places (c .before .before .before .before .before .before .before .before .before .before)) (sym (rw (lt-leb _ _ (c .before .if6 .taken)) at (falling (c .before .before)))))
+    not-good _ _ (c .malformed5 .ensures)
+    (rw (by-places (c .before .before .before .before .before .before .before .before .before .before))
+    (sym (rw (lt-leb _ _ (c .before .if6 .taken)) at (falling (c .before .before)))))
 
 add-i : tie.Need-add-i Inv-loop μ-loop
 add-i c = search needs

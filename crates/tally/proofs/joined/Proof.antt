@@ -39,7 +39,11 @@ entry-at-requires-2 : tie.Need-entry-at-requires-2 Inv-loop μ-loop
 entry-at-requires-2 c κs = second-end _ _ _ _ _ _ _ _ _ (begins _ _ _ _ _ (c .before .before .before .before .before .before .before .pre))
 
 loop-holds : tie.Need-loop-holds Inv-loop μ-loop
-loop-holds c = (begins _ _ _ _ _ (c .before .before .before .before .before .before .before .before .pre), c .before .before .before .before .entry-at .ensures, c .entry-at2 .ensures)
+loop-holds c = (
+  begins _ _ _ _ _ (c .before .before .before .before .before .before .before .before .pre),
+  c .before .before .before .before .entry-at .ensures,
+  c .entry-at2 .ensures,
+)
 
 add-entry-at : tie.Need-add-entry-at Inv-loop μ-loop
 add-entry-at c =
@@ -96,17 +100,20 @@ add-j c =
     omega (arith, takes h .1, l .inv .0 .of-second, l .inv .0 .places)
 
 add-k : tie.Need-add-k Inv-loop μ-loop
-add-k c = omega (arith, c .before .before .before .before .before .before .before .before .before .before .before .before .before .before .before .loop-test .taken)
+add-k c =
+    omega (arith, c .before .before .before .before .before .before .before .before .before .before .before .before .before .before .before .loop-test .taken)
 
 loop-less : tie.Need-loop-less Inv-loop μ-loop
-loop-less c = omega (arith, c .before .before .before .before .before .before .before .before .before .before .before .before .before .before .before .loop-test .taken)
+loop-less c =
+    omega (arith, c .before .before .before .before .before .before .before .before .before .before .before .before .before .before .before .loop-test .taken)
 
 loop-again : tie.Need-loop-again Inv-loop μ-loop
 loop-again c =
     let h = c .before .before .before .before .before .before in
     let l = at-loop h .loop in
     let y = h .before in
-    let turn = goes _ _ _ _ _ _ _ _ _ (l .inv .0) _ _ (l .inv .1) (l .inv .2) _ (h .higher .ensures) (c .before .before .before .before .if1 .left) (y .before .before .before .before .before .before .before .before .loop-test .taken) in (
+    let turn = goes _ _ _ _ _ _ _ _ _ (l .inv .0) _ _ (l .inv .1) (l .inv .2) _ (h .higher .ensures) (c .before .before .before .before .if1 .left)
+    (y .before .before .before .before .before .before .before .before .loop-test .taken) in (
       rw (toZ-ofZ (score-fits (c .before .before .before .before .before))) turn,
       c .before .before .before .next-of .ensures ∙ next-entry _ _ _ _ _ _ _ (takes h .0) (l .inv .1) (y .before .before .before .before .entry-at3 .ensures),
       c .before .before .next-of2 .ensures ∙ next-entry _ _ _ _ _ _ _ (takes h .1) (l .inv .2) (y .entry-at4 .ensures),

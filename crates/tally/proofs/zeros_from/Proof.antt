@@ -47,7 +47,8 @@ told : (c : tie.After-some-count Inv-loop μ-loop) →
     let x = getD (c .before .before .before .before .before .before .args .scores .now) (c .before .before .before .before .before .loop .i) (pos 0) in
     c .before .before .some-score .result ≡ (if sameScore x (pos 0) then 0 else 1)
 told c =
-    let f : SFits w16 (getD (c .before .before .before .before .before .before .args .scores .now) (c .before .before .before .before .before .loop .i) (pos 0)) = search needs in
+    let f : SFits w16 (getD (c .before .before .before .before .before .before .args .scores .now) (c .before .before .before .before .before .loop .i)
+    (pos 0)) = search needs in
     rw (toZ-ofZ f) at (c .before .before .some-score .ensures)
 
 -- at most one for each

@@ -81,7 +81,8 @@ returns-4 : tie.Need-returns-4
 unfolding saidText
 returns-4 c =
     let st = c .before .before .before .before .before .before .before in
-    rw (c .before .before .before .before .enum-told2 .given .1) (c .before .before .put-refusal .ensures, line-short (st .args .line) (omega (arith, st .fits .line .fits)))
+    rw (c .before .before .before .before .enum-told2 .given .1)
+    (c .before .before .put-refusal .ensures, line-short (st .args .line) (omega (arith, st .fits .line .fits)))
 
 pub put-said-spec : {M : Type 1} → statement M
 put-said-spec =

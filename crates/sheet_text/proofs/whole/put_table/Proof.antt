@@ -30,7 +30,8 @@ loop-holds c =
     let t = c .before .before .before .before .before .before .args .t2 in
     let ss : length (t .scores) ≡ 128 = search needs in
     let cs : length (t .counts) ≡ 128 = search needs in
-    begins t _ _ ss cs (c .before .before .before .before .before .before .pre .1) (c .before .before .put-bytes .ensures .place) (rw (put-length (c .before .before .put-bytes .ensures)) (c .before .before .before .before .before .before .pre .0))
+    begins t _ _ ss cs (c .before .before .before .before .before .before .pre .1) (c .before .before .put-bytes .ensures .place)
+    (rw (put-length (c .before .before .put-bytes .ensures)) (c .before .before .before .before .before .before .pre .0))
 
 element-copy-out-count : tie.Need-element-copy-out-count Inv-loop μ-loop
 element-copy-out-count c = omega arith
@@ -40,7 +41,10 @@ same-length c = put-length (c .before .before .before .loop .inv .put) ∙ put-l
 
 returns : tie.Need-returns Inv-loop μ-loop
 unfolding header
-returns c = rw (table-rows _ (c .before .before .before .before .before .before .before .before .before .before .pre .1)) (then (c .before .before .before .before .before .before .put-bytes .ensures) (ends _ _ _ _ _ _ (c .before .before .before .loop .inv) (c .before .before .loop-test .taken) (c .if1 .taken)))
+returns c =
+    rw (table-rows _ (c .before .before .before .before .before .before .before .before .before .before .pre .1))
+    (then (c .before .before .before .before .before .before .put-bytes .ensures)
+    (ends _ _ _ _ _ _ (c .before .before .before .loop .inv) (c .before .before .loop-test .taken) (c .if1 .taken)))
 
 mul-score : tie.Need-mul-score Inv-loop μ-loop
 mul-score c = omega arith
@@ -58,12 +62,15 @@ enum-told : tie.Need-enum-told Inv-loop μ-loop
 enum-told c = search needs
 
 same-length-2 : tie.Need-same-length-2 Inv-loop μ-loop
-same-length-2 c = put-length (c .before .before .before .before .before .before .before .loop .inv .put) ∙ put-length (c .before .before .before .before .before .before .before .before .before .before .put-bytes .ensures)
+same-length-2 c =
+    put-length (c .before .before .before .before .before .before .before .loop .inv .put) ∙ put-length
+    (c .before .before .before .before .before .before .before .before .before .before .put-bytes .ensures)
 
 returns-2 : tie.Need-returns-2 Inv-loop μ-loop
 returns-2 c =
     let l = c .before .before .before .before .before .before .before .loop in
-    absurd (not-refused _ _ _ _ _ _ (l .inv) (c .before .before .before .before .before .before .loop-test .taken) (c .before .before .before .before .if1 .left) _ (c .before .before .matchpoints .ensures) _ (c .enum-told .given .1))
+    absurd (not-refused _ _ _ _ _ _ (l .inv) (c .before .before .before .before .before .before .loop-test .taken)
+    (c .before .before .before .before .if1 .left) _ (c .before .before .matchpoints .ensures) _ (c .enum-told .given .1))
 
 cast-put-row : tie.Need-cast-put-row Inv-loop μ-loop
 cast-put-row c = search needs
@@ -88,7 +95,9 @@ loop-again c =
     let l = c .before .before .before .before .before .before .before .before .before .before .before .before .loop in
     let h = c .before .before .before .before .before .before .before .before .before .before .before .loop-test .taken in
     let u = c .before .before .before .before .before .before .before .before .before .if1 .left in
-    let p = both _ _ _ _ _ _ (l .inv) h u _ (c .before .before .before .before .before .before .before .matchpoints .ensures) _ _ (c .before .before .before .before .before .points .given .1) in
+    let p =
+    both _ _ _ _ _ _ (l .inv) h u _ (c .before .before .before .before .before .before .before .matchpoints .ensures) _ _
+    (c .before .before .before .before .before .points .given .1) in
     goes _ _ _ _ _ _ (l .inv) h u _ _ (p .0) (p .1) _ _ (rw (as-held _ _ _ _ _ _ (l .inv) h u) at (c .before .before .put-row .ensures))
 
 same-length-3 : tie.Need-same-length-3 Inv-loop μ-loop
@@ -96,7 +105,9 @@ same-length-3 c = put-length (c .before .loop .inv .put) ∙ put-length (c .befo
 
 returns-3 : tie.Need-returns-3 Inv-loop μ-loop
 unfolding header
-returns-3 c = rw (table-rows _ (c .before .before .before .before .before .before .before .before .pre .1)) (then (c .before .before .before .before .put-bytes .ensures) (full _ _ _ _ _ _ (c .before .loop .inv) (c .loop-test .left)))
+returns-3 c =
+    rw (table-rows _ (c .before .before .before .before .before .before .before .before .pre .1))
+    (then (c .before .before .before .before .put-bytes .ensures) (full _ _ _ _ _ _ (c .before .loop .inv) (c .loop-test .left)))
 
 pub put-table-spec : {M : Type 1} → statement M
 put-table-spec =

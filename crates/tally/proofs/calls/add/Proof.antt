@@ -36,7 +36,8 @@ number c =
     let invalid = full .before in
     let well = invalid .before .before in
     let st = well .before .before .before in
-    add-number (st .args .t) (st .args .score) (is-well well) _ _ _ _ (size-is well) (rw (whole st) at (invalid .score-refusal .ensures)) (full .room-refusal .ensures)
+    add-number (st .args .t) (st .args .score) (is-well well) _ _ _ _ (size-is well) (rw (whole st) at (invalid .score-refusal .ensures))
+    (full .room-refusal .ensures)
     (c .first .ensures)
 
 one-is : (c : tie.After-single) →
@@ -92,7 +93,8 @@ returns-3 c =
     let single = c .before in
     let first = single .before .before .before in
     let well = first .before .before .before .before in
-    add-accepted _ _ (is-well well) _ (size-is well) _ _ (single .before .empty .ensures) (one-is single) (sym (number first) ∙ single .before .before .if2 .left) _ (c .joined .ensures)
+    add-accepted _ _ (is-well well) _ (size-is well) _ _ (single .before .empty .ensures) (one-is single)
+    (sym (number first) ∙ single .before .before .if2 .left) _ (c .joined .ensures)
 
 pub add-spec : {M : Type 1} → statement M
 add-spec =

@@ -90,7 +90,8 @@ joined-requires c κs =
     let none = c .before .before in
     let second = none .before .before .before .before .before in
     let first = second .before .before .before in
-    merge-joinable _ _ (first-well first) (second-well second) _ _ (first-size first) (second-size second) _ (c .empty .ensures) (sym (number none) ∙ c .before .if3 .left)
+    merge-joinable _ _ (first-well first) (second-well second) _ _ (first-size first) (second-size second) _ (c .empty .ensures)
+    (sym (number none) ∙ c .before .if3 .left)
 
 returns-4 : tie.Need-returns-4
 returns-4 c =
