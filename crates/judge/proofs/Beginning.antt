@@ -120,16 +120,18 @@ module _ (bytes : List ℕ) (t : Heading) (et : t ≡ headingOf (Judge.readHeadi
       pub calls-refused : (c .refusal ≡ 0 → ⊥) → noJudgement (c .refusal) ≡ judgedOf (Judge.readRecord bytes 0)
       calls-refused e = rw (from-calls, ec) (calls-stop (Judge.readCalls seat bytes 120) (rw ec at e))
 
-      calls-end : (q : Reading (List ℕ)) → Judge.readCalls seat bytes 120 ≡ q → callsOf seat q .refusal ≡ 0 → callsOf seat q .next < 16384
+      calls-end : (q : Reading (List ℕ)) → Judge.readCalls seat bytes 120 ≡ q → callsOf seat q .refusal ≡ 0 → (8 ≤ callsOf seat q .next) × (callsOf seat q .next < 16384)
       calls-end (refused n place) q e = absurd (not-0 (subst Fair q (fair-calls seat bytes 120)) e)
-      calls-end (found h at) q e = omega (arith, calls-next seat bytes 120 q)
+      calls-end (found h at) q e = let n = calls-next seat bytes 120 q in (omega arith, omega arith)
 
       hands-go : (q : Reading (List ℕ)) → Judge.readDeal bytes 16 ≡ q → dealOf q .refusal ≡ 0 → dealOf q .hands ≡ wordsOf (dealOf q .holders)
       hands-go (refused n place) q e = absurd (not-0 (subst Fair q (fair-deal bytes 16)) e)
       hands-go (found deal at) q e = refl
 
-      pub calls-bound : c .refusal ≡ 0 → (c .next < 16384) × (d .hands ≡ wordsOf (d .holders))
-      calls-bound e = (rw ec (calls-end (Judge.readCalls seat bytes 120) refl (rw ec at e)), rw ed (hands-go (Judge.readDeal bytes 16) refl (rw ed at od)))
+      pub calls-bound : c .refusal ≡ 0 → (8 ≤ c .next) × (c .next < 16384) × (d .hands ≡ wordsOf (d .holders))
+      calls-bound e =
+          let n = rw (← ec) at (calls-end (Judge.readCalls seat bytes 120) refl (rw ec at e)) in
+          (n .0, n .1, rw ed (hands-go (Judge.readDeal bytes 16) refl (rw ed at od)))
 
       module _ (r : Judged) where
         -- the answer, given any calls that this position is of

@@ -58,7 +58,7 @@ each-found w place rule bytes (suc n) h at q c =
     (f .0, omega (arith, f .1, mul-suc w n))
 
 -- ---- the calls that were read end soon enough
-pub calls-next : (d : ℕ) (bytes : List ℕ) (at : ℕ) {h : List ℕ} {e : ℕ} → Judge.readCalls d bytes at ≡ found h e → e ≤ at + 3075
+pub calls-next : (d : ℕ) (bytes : List ℕ) (at : ℕ) {h : List ℕ} {e : ℕ} → Judge.readCalls d bytes at ≡ found h e → (at ≤ e) × (e ≤ at + 3075)
 unfolding Judge.readCalls Clean
 calls-next d bytes at q =
     let r = first-read 9 bytes at _ q in
@@ -67,7 +67,7 @@ calls-next d bytes at q =
     let t = first-test auctionUnfinished count (not (Law.isOver (s .0))) bytes (s .1) _ (s .3) in
     let f = each-found 6 Law.callPlace (callRefusal d) bytes count [] (at + 9) (s .2) tt in
     let z = found-same (t .1) in
-    omega (arith, f .1, z .1, number-lt bytes at 9)
+    (omega (arith, f .1, z .1), omega (arith, f .1, z .1, number-lt bytes at 9))
 
 -- ---- the cards that were read: none was refused, and they end soon enough
 pub record Allowed (trump opening : ℕ) (deal g : List ℕ) (at e : ℕ) : Type 0 where

@@ -1,4 +1,6 @@
 // The cards, read in order and judged each on those before it, as the Laws' section of that name is.
+use crate::codes::code_ending;
+use crate::codes::whole_codes;
 use crate::reading::narrow;
 use field::Field;
 use laws::RECORD_ENDS;
@@ -7,7 +9,7 @@ use laws::refusal_number;
 use play::Play;
 ghost use mathlib.Core.Path.{_≡_};
 ghost use mathlib.Core.List.{[]};
-ghost use Prim.Native.Nat.{_<_};
+ghost use Prim.Native.Nat.{_<_, _≤_};
 ghost use Rattle.laws.specs.Choice.{if_then_else_};
 ghost use Rattle.laws.specs.Law44.{cardsPlayed};
 ghost use Rattle.laws.specs.CardRefusal.{cardRefusal};
@@ -43,17 +45,15 @@ fn read_each_card(
     at: usize,
     count: u8,
 ) -> Cards
-    requires { ⌜ (at < 65536) × (count < 64) × (hands ≡ wordsOf deal) ⌝ }
+    requires { ⌜ (8 ≤ at) × (at < 65536) × (count < 64) × (hands ≡ wordsOf deal) ⌝ }
     ensures { λ r. ⌜ r ≡ cardsOf deal trump opening (readEach 6 cardsPlayed (cardRefusal trump opening deal) count [] (now (bytes .entry)) at) ⌝ }
 {
+    let whole = whole_codes(bytes, at, count as u16);
     let mut p = Play::new(deal, hands, trump, opening);
     let mut here = at;
-    let mut i: u8 = 0;
-    while i < count {
-        let Field::Value(code) = field::read(bytes, here, 6) else {
-            return no_cards(RECORD_ENDS, 0);
-        };
-        let c = narrow(code);
+    let mut i: u64 = 0;
+    while i < whole {
+        let c = code_ending(bytes, here + 5);
         let f = p.refusal(c);
         if f != 0 {
             return no_cards(f, i as u16);
@@ -61,6 +61,9 @@ fn read_each_card(
         p = p.play(c);
         here += 6;
         i += 1;
+    }
+    if whole < count as u64 {
+        return no_cards(RECORD_ENDS, 0);
     }
     Cards {
         refusal: 0,
@@ -86,7 +89,7 @@ pub(crate) fn read_cards(
     opening: u8,
     at: usize,
 ) -> Cards
-    requires { ⌜ (at < 32768) × (hands ≡ wordsOf deal) ⌝ }
+    requires { ⌜ (8 ≤ at) × (at < 32768) × (hands ≡ wordsOf deal) ⌝ }
     ensures { λ r. ⌜ r ≡ cardsOf deal trump opening (cardsBy out trump opening deal (now (bytes .entry)) at) ⌝ }
 {
     let Field::Value(count) = field::read(bytes, at, 6) else {

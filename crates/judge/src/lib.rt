@@ -1,6 +1,7 @@
 // The judge of table records: the record read in order, scored by Law 77, the answer written.
 mod cards;
 mod claim;
+mod codes;
 mod law77;
 mod reading;
 mod settle;

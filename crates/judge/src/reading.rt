@@ -1,4 +1,6 @@
 // The record up to the last call, read in order: board and table, deal, calls. Each section is read as the Laws' section of that name is.
+use crate::codes::code_ending;
+use crate::codes::whole_codes;
 use auction::Auction;
 use field::Field;
 use laws::AUCTION_UNFINISHED;
@@ -90,24 +92,25 @@ fn no_calls(refusal: u8, place: u16) -> Calls
 
 // So many calls from a bit on, each judged on those before it.
 fn read_each_call(bytes: &[u8], dealer: u8, at: usize, count: u16) -> Calls
-    requires { ⌜ (at < 65536) × (count < 512) ⌝ }
+    requires { ⌜ (8 ≤ at) × (at < 65536) × (count < 512) ⌝ }
     ensures { λ r. ⌜ r ≡ callsOf dealer (readEach 6 callPlace (callRefusal dealer) count [] (now (bytes .entry)) at) ⌝ }
 {
+    let whole = whole_codes(bytes, at, count);
     let mut a = Auction::new(dealer);
     let mut here = at;
-    let mut i: u16 = 0;
-    while i < count {
-        let Field::Value(code) = field::read(bytes, here, 6) else {
-            return no_calls(RECORD_ENDS, 0);
-        };
-        let c = narrow(code);
+    let mut i: u64 = 0;
+    while i < whole {
+        let c = code_ending(bytes, here + 5);
         let f = a.refusal(c);
         if f != 0 {
-            return no_calls(f, i);
+            return no_calls(f, i as u16);
         }
         a = a.call(c);
         here += 6;
         i += 1;
+    }
+    if whole < count as u64 {
+        return no_calls(RECORD_ENDS, 0);
     }
     Calls {
         refusal: 0,
@@ -118,7 +121,7 @@ fn read_each_call(bytes: &[u8], dealer: u8, at: usize, count: u16) -> Calls
 
 // The calls, from their count on.
 pub(crate) fn read_calls(bytes: &[u8], dealer: u8, at: usize) -> Calls
-    requires { ⌜ at < 32768 ⌝ }
+    requires { ⌜ (8 ≤ at) × (at < 32768) ⌝ }
     ensures { λ r. ⌜ r ≡ callsOf dealer (readCalls dealer (now (bytes .entry)) at) ⌝ }
 {
     let Field::Value(count) = field::read(bytes, at, 9) else {

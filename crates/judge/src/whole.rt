@@ -134,7 +134,7 @@ fn judge_play(
     a: Auction,
     at: usize,
 ) -> Judged
-    requires { ⌜ (at < 16384) × (hands ≡ wordsOf holders) ⌝ }
+    requires { ⌜ (8 ≤ at) × (at < 16384) × (hands ≡ wordsOf holders) ⌝ }
     ensures { λ r. ⌜ ((h : List ℕ) → OfCalls board a holders h → r ≡ judgedOf (afterCalls board table holders h (now (bytes .entry)) at)) ⌝ }
 {
     let out = a.is_passed_out();

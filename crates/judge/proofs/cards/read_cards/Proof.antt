@@ -65,7 +65,7 @@ add-read-each-card c = search needs
 read-each-card-requires : tie.Need-read-each-card-requires
 read-each-card-requires c κs =
     let w = c .before .before in
-    (omega arith, omega (arith, w .narrow .ensures, few (w .before)), w .before .before .before .before .before .before .pre .1)
+    (omega arith, omega arith, omega (arith, w .narrow .ensures, few (w .before)), w .before .before .before .before .before .before .pre .2)
 
 returns-3 : tie.Need-returns-3
 returns-3 c =

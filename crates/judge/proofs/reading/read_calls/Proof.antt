@@ -45,7 +45,7 @@ add-read-each-call : tie.Need-add-read-each-call
 add-read-each-call c = search needs
 
 read-each-call-requires : tie.Need-read-each-call-requires
-read-each-call-requires c κs = (omega arith, few c)
+read-each-call-requires c κs = (omega arith, omega arith, few c)
 
 returns-2 : tie.Need-returns-2
 returns-2 c = let e = c .before .before in calls-stopped _ _ _ _ (count-reads (e .before)) _ (e .read-each-call .ensures) (c .if1 .taken)

@@ -19,7 +19,7 @@ opening-leader-requires : tie.Need-opening-leader-requires
 opening-leader-requires c κs = search needs
 
 read-cards-requires : tie.Need-read-cards-requires
-read-cards-requires c κs = (omega (arith, c .before .before .before .before .pre .0), c .before .before .before .before .pre .1)
+read-cards-requires c κs = let p = c .before .before .before .before .pre in (p .0, omega (arith, p .1), p .2)
 
 refused-requires : tie.Need-refused-requires
 refused-requires c κs = search needs
@@ -38,7 +38,7 @@ judge-claim-requires c κs =
     let r = c .before .before .before in
     let s = r .before .before .before .before .before in
     let all : length (s .args .holders) ≡ 52 = search needs in
-    card-bounds _ _ _ (s .args .holders) (s .args .bytes .now) (s .args .at) all _ (r .read-cards .ensures) (c .before .if1 .left) (s .pre .0)
+    card-bounds _ _ _ (s .args .holders) (s .args .bytes .now) (s .args .at) all _ (r .read-cards .ensures) (c .before .if1 .left) (s .pre .1)
 
 returns-2 : tie.Need-returns-2
 returns-2 c = λ h told.
