@@ -10,6 +10,9 @@ use crate::words::choose;
 use crate::words::entered;
 use crate::words::greater;
 use crate::words::with_bit;
+use laws::ACCEPTED;
+use laws::CARD_NOT_HELD;
+use laws::NO_CARD;
 ghost use mathlib.Core.Path.{_≡_};
 ghost use Prim.Native.Nat.{_<_};
 ghost use Rattle.play.specs.Words.{bitOf};
@@ -75,9 +78,9 @@ impl CardVerdict {
         ensures { λ r. ⌜ r ≡ verdictNumber self ⌝ }
     {
         match self {
-            CardVerdict::Playable => 0,
-            CardVerdict::NoCard => 11,
-            CardVerdict::NotHeld => 12,
+            CardVerdict::Playable => ACCEPTED,
+            CardVerdict::NoCard => NO_CARD,
+            CardVerdict::NotHeld => CARD_NOT_HELD,
         }
     }
 }
