@@ -22,7 +22,8 @@ abbrev pub Byte : List ℕ → ℕ → ℕ → Type 0
 Byte bytes i b = (b ≡ getD bytes i 0) × (b < 256)
 
 -- three bytes as one number
-pub number-three : (bytes : List ℕ) (q : ℕ) {a b c : ℕ} → Byte bytes q a → Byte bytes (q + 1) b → Byte bytes (q + 2) c → a * 65536 + b * 256 + c ≡ numberAt bytes (8 * q) 24
+pub number-three : (bytes : List ℕ) (q : ℕ) {a b c : ℕ} → Byte bytes q a → Byte bytes (q + 1) b → Byte bytes (q + 2) c → a * 65536 + b * 256 + c
+    ≡ numberAt bytes (8 * q) 24
 number-three bytes q ha hb hc =
     let e : 8 * q + 8 ≡ 8 * (q + 1) = omega arith in
     let f : 8 * q + 16 ≡ 8 * (q + 2) = omega arith in

@@ -130,7 +130,8 @@ module _ (bytes : List ℕ) (answer list : List ℕ) where
     abbrev Put : Judged → List ℕ → List ℕ → Type 0
     Put x a l = (a ≡ bytesOf 7 (x .bits) ++ drop 7 answer) × (l ≡ take (x .revokes .count) (x .revokes .list) ++ drop (x .revokes .count) list)
 
-    takes : (r : Reading Parts) → Judge.readRecord bytes 0 ≡ r → judgedOf r .refusal ≡ 0 → said ≡ Judge.outcome r → {a l : List ℕ} → Put (judgedOf r) a l → Left 0 a l
+    takes : (r : Reading Parts) → Judge.readRecord bytes 0 ≡ r → judgedOf r .refusal ≡ 0 → said ≡ Judge.outcome r → {a l : List ℕ} → Put (judgedOf r) a l
+        → Left 0 a l
     unfolding answerLeft listLeft _over_ listedIn revokeBytes
     takes (refused n place) q e o w = absurd (not-0 o e)
     takes (found p at) q e o w =

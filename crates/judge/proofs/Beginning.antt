@@ -79,7 +79,8 @@ module _ (bytes : List ℕ) (t : Heading) (et : t ≡ headingOf (Judge.readHeadi
   abbrev dealRest : Heading → Reading (List ℕ) → Reading Parts
   dealRest top r = onward r (λ deal behind. afterDeal (top .board) (top .table) deal bytes behind)
 
-  heading-goes : (q : Reading Judge.Heading) → Judge.readHeading bytes 0 ≡ q → headingOf q .refusal ≡ 0 → onward q rest ≡ dealRest (headingOf q) (Judge.readDeal bytes 16)
+  heading-goes : (q : Reading Judge.Heading) → Judge.readHeading bytes 0 ≡ q → headingOf q .refusal ≡ 0 → onward q rest
+      ≡ dealRest (headingOf q) (Judge.readDeal bytes 16)
   heading-goes (refused n place) q e = absurd (not-0 (subst Fair q (fair-heading bytes 0)) e)
   heading-goes (found top at) q e = ap (rest top) (heading-end bytes q)
 
@@ -120,7 +121,8 @@ module _ (bytes : List ℕ) (t : Heading) (et : t ≡ headingOf (Judge.readHeadi
       pub calls-refused : (c .refusal ≡ 0 → ⊥) → noJudgement (c .refusal) ≡ judgedOf (Judge.readRecord bytes 0)
       calls-refused e = rw (from-calls, ec) (calls-stop (Judge.readCalls seat bytes 120) (rw ec at e))
 
-      calls-end : (q : Reading (List ℕ)) → Judge.readCalls seat bytes 120 ≡ q → callsOf seat q .refusal ≡ 0 → (8 ≤ callsOf seat q .next) × (callsOf seat q .next < 16384)
+      calls-end : (q : Reading (List ℕ)) → Judge.readCalls seat bytes 120 ≡ q → callsOf seat q .refusal ≡ 0 → (8 ≤ callsOf seat q .next)
+          × (callsOf seat q .next < 16384)
       calls-end (refused n place) q e = absurd (not-0 (subst Fair q (fair-calls seat bytes 120)) e)
       calls-end (found h at) q e = let n = calls-next seat bytes 120 q in (omega arith, omega arith)
 
@@ -138,7 +140,8 @@ module _ (bytes : List ℕ) (t : Heading) (et : t ≡ headingOf (Judge.readHeadi
         abbrev Tells : Calls → Type 0
         Tells x = (h : List ℕ) → OfCalls (t .board) (x .after) (d .holders) h → r ≡ judgedOf (afterCalls (t .board) (t .table) (d .holders) h bytes (x .next))
 
-        calls-go : (q : Reading (List ℕ)) → Judge.readCalls seat bytes 120 ≡ q → callsOf seat q .refusal ≡ 0 → Tells (callsOf seat q) → r ≡ judgedOf (callRest q)
+        calls-go : (q : Reading (List ℕ)) → Judge.readCalls seat bytes 120 ≡ q → callsOf seat q .refusal ≡ 0 → Tells (callsOf seat q) → r
+            ≡ judgedOf (callRest q)
         calls-go (refused n place) q e f = absurd (not-0 (subst Fair q (fair-calls seat bytes 120)) e)
         calls-go (found h at) q e f = f h (record { deal-of = deal-read .0; position = ap (λ (s : ℕ). Calls.positionOf s h) es })
 

@@ -61,7 +61,8 @@ module _ (bytes deal : List ℕ) (trump opening at n : ℕ) where
 
   module _ {p : Play} {here i : ℕ} (r : CardsAt p here i) (t : i < n) where
     pub card-short : read 6 bytes here ≡ refused 2 0 → noCards 2 0 ≡ cardsOf deal trump opening cards
-    card-short q = sym (ap (cardsOf deal trump opening) (short 6 cardsPlayed (cardRefusal trump opening deal) placed bytes at n (positionOf deal trump opening) r t q))
+    card-short q = sym (ap (cardsOf deal trump opening)
+        (short 6 cardsPlayed (cardRefusal trump opening deal) placed bytes at n (positionOf deal trump opening) r t q))
 
     module _ (all : length deal ≡ 52) {c f : ℕ} (q : read 6 bytes here ≡ found c (here + 6)) (e : f ≡ verdictNumber (verdictOf p c)) where
       law : f ≡ cardRefusal trump opening deal (r .history) c
@@ -70,12 +71,14 @@ module _ (bytes deal : List ℕ) (trump opening at n : ℕ) where
           ∙ verdict-law deal trump opening all (r .history) (all-played deal trump opening (r .history) (r .clean)) c
 
       pub card-stops : (f ≡ 0 → ⊥) → noCards f i ≡ cardsOf deal trump opening cards
-      card-stops z = sym (ap (cardsOf deal trump opening) (stops 6 cardsPlayed (cardRefusal trump opening deal) placed bytes at n (positionOf deal trump opening) r t q law z))
+      card-stops z = sym (ap (cardsOf deal trump opening)
+          (stops 6 cardsPlayed (cardRefusal trump opening deal) placed bytes at n (positionOf deal trump opening) r t q law z))
 
       pub card-goes : f ≡ 0 → {b : Play} → b ≡ step p c → CardsAt b (here + 6) (i + 1)
       unfolding positionOf
       card-goes z s =
-          goes 6 cardsPlayed (cardRefusal trump opening deal) placed bytes at n (positionOf deal trump opening) r t q law z (s ∙ ap (λ (x : Play). step x c) (r .position))
+          goes 6 cardsPlayed (cardRefusal trump opening deal) placed bytes at n (positionOf deal trump opening) r t q law z
+          (s ∙ ap (λ (x : Play). step x c) (r .position))
 
 -- ---- the loop speaks of the deal that its first position has
 abbrev pub CardsFrom : List ℕ → ℕ → ℕ → ℕ → ℕ → Play → Play → ℕ → ℕ → Type 0

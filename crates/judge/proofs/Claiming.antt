@@ -51,7 +51,8 @@ module _ (out : Bool) (played : ℕ) (bytes : List ℕ) (at : ℕ) where
       unfolding markedBy refuse mayClaim
       claim-too-many h = rw (no-point out (pointAt played), p, q, lt-leb tricks (13 - played / 4) h)
 
-      pub claim-agreed : tricks ≤ 13 - played / 4 → record { refusal = 0; next = at + 4; marked = true; tricks = tricks } ≡ claimOf (markedBy out played bytes at)
+      pub claim-agreed : tricks ≤ 13 - played / 4 → record { refusal = 0; next = at + 4; marked = true; tricks = tricks }
+          ≡ claimOf (markedBy out played bytes at)
       unfolding markedBy refuse mayClaim
       claim-agreed h = rw (no-point out (pointAt played), p, q, le-leb tricks (13 - played / 4) h)
 

@@ -90,7 +90,8 @@ unfolding cardsBy cardsPlayed
 fair-by out trump opening deal bytes at =
     fair-read 6 bytes at _ (λ n ln.
     fair-test tooManyCards n (ltb 52 n || (out && ltb 0 n)) bytes (at + 6) _ (λ t. omega arith)
-    (fair-each 6 cardsPlayed (cardRefusal trump opening deal) (λ g. refl) (λ g c. omega (arith, refusal-le trump opening deal g c)) n [] bytes (at + 6) (omega arith)))
+    (fair-each 6 cardsPlayed (cardRefusal trump opening deal) (λ g. refl) (λ g c. omega (arith, refusal-le trump opening deal g c)) n [] bytes (at + 6)
+    (omega arith)))
 
 -- ---- the cards in the code: bounds on the position, whatever the calls were
 module _ (out : Bool) (trump opening : ℕ) (deal bytes : List ℕ) (at : ℕ) (all : length deal ≡ 52) where
@@ -114,7 +115,8 @@ module _ (out : Bool) (trump opening : ℕ) (deal bytes : List ℕ) (at : ℕ) (
       (b .played, omega (arith, b .next))
 
 -- ---- from the calls on
-pub section-cards : (d : ℕ) (deal h bytes : List ℕ) (at : ℕ) → cardsBy (Law.passedOut h) (Law.trumpAfter h) (Law.openingAfter d h) deal bytes at ≡ Judge.readCards d deal h bytes at
+pub section-cards : (d : ℕ) (deal h bytes : List ℕ) (at : ℕ) → cardsBy (Law.passedOut h) (Law.trumpAfter h) (Law.openingAfter d h) deal bytes at
+    ≡ Judge.readCards d deal h bytes at
 unfolding cardsBy Judge.readCards
 section-cards d deal h bytes at = refl
 
@@ -145,7 +147,8 @@ module _ (board table : ℕ) (a : Auction) (deal h : List ℕ) (told : OfCalls b
   whole = rw cards-law
 
   module _ (c : Cards) (ec : c ≡ cardsOf deal (k .strain) opening (cardsBy out (k .strain) opening deal bytes at)) where
-    stopped : (r : Reading (List ℕ)) → (cardsOf deal (k .strain) opening r .refusal ≡ 0 → ⊥) → noJudgement (cardsOf deal (k .strain) opening r .refusal) ≡ judgedOf (rest r)
+    stopped : (r : Reading (List ℕ)) → (cardsOf deal (k .strain) opening r .refusal ≡ 0 → ⊥) → noJudgement (cardsOf deal (k .strain) opening r .refusal)
+        ≡ judgedOf (rest r)
     stopped (refused n place) e = refl
     stopped (found g next) e = absurd (e refl)
 
@@ -155,7 +158,8 @@ module _ (board table : ℕ) (a : Auction) (deal h : List ℕ) (told : OfCalls b
     module _ (r : Judged) where
       -- the answer, given any histories that these positions are of
       abbrev Tells : Cards → Type 0
-      Tells x = (dealt calls cards : List ℕ) → OfCards board out k dealt calls cards (x .after) → r ≡ judgedOf (afterCards board table dealt calls cards bytes (x .next))
+      Tells x = (dealt calls cards : List ℕ) → OfCards board out k dealt calls cards (x .after) → r
+          ≡ judgedOf (afterCards board table dealt calls cards bytes (x .next))
 
       goes-on : (q : Reading (List ℕ)) → cardsBy out (k .strain) opening deal bytes at ≡ q → cardsOf deal (k .strain) opening q .refusal ≡ 0
           → Tells (cardsOf deal (k .strain) opening q)

@@ -94,7 +94,8 @@ module _ (bytes : List ℕ) where
   unfolding readDeal
   deal-short h = rw (row-missing h)
 
-  module _ (h : 15 ≤ length bytes) (row hands : List ℕ) (er : row ≡ rowAt bytes 16 2 52) (eh : hands ≡ wordsOf row) (seat : ℕ) (eq : seat ≡ notThirteenFrom 0 hands) where
+  module _ (h : 15 ≤ length bytes) (row hands : List ℕ) (er : row ≡ rowAt bytes 16 2 52) (eh : hands ≡ wordsOf row) (seat : ℕ)
+      (eq : seat ≡ notThirteenFrom 0 hands) where
     es : seat ≡ seatWithoutThirteen row
     es = eq ∙ ap (notThirteenFrom 0) eh ∙ by-hands row
 

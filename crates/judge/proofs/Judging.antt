@@ -20,7 +20,8 @@ use Rattle.laws.specs.Law64.{transferredTricks, tricksAfter}
 use Rattle.laws.specs.Law68.{Claim, none, agreed, claimedTricks, atClaimPoint, claimable}
 use Rattle.laws.specs.Law77.{declarerScore, nsScore}
 use Rattle.laws.specs.Record.{Parts, Field, field, number}
-use Rattle.laws.specs.Judgement.{callsOf, cardsOf, contractOf, winnersOf, revokesOf, claimedOf, wonOf, transferredOf, afterOf, stakeOf, scoreOf, playedFields, answerFields, twosComplement, revokeByte, revokeBytes}
+use Rattle.laws.specs.Judgement.{callsOf, cardsOf, contractOf, winnersOf, revokesOf, claimedOf, wonOf, transferredOf, afterOf, stakeOf, scoreOf, playedFields}
+use Rattle.laws.specs.Judgement.{answerFields, twosComplement, revokeByte, revokeBytes}
 use Rattle.laws.proofs.Numbered.{Fair, not-0, fair-claim}
 use Rattle.laws.proofs.Tests.{by-test, not-both}
 use Rattle.auction.specs.declared.Contract.{Contract}
@@ -111,7 +112,12 @@ module _ (board table : ℕ) (out : Bool) (k : Contract) (deal h g : List ℕ) (
 
   pub list-is : revokesIn p ≡ listedIn q
   unfolding listedIn revokeBytes Play·revokesOf
-  list-is = listed-is ∙ rw (revokes-is, plain-bytes deal trump opening (t .deal-of .places) (t .deal-of .thirteen) g (t .played), length-map (revokes trump opening deal g) revokeByte)
+  list-is = listed-is ∙ rw (
+    revokes-is,
+    plain-bytes deal trump opening (t .deal-of .places) (t .deal-of .thirteen) g (t .played),
+    length-map
+        (revokes trump opening deal g) revokeByte,
+  )
 
   -- ---- with the two numbers of the claim
   module _ (c l : ℕ) (sides : claimedBy (k .declarer) c l ≡ claimedOf q) (own : c ≡ claimedOf q (sideOf (k .declarer))) where
@@ -128,13 +134,21 @@ module _ (board table : ℕ) (out : Bool) (k : Contract) (deal h g : List ℕ) (
     after-is : afterIn k (tricksIn p) (revokesIn p) c l ≡ afterOf q
     unfolding afterIn afterOf
     after-is =
-        rw
-        (won-is, moved-is, listed-is, revokes-back deal trump opening (t .deal-of .places) (t .deal-of .thirteen) g (t .played), sym revokes-is, sym declarer-is)
+        rw (
+          won-is,
+          moved-is,
+          listed-is,
+          revokes-back deal trump opening (t .deal-of .places) (t .deal-of .thirteen) g
+              (t .played),
+          sym revokes-is,
+          sym declarer-is,
+        )
 
     stake-is : stakeIn board k ≡ stakeOf q
     unfolding stakeOf
     stake-is =
-        ap (λ (x : Law.Contract). record { level = x .level; strain = x .strain; doubling = x .doubling; vulnerable = vulnerable board (x .declarer) }) contract-is
+        ap (λ (x : Law.Contract). record { level = x .level; strain = x .strain; doubling = x .doubling; vulnerable = vulnerable board (x .declarer) })
+        contract-is
 
     score-is : Law.passedOut h ≡ false → nsScore (k .declarer) (declarerScore (stakeIn board k) (afterIn k (tricksIn p) (revokesIn p) c l)) ≡ scoreOf q
     unfolding scoreOf
@@ -146,7 +160,8 @@ module _ (board table : ℕ) (out : Bool) (k : Contract) (deal h g : List ℕ) (
     fields-is e =
         rw (reverse-reverse h, e)
         (ap (λ (fs : List Field). field 7 board ∷ field 9 table ∷ fs)
-        (eight (ap (λ (x : Law.Contract). x .level) contract-is) (ap (λ (x : Law.Contract). x .strain) contract-is) (ap (λ (x : Law.Contract). x .doubling) contract-is) declarer-is
+        (eight (ap (λ (x : Law.Contract). x .level) contract-is) (ap (λ (x : Law.Contract). x .strain) contract-is)
+        (ap (λ (x : Law.Contract). x .doubling) contract-is) declarer-is
         won-is after-is (ap (λ (x : Revokes). x .count) list-is) (ap twosComplement (score-is e))))
 
   -- passed out, the answer has board and table alone
@@ -162,7 +177,8 @@ section-is h g bytes at = refl
 
 module _ (board table : ℕ) (out : Bool) (k : Contract) (deal h g : List ℕ) (p : Play) (t : OfCards board out k deal h g p) (bytes : List ℕ) (at : ℕ) where
   pub count-is : p .played ≡ cardsPlayed g
-  count-is = ap (λ (x : Play). x .played) (t .position) ∙ stands deal (Law.trumpAfter h) (Law.openingAfter (dealer board) h) (t .deal-of .places) g (t .played) .played
+  count-is = ap (λ (x : Play). x .played) (t .position)
+      ∙ stands deal (Law.trumpAfter h) (Law.openingAfter (dealer board) h) (t .deal-of .places) g (t .played) .played
 
   module _ (played : ℕ) (ep : played ≡ p .played) (claimed : Read) (ec : claimed ≡ claimOf (claimBy out played bytes at)) where
     claim-is : claimed ≡ claimOf (readClaim h g bytes at)
@@ -207,21 +223,25 @@ module _ (board table : ℕ) (out : Bool) (k : Contract) (deal h g : List ℕ) (
       unfolding claimedOf
       sides-none =
           claim-none (k .declarer) (tricksLeft (reverse (reverse g)))
-          ∙ ap {B = ℕ → ℕ} (λ (d side : ℕ). claimedTricks none (tricksLeft (reverse (reverse g))) (eqb side (sideOf d))) (declarer-is board table out k deal h g p t none)
+          ∙ ap {B = ℕ → ℕ} (λ (d side : ℕ). claimedTricks none (tricksLeft (reverse (reverse g))) (eqb side (sideOf d)))
+          (declarer-is board table out k deal h g p t none)
 
       sides-some : (tricks : ℕ) → claimedBy (k .declarer) tricks left ≡ claimedOf (partsOf board table deal h g (agreed tricks))
       unfolding claimedOf
       sides-some tricks =
           rw (left-is (agreed tricks)) (claim-some (k .declarer) (tricksLeft (reverse (reverse g))) tricks
-          ∙ ap {B = ℕ → ℕ} (λ (d side : ℕ). claimedTricks (agreed tricks) (tricksLeft (reverse (reverse g))) (eqb side (sideOf d))) (declarer-is board table out k deal h g p t (agreed tricks)))
+          ∙ ap {B = ℕ → ℕ} (λ (d side : ℕ). claimedTricks (agreed tricks) (tricksLeft (reverse (reverse g))) (eqb side (sideOf d)))
+          (declarer-is board table out k deal h g p t (agreed tricks)))
 
       bits-is : (claim : Claim) (c l : ℕ) → claimedBy (k .declarer) c l ≡ claimedOf (partsOf board table deal h g claim)
-          → (if out then headFields board table else settledFields board table k (tricksIn p) (revokesIn p) c l) ≡ answerFields (partsOf board table deal h g claim)
+          → (if out then headFields board table else settledFields board table k (tricksIn p) (revokesIn p) c l)
+          ≡ answerFields (partsOf board table deal h g claim)
       bits-is claim c l sides =
           by-test out
           (λ (q : out ≡ true). rw q (passed-is board table out k deal h g p t claim (sym (t .passed) ∙ q)))
           (λ (q : out ≡ false).
-          rw q (fields-is board table out k deal h g p t claim c l sides (sym (own-claim (k .declarer) c l) ∙ ap (λ (f : ℕ → ℕ). f (sideOf (k .declarer))) sides) (sym (t .passed) ∙ q)))
+          rw q (fields-is board table out k deal h g p t claim c l sides
+          (sym (own-claim (k .declarer) c l) ∙ ap (λ (f : ℕ → ℕ). f (sideOf (k .declarer))) sides) (sym (t .passed) ∙ q)))
 
       abbrev given : ℕ → Revokes → Judged
       given bits rs = record { refusal = 0; bits = bits; revokes = rs }

@@ -115,7 +115,8 @@ module _ (out : Bool) (trump opening : ℕ) (deal bytes : List ℕ) (at : ℕ) w
     unfolding cardsBy refuse
     too-many-cards h = rw (ec, over-most out count ∙ lt-ltb (if out then 0 else 52) count h)
 
-    pub cards-read : count ≤ (if out then 0 else 52) → cardsOf deal trump opening (readEach 6 cardsPlayed (cardRefusal trump opening deal) count [] bytes (at + 6))
+    pub cards-read : count ≤ (if out then 0 else 52)
+        → cardsOf deal trump opening (readEach 6 cardsPlayed (cardRefusal trump opening deal) count [] bytes (at + 6))
         ≡ cardsOf deal trump opening (cardsBy out trump opening deal bytes at)
     unfolding cardsBy refuse
     cards-read h = rw (ec, over-most out count ∙ le-ltb (if out then 0 else 52) count h)

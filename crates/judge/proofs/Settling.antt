@@ -32,14 +32,16 @@ unfolding number bits
 head-number board table = omega arith
 
 pub play-number : (k : Contract) (won after revokes word : ℕ)
-    → k .level * 137438953472 + k .strain * 17179869184 + k .doubling * 4294967296 + k .declarer * 1073741824 + (won * 67108864 + after * 4194304) + revokes * 65536 + word
+    → k .level * 137438953472 + k .strain * 17179869184 + k .doubling * 4294967296 + k .declarer * 1073741824 +
+    (won * 67108864 + after * 4194304) + revokes * 65536 + word
     ≡ number (playFields k won after revokes word)
 unfolding number bits
 play-number k won after revokes word = omega arith
 
 -- board and table before any 40 bits
 pub join-number : (board table : ℕ) (k : Contract) (won after revokes word : ℕ)
-    → number (headFields board table) + number (playFields k won after revokes word) ≡ number (field 7 board ∷ field 9 table ∷ playFields k won after revokes word)
+    → number (headFields board table) + number (playFields k won after revokes word)
+    ≡ number (field 7 board ∷ field 9 table ∷ playFields k won after revokes word)
 unfolding number bits
 join-number board table k won after revokes word = omega arith
 

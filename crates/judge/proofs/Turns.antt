@@ -18,7 +18,8 @@ Clean rule [] = Unit {0}
 Clean rule (c ∷ h) = (rule h c ≡ 0) × Clean rule h
 
 -- after i of n codes, at the bit `here`: a is the state of their history
-pub record Reached (w : ℕ) (place : List ℕ → ℕ) (rule : List ℕ → ℕ → ℕ) (bytes : List ℕ) (at n : ℕ) {A : Type 0} (state : List ℕ → A) (a : A) (here i : ℕ) : Type 0 where
+pub record Reached (w : ℕ) (place : List ℕ → ℕ) (rule : List ℕ → ℕ → ℕ) (bytes : List ℕ) (at n : ℕ) {A : Type 0} (state : List ℕ → A) (a : A)
+    (here i : ℕ) : Type 0 where
   pub history : List ℕ
   pub position : a ≡ state history
   pub many : length history ≡ i
@@ -27,7 +28,8 @@ pub record Reached (w : ℕ) (place : List ℕ → ℕ) (rule : List ℕ → ℕ
   pub along : here ≡ at + w * i
   pub same : readEach w place rule (n - i) history bytes here ≡ readEach w place rule n [] bytes at
 
-module _ (w : ℕ) (place : List ℕ → ℕ) (rule : List ℕ → ℕ → ℕ) (placed : (h : List ℕ) → place h ≡ length h) (bytes : List ℕ) (at n : ℕ) {A : Type 0} (state : List ℕ → A) where
+module _ (w : ℕ) (place : List ℕ → ℕ) (rule : List ℕ → ℕ → ℕ) (placed : (h : List ℕ) → place h ≡ length h) (bytes : List ℕ) (at n : ℕ) {A : Type 0}
+    (state : List ℕ → A) where
   abbrev whole : Reading (List ℕ)
   whole = readEach w place rule n [] bytes at
 

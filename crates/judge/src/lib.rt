@@ -56,8 +56,10 @@ fn put_list(list: &mut [u8], revokes: [u8; 36], count: usize)
 #[no_mangle]
 pub extern "C" fn judge_record(bytes: &[u8], answer: &mut [u8], list: &mut [u8]) -> u32
     ensures number { λ r. ⌜ r ≡ numberOf (judgeOf (now (bytes .entry)) (length (now (answer .entry))) (length (now (list .entry)))) ⌝ }
-    ensures answered { λ r. ⌜ now (answer .exit) ≡ answerLeft (judgeOf (now (bytes .entry)) (length (now (answer .entry))) (length (now (list .entry)))) (now (answer .entry)) ⌝ }
-    ensures listed { λ r. ⌜ now (list .exit) ≡ listLeft (judgeOf (now (bytes .entry)) (length (now (answer .entry))) (length (now (list .entry)))) (now (list .entry)) ⌝ }
+    ensures answered { λ r. ⌜ now (answer .exit)
+        ≡ answerLeft (judgeOf (now (bytes .entry)) (length (now (answer .entry))) (length (now (list .entry)))) (now (answer .entry)) ⌝ }
+    ensures listed { λ r. ⌜ now (list .exit)
+        ≡ listLeft (judgeOf (now (bytes .entry)) (length (now (answer .entry))) (length (now (list .entry)))) (now (list .entry)) ⌝ }
 {
     if answer.len() < 7 {
         return refusal_number(SHORT_BUFFER, 0);

@@ -63,7 +63,15 @@ winners-law trump opening (c ∷ g) =
     let e = entriesOf trump opening g in
     let l = winner trump (leader trump opening g) (c ∷ trickUnderWay g) in
     let s = suitLed (c ∷ trickUnderWay g) in
-    rw (tricks-more c g k, last, won-by trump opening c g last, entry-before e l s, entry-winner e l s (winner-low trump (leader trump opening g) c (trickUnderWay g)), winners-law trump opening g))
+    rw (
+      tricks-more c g k,
+      last,
+      won-by trump opening c g last,
+      entry-before e l s,
+      entry-winner e l s
+          (winner-low trump (leader trump opening g) c (trickUnderWay g)),
+      winners-law trump opening g,
+    ))
 
 module _ (deal : List ℕ) (trump opening : ℕ) (all : length deal ≡ 52) where
   pub complete-law : (g : List ℕ) → AllPlayed deal trump opening g → completeIn (positionOf deal trump opening g) ≡ tricksComplete g

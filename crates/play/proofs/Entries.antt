@@ -62,7 +62,8 @@ module _ (trump opening c : ℕ) (g : List ℕ) where
       rw (in-trick-last c g k, ne-eqb (cardsInTrick g) 0 ne, led) (record { suit = omega arith; before = omega arith }))
       (λ (q : leb 3 (cardsInTrick g) ≡ false).
       let k = leb-false 3 (cardsInTrick g) q in
-      rw (in-trick-more c g k, ne-eqb (suc (cardsInTrick g)) 0 (λ z. omega arith), ne-eqb (cardsInTrick g) 0 ne, trick-more c g k, led) (record { suit = refl; before = refl }))
+      rw (in-trick-more c g k, ne-eqb (suc (cardsInTrick g)) 0 (λ z. omega arith), ne-eqb (cardsInTrick g) 0 ne, trick-more c g k, led)
+      (record { suit = refl; before = refl }))
 
 -- the leader stands in the entry before
 last-winner : (trump opening : ℕ) (g : List ℕ) → entriesOf trump opening g / 4 % 4 ≡ leader trump opening g % 4
@@ -91,7 +92,12 @@ seen : (trump opening : ℕ) (full : List ℕ) (k c : ℕ) (g : List ℕ) → c 
 unfolding cardsPlayed
 seen trump opening full zero c g e =
     let none : begun (c ∷ g) - begun (c ∷ g) ≡ 0 = omega arith in
-    rw (← e) (record { alike = rw (none, div-one (allEntries trump opening (c ∷ g))) (record { suit = refl; before = refl }); order = omega arith; count = omega arith })
+    rw (← e) (record {
+      alike = rw (none, div-one (allEntries trump opening (c ∷ g)))
+          (record { suit = refl; before = refl });
+      order = omega arith;
+      count = omega arith;
+    })
 seen trump opening [] (suc k) c g e = absurd (let z : _≡_ {A = ℕ} 0 1 = cc in omega arith)
 seen trump opening (d ∷ full) (suc k) c g e =
     let s = seen trump opening full k c g e in
@@ -142,7 +148,8 @@ by-entries trump opening g here es eb =
     rw (seat, es)
 
 -- the entries of a trick under way
-under-way : (trump opening : ℕ) (g : List ℕ) → (cardsInTrick g ≡ 0 → ⊥) → allEntries trump opening g ≡ entriesOf trump opening g * 16 + suitLed (trickUnderWay g) % 4
+under-way : (trump opening : ℕ) (g : List ℕ) → (cardsInTrick g ≡ 0 → ⊥) → allEntries trump opening g
+    ≡ entriesOf trump opening g * 16 + suitLed (trickUnderWay g) % 4
 unfolding allEntries
 under-way trump opening g ne = rw (ne-eqb (cardsInTrick g) 0 ne)
 
@@ -171,4 +178,5 @@ unfolding entriesIn allEntries withEntry
 all-entries deal trump opening all {p} {g} s most =
     rw (lead-test deal trump opening all s, s .tricks) (by-test (eqb (cardsInTrick g) 0)
     (λ (q : eqb (cardsInTrick g) 0 ≡ true). rw q)
-    (λ (q : eqb (cardsInTrick g) 0 ≡ false). rw (q, s .led (eqb-false (cardsInTrick g) 0 q), mod-eq-of-lt (few-entries deal trump opening all g most)) (omega arith)))
+    (λ (q : eqb (cardsInTrick g) 0 ≡ false). rw (q, s .led (eqb-false (cardsInTrick g) 0 q), mod-eq-of-lt (few-entries deal trump opening all g most))
+    (omega arith)))

@@ -160,7 +160,8 @@ lowest-set entries played n bits later e b =
     }
 
 -- the bit is clear
-lowest-clear : (entries played n bits later t : ℕ) → bits % 2 ≡ 0 → Lowest entries played n (bits / 2) (suc later) t → Lowest entries played (suc n) bits later (suc t)
+lowest-clear : (entries played n bits later t : ℕ) → bits % 2 ≡ 0 → Lowest entries played n (bits / 2) (suc later) t
+    → Lowest entries played (suc n) bits later (suc t)
 unfolding bytesIn
 lowest-clear entries played n bits later t e l =
     let less : suc n - suc (suc t) ≡ n - suc t = omega arith in
@@ -222,7 +223,8 @@ module _ {entries played bits : ℕ} {list : List ℕ} {rest n later : ℕ} (r :
   pub list-one : 1 ≤ n
   list-one = omega (arith, split-many)
 
-  pub list-goes : {byte : ℕ} → byte ≡ byteAfter entries played (later + low) → Listing entries played bits (set list (n - 1) byte) (rest / 2 ^ low / 2) (n - 1) (later + low + 1)
+  pub list-goes : {byte : ℕ} → byte ≡ byteAfter entries played (later + low)
+      → Listing entries played bits (set list (n - 1) byte) (rest / 2 ^ low / 2) (n - 1) (later + low + 1)
   list-goes {byte} e =
       let l = list-low in
       let fuel : 64 - (later + low + 1) ≡ 64 - later - suc low = omega arith in

@@ -52,7 +52,13 @@ module _ (deal : List ℕ) (trump opening : ℕ) (all : length deal ≡ 52) wher
       let f = fair trump opening deal g c (w .0) in
       by-test (eqb c card)
       (λ (q : eqb c card ≡ true).
-      rw (q, ← eqb-true c card q, getD-set-same (at g) c (4 + toPlay trump opening g) noSeat (omega (arith, f .code, holders-52 g)), ne-eqb (4 + toPlay trump opening g) seat (λ e. omega arith))
+      rw (
+        q,
+        ← eqb-true c card q,
+        getD-set-same (at g) c (4 + toPlay trump opening g) noSeat (omega (arith, f .code, holders-52 g)),
+        ne-eqb
+            (4 + toPlay trump opening g) seat (λ e. omega arith),
+      )
       (sym (and-false (eqb (dealtTo deal c) seat))))
       (λ (q : eqb c card ≡ false).
       rw (q, getD-set-other (at g) c card (4 + toPlay trump opening g) noSeat (λ e. eqb-false c card q (sym e))) (holds-law g (w .1) seat card h))

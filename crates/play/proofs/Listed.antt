@@ -23,7 +23,8 @@ use Rattle.play.proofs.Stands.{Stands, stands}
 use Rattle.play.proofs.Entries.{allEntries, all-entries, byte-is}
 
 module _ (trump opening : ℕ) (deal : List ℕ) where
-  list-more : (c : ℕ) (g : List ℕ) → isRevoke trump opening deal g c ≡ true → revokes trump opening deal (c ∷ g) ≡ revokes trump opening deal g ++ (revokeAt trump opening g ∷ [])
+  list-more : (c : ℕ) (g : List ℕ) → isRevoke trump opening deal g c ≡ true → revokes trump opening deal (c ∷ g)
+      ≡ revokes trump opening deal g ++ (revokeAt trump opening g ∷ [])
   unfolding revokes
   list-more c g r = rw r
 
@@ -117,7 +118,12 @@ module _ (deal : List ℕ) (trump opening : ℕ) (full : List ℕ) (most : cards
       let w = revokedOf deal trump opening g in
       rw (fuel, bits-half w b, bits-low w b, bytes-law (suc k) g (drop-next k full g c e) (omega arith))
       (by-test b
-      (λ (q : b ≡ true). rw (q, map-last (revokes trump opening deal g) (revokeAt trump opening g), byte-is trump opening full most k c g e (λ z. omega (arith, not-first trump opening deal c g q))))
+      (λ (q : b ≡ true). rw (
+        q,
+        map-last (revokes trump opening deal g) (revokeAt trump opening g),
+        byte-is trump opening full most k c g e
+            (λ z. omega (arith, not-first trump opening deal c g q)),
+      ))
       (λ (q : b ≡ false). rw (q, append-nil (revokes trump opening deal g)) (append-nil _)))
 
 module _ (deal : List ℕ) (trump opening : ℕ) (all : length deal ≡ 52) (dealt : (seat : ℕ) → seat < 4 → cardsDealt seat deal ≡ 13) where
@@ -129,4 +135,12 @@ module _ (deal : List ℕ) (trump opening : ℕ) (all : length deal ≡ 52) (dea
       let most = at-most-52 deal trump opening all g w in
       let few = at-most-36 deal trump opening all dealt g w in
       let many = length-map (revokes trump opening deal g) byteOf in
-      rw (all-entries deal trump opening all s most, s .played, s .revoked, bytes-law deal trump opening g most 0 g refl (omega arith), many, le-ltb 36 (length (revokes trump opening deal g)) few)
+      rw (
+        all-entries deal trump opening all s most,
+        s .played,
+        s .revoked,
+        bytes-law deal trump opening g most 0 g refl (omega arith),
+        many,
+        le-ltb 36
+            (length (revokes trump opening deal g)) few,
+      )

@@ -23,7 +23,8 @@ use Rattle.play.specs.declared.Play.{Play}
 use Rattle.play.specs.Words.{bitOf, worth, withBit, withEntry}
 use Rattle.play.specs.Position.{putPlayed, startOf, turnOf, handOf, couldFollow, leads, worthOf, revokesWith, withLead, withCard, withTrick, step}
 use Rattle.play.specs.History.{positionOf, AllPlayed, holdersOf, bestWorth, entriesOf, revokedOf}
-use Rattle.play.proofs.Cards.{Fair, fair, fewer-than-four, trick-more, trick-last, trick-size, in-trick-more, in-trick-last, tricks-same, tricks-more, leader-same, not-in-trick}
+use Rattle.play.proofs.Cards.{Fair, fair, fewer-than-four, trick-more, trick-last, trick-size, in-trick-more, in-trick-last, tricks-same, tricks-more}
+use Rattle.play.proofs.Cards.{leader-same, not-in-trick}
 use Rattle.play.proofs.Masks.{wordBy, word-same, word-and, word-without, word-places}
 use Rattle.play.proofs.Holders.{turn-seat, holders-52, holds-law, stood, suit-law}
 use Rattle.play.proofs.Thirteen.{at-most-52}
@@ -78,7 +79,8 @@ best-seat : (trump leader c : ℕ) (t : List ℕ) → bestWorth trump leader (c 
 unfolding bestWorth worth
 best-seat trump leader c t = omega (arith, winner-low trump leader c t)
 
-pub won-by : (trump opening c : ℕ) (g : List ℕ) → cardsInTrick (c ∷ g) ≡ 0 → leader trump opening (c ∷ g) ≡ winner trump (leader trump opening g) (c ∷ trickUnderWay g)
+pub won-by : (trump opening c : ℕ) (g : List ℕ) → cardsInTrick (c ∷ g) ≡ 0 → leader trump opening (c ∷ g)
+    ≡ winner trump (leader trump opening g) (c ∷ trickUnderWay g)
 unfolding leader
 won-by trump opening c g e = rw e
 
@@ -106,7 +108,19 @@ module _ (deal : List ℕ) (trump opening : ℕ) (all : length deal ≡ 52) wher
 
   starts : Stands (startOf deal (wordsOf deal) trump opening) []
   unfolding startOf holdersOf isPlayed some cardsPlayed leader bestWorth trickUnderWay cardsInTrick entriesOf revokedOf wordBy
-  starts = record { holders = refl; dealt = refl; left = refl; trumps = refl; played = refl; leads = refl; led = λ ne. absurd (ne refl); best = refl; tricks = refl; revoked = refl }
+  starts = record {
+    holders = refl;
+    dealt = refl;
+    left = refl;
+    trumps = refl;
+    played = refl;
+    leads = refl;
+    led = λ ne. absurd
+        (ne refl);
+    best = refl;
+    tricks = refl;
+    revoked = refl;
+  }
 
   -- ---- what a position that stands says of the next card
   module _ {p : Play} {g : List ℕ} (s : Stands p g) where
@@ -230,7 +244,8 @@ module _ (deal : List ℕ) (trump opening : ℕ) (all : length deal ≡ 52) wher
       any-default (holdersOf deal trump opening g) c 0 noSeat (omega (arith, f .code)) ∙ stood deal trump opening all c g f (w .1) in
       rw (held, four-over (toPlay trump opening g) (turn-seat trump opening g))
 
-  on-left : (c : ℕ) (g : List ℕ) → c < 52 → isPlayed g c ≡ false → bitXor (wordBy 52 (λ i. not (isPlayed g i))) (2 ^ c) ≡ wordBy 52 (λ i. not (isPlayed (c ∷ g) i))
+  on-left : (c : ℕ) (g : List ℕ) → c < 52 → isPlayed g c ≡ false → bitXor (wordBy 52 (λ i. not (isPlayed g i))) (2 ^ c)
+      ≡ wordBy 52 (λ i. not (isPlayed (c ∷ g) i))
   unfolding isPlayed some
   on-left c g h absent =
       word-without 52 c (λ i. not (isPlayed g i)) h (rw absent)
@@ -315,7 +330,8 @@ module _ (deal : List ℕ) (trump opening : ℕ) (all : length deal ≡ 52) wher
       let last = in-trick-last c g k in
       let ends : eqb (r .played % 4) 0 ≡ true = rw (o .played) (in-trick-test c g ∙ rw last) in
       let under = trick-last c g k in
-      let won : r .best % 4 ≡ leader trump opening (c ∷ g) = rw (o .best) (best-seat trump (leader trump opening g) c (trickUnderWay g) ∙ sym (won-by trump opening c g last)) in
+      let won : r .best % 4 ≡ leader trump opening (c ∷ g) = rw (o .best)
+      (best-seat trump (leader trump opening g) c (trickUnderWay g) ∙ sym (won-by trump opening c g last)) in
       let low : leader trump opening (c ∷ g) < 4 = rw (won-by trump opening c g last) (winner-low trump (leader trump opening g) c (trickUnderWay g)) in
       let few : suc (tricksComplete g) ≤ 13 = few-tricks c g most in
       let small : entriesOf trump opening g < 2 ^ 60 = omega (arith, entries-low g, pow-le-pow-right {n = 16} (omega arith) few) in

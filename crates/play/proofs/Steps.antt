@@ -32,7 +32,8 @@ product-bits zero b h k = omega arith
 product-bits (suc zero) b h k = omega arith
 product-bits (suc (suc a)) b h k = absurd (omega arith)
 
-pub off-and-could : (p : Play) (card : ℕ) {off could : ℕ} → off ≡ bitOf (not (eqb (suitOf card) (p .led))) → could ≡ bitOf (couldFollow p) → off * could ≡ bitOf (revokesWith p card)
+pub off-and-could : (p : Play) (card : ℕ) {off could : ℕ} → off ≡ bitOf (not (eqb (suitOf card) (p .led))) → could ≡ bitOf (couldFollow p) → off * could
+    ≡ bitOf (revokesWith p card)
 unfolding revokesWith
 off-and-could p card eo ec = rw (eo, ec) (both-bits (not (eqb (suitOf card) (p .led))) (couldFollow p))
 

@@ -56,7 +56,8 @@ plays-law trump opening seat (c ∷ g) h =
     (λ (q : ltb (cardsInTrick g) 3 ≡ false).
     let k = ltb-false (cardsInTrick g) 3 q in
     let all = rw (lt-ltb (behind seat (leader trump opening g)) (suc (cardsInTrick g)) (omega arith)) at more in
-    rw (tricks-more c g k, in-trick-last c g k, le-ltb (behind seat (leader trump opening (c ∷ g))) 0 (omega arith)) (omega (arith, plays-law trump opening seat g h)))
+    rw (tricks-more c g k, in-trick-last c g k, le-ltb (behind seat (leader trump opening (c ∷ g))) 0 (omega arith))
+    (omega (arith, plays-law trump opening seat g h)))
 
 -- ---- what the places count after a play: a test that passes for no played card loses the seat that played
 module _ (deal : List ℕ) (trump opening : ℕ) (all : length deal ≡ 52) where
@@ -101,7 +102,8 @@ module _ (deal : List ℕ) (trump opening : ℕ) (all : length deal ≡ 52) wher
     turn-plays g =
         let seat = toPlay trump opening g in
         let k = fewer-than-four g in
-        let past : ltb (behind seat (leader trump opening g)) (cardsInTrick g) ≡ false = le-ltb (behind seat (leader trump opening g)) (cardsInTrick g) (omega arith) in
+        let past : ltb (behind seat (leader trump opening g)) (cardsInTrick g)
+        ≡ false = le-ltb (behind seat (leader trump opening g)) (cardsInTrick g) (omega arith) in
         let all = rw past at (plays-law trump opening seat g (turn-seat trump opening g)) in
         omega arith
 
@@ -122,5 +124,6 @@ module _ (deal : List ℕ) (trump opening : ℕ) (all : length deal ≡ 52) wher
         holds-law deal trump opening all g (w .1) seat (d .0) (turn-seat trump opening g) ∙ and-right (isOf suit (d .0)) (holds deal g seat (d .0)) (d .2) in
         let differ : d .0 ≡ c → ⊥ =
         λ e. not-both (isOf suit c) (rw e at (and-left (isOf suit (d .0)) (holds deal g seat (d .0)) (d .2))) other in
-        let two = two-places mine noSeat 4 (ne-eqb 4 seat (λ e. omega (arith, turn-seat trump opening g))) (holders g) c (d .0) (omega (arith, f .code)) (omega (arith, d .1)) differ at-c at-d in
+        let two = two-places mine noSeat 4 (ne-eqb 4 seat (λ e. omega (arith, turn-seat trump opening g))) (holders g) c (d .0) (omega (arith, f .code))
+        (omega (arith, d .1)) differ at-c at-d in
         omega (arith, two, thirteen-less seat g (turn-seat trump opening g) (w .1), turn-plays g, dealt seat (turn-seat trump opening g))

@@ -126,9 +126,17 @@ module _ (trump d : ℕ) (t : List ℕ) where
         let w = highest-among (suitLed (d ∷ t)) (d ∷ t) (led-some d t) .suit in
         rw e (by-test (isOf trump c)
         (λ (q : isOf trump c ≡ true).
-        rw (q, highest-none trump (d ∷ t) e, max-zero c, other-suit trump c (highest (suitLed (d ∷ t)) (d ∷ t)) (λ h. led-no-trump e (sym w ∙ sym h ∙ eqb-true (suitOf c) trump q)), q))
+        rw (
+          q,
+          highest-none trump (d ∷ t) e,
+          max-zero c,
+          other-suit trump c (highest (suitLed (d ∷ t)) (d ∷ t))
+              (λ h. led-no-trump e (sym w ∙ sym h ∙ eqb-true (suitOf c) trump q)),
+          q,
+        ))
         (λ (q : isOf trump c ≡ false). rw q (by-test (isOf (suitLed (d ∷ t)) c)
-        (λ (r : isOf (suitLed (d ∷ t)) c ≡ true). rw r (same-suit trump c (highest (suitLed (d ∷ t)) (d ∷ t)) (suitLed (d ∷ t)) (eqb-true (suitOf c) (suitLed (d ∷ t)) r) w))
+        (λ (r : isOf (suitLed (d ∷ t)) c ≡ true). rw r
+        (same-suit trump c (highest (suitLed (d ∷ t)) (d ∷ t)) (suitLed (d ∷ t)) (eqb-true (suitOf c) (suitLed (d ∷ t)) r) w))
         (λ (r : isOf (suitLed (d ∷ t)) c ≡ false).
         rw (r, other-suit trump c (highest (suitLed (d ∷ t)) (d ∷ t)) (λ h. eqb-false (suitOf c) (suitLed (d ∷ t)) r (h ∙ w)), q)))))
 

@@ -21,7 +21,8 @@ bit-low true = omega arith
 bit-low false = omega arith
 
 -- ---- a card that wins so far, a trump or of the suit led, and one card more
-module _ (trump led w c by seat : ℕ) (hw : w < 52) (hc : c < 52) (hb : by < 4) (hs : seat < 4) (other : w ≡ c → ⊥) (wins : (suitOf w ≡ trump) ⊎ (suitOf w ≡ led)) where
+module _ (trump led w c by seat : ℕ) (hw : w < 52) (hc : c < 52) (hb : by < 4) (hs : seat < 4) (other : w ≡ c → ⊥)
+    (wins : (suitOf w ≡ trump) ⊎ (suitOf w ≡ led)) where
   -- of one suit, the higher card is worth more
   same-above : suitOf c ≡ suitOf w → w < c → worth trump led w by < worth trump led c seat
   unfolding worth
@@ -95,5 +96,6 @@ best-more trump leader c (d ∷ t) h all absent =
     let w = winningCard trump (d ∷ t) in
     let played = winning-played trump d t in
     greatest trump (suitLed (d ∷ t)) w c (winner trump leader (d ∷ t)) (clockwise leader (cardsPlayed (d ∷ t))) (all w played) h
-    (winner-low trump leader d t) (clockwise-low leader (cardsPlayed (d ∷ t))) (λ e. not-both (isPlayed (d ∷ t) c) (rw (sym e) played) absent) (winning-suit trump d t)
+    (winner-low trump leader d t) (clockwise-low leader (cardsPlayed (d ∷ t))) (λ e. not-both (isPlayed (d ∷ t) c) (rw (sym e) played) absent)
+    (winning-suit trump d t)
     ∙ rw (winning-more trump d t c, winner-more trump d t c leader absent)

@@ -73,7 +73,8 @@ returns c =
     0
     (c0 .before .before .pre)
     ∙ ap (λ (l : List ℕ). l ++ drop 7 (a .answer .now))
-    (seven (a .x) (c0 .narrow .ensures) (c1 .narrow2 .ensures) (c2 .narrow3 .ensures) (c3 .narrow4 .ensures) (c4 .narrow5 .ensures) (c5 .narrow6 .ensures) (c .narrow7 .ensures))
+    (seven (a .x) (c0 .narrow .ensures) (c1 .narrow2 .ensures) (c2 .narrow3 .ensures) (c3 .narrow4 .ensures) (c4 .narrow5 .ensures) (c5 .narrow6 .ensures)
+    (c .narrow7 .ensures))
 
 pub put7-spec : {M : Type 1} → statement M
 put7-spec =

@@ -57,7 +57,8 @@ returns-2 c =
     let m = c .before .before in
     let w = m .before in
     c .no-cards2 .ensures
-    ∙ rw (w .narrow .ensures) (too-many-cards _ _ _ _ _ _ _ (count-reads (w .before)) (rw (w .narrow .ensures, m .most-cards .ensures) at (c .before .if1 .taken)))
+    ∙ rw (w .narrow .ensures) (too-many-cards _ _ _ _ _ _ _ (count-reads (w .before))
+    (rw (w .narrow .ensures, m .most-cards .ensures) at (c .before .if1 .taken)))
 
 add-read-each-card : tie.Need-add-read-each-card
 add-read-each-card c = search needs

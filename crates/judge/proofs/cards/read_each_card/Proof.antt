@@ -29,7 +29,9 @@ of-deal t =
     from-deal (a .bytes .now) (a .deal) (a .hands) (a .trump) (a .opening) (a .at) (a .count) (t .before .new .ensures) (t .loop .inv .0)
 
 -- the codes that are whole, and the code once it is read
-whole-is : (t : tie.At-loop Inv-loop μ-loop) → (let s = t .before .before .before .before in t .before .before .whole-codes .result ≡ min ((8 * length (s .args .bytes .now) - s .args .at) / 6) (s .args .count))
+whole-is : (t : tie.At-loop Inv-loop μ-loop)
+    → (let s = t .before .before .before .before in
+    t .before .before .whole-codes .result ≡ min ((8 * length (s .args .bytes .now) - s .args .at) / 6) (s .args .count))
 whole-is t = t .before .before .whole-codes .ensures
 
 there : (c : tie.In-loop Inv-loop μ-loop) → (let t = c .before in t .loop .here + 6 ≤ 8 * length (t .before .before .before .before .args .bytes .now))
@@ -39,7 +41,8 @@ there c =
     omega (arith, t .loop .inv .0 .along, whole-in (length (a .bytes .now)) (a .at) (a .count) (whole-is t) (t .loop .i) (c .loop-test .taken))
 
 code-reads : (c : tie.After-code-ending Inv-loop μ-loop)
-    → (let t = c .before .before in read 6 (t .before .before .before .before .args .bytes .now) (t .loop .here) ≡ found (c .code-ending .result) (t .loop .here + 6))
+    → (let t = c .before .before in
+    read 6 (t .before .before .before .before .args .bytes .now) (t .loop .here) ≡ found (c .code-ending .result) (t .loop .here + 6))
 code-reads c = code-read _ (c .before .before .loop .here) (c .code-ending .ensures) (there (c .before))
 
 within : (c : tie.In-loop Inv-loop μ-loop) → c .before .loop .i < c .before .before .before .before .before .args .count
@@ -55,7 +58,8 @@ stops-short c =
     let t = c .before .before in
     let a = t .before .before .before .before .args in
     let last : t .loop .i ≡ t .before .before .whole-codes .result = omega (arith, t .loop .inv .1, c .before .loop-test .left) in
-    code-short _ (t .loop .here) (omega (arith, t .loop .inv .0 .along, last, whole-out (length (a .bytes .now)) (a .at) (a .count) (whole-is t) (c .if2 .taken)))
+    code-short _ (t .loop .here) (omega
+    (arith, t .loop .inv .0 .along, last, whole-out (length (a .bytes .now)) (a .at) (a .count) (whole-is t) (c .if2 .taken)))
 
 whole-codes-requires : tie.Need-whole-codes-requires Inv-loop μ-loop
 whole-codes-requires c κs = search needs
@@ -65,8 +69,11 @@ new-requires c κs = search needs
 
 loop-holds : tie.Need-loop-holds Inv-loop μ-loop
 loop-holds c =
-    let a = c .before .before .before .args in
-    (from-first (a .bytes .now) (a .deal) (a .hands) (a .trump) (a .opening) (a .at) (a .count) (c .new .ensures) (c .before .before .before .pre .3), omega arith)
+    let a = c .before .before .before .args in (
+      from-first (a .bytes .now) (a .deal) (a .hands) (a .trump) (a .opening) (a .at) (a .count) (c .new .ensures)
+          (c .before .before .before .pre .3),
+      omega arith,
+    )
 
 add-code-ending : tie.Need-add-code-ending Inv-loop μ-loop
 add-code-ending c = search needs
@@ -110,8 +117,10 @@ loop-again c =
     let w = c .before .before .before in
     let t = w .before .before in
     let a = t .before .before .before .before .args in
-    let places = from-places (a .bytes .now) (a .deal) (a .hands) (a .trump) (a .opening) (a .at) (a .count) (t .before .new .ensures) (deal-52 (t .before .before .before .before)) in (
-      card-goes _ _ _ _ _ _ (t .loop .inv .0) (within (w .before)) places (code-reads w) (c .before .before .refusal .ensures) (c .before .if1 .left) (c .play .ensures),
+    let places = from-places (a .bytes .now) (a .deal) (a .hands) (a .trump) (a .opening) (a .at) (a .count) (t .before .new .ensures)
+    (deal-52 (t .before .before .before .before)) in (
+      card-goes _ _ _ _ _ _ (t .loop .inv .0) (within (w .before)) places (code-reads w) (c .before .before .refusal .ensures) (c .before .if1 .left)
+          (c .play .ensures),
       omega arith,
     )
 

@@ -18,7 +18,8 @@ add-if3 : tie.Need-add-if3
 add-if3 c = search needs
 
 returns-3 : tie.Need-returns-3
-returns-3 c = more-bytes (c .before .before .before .before .args .bytes .now) (c .before .before .before .before .args .at) (c .before .before .if1 .left) (c .if3 .taken)
+returns-3 c = more-bytes (c .before .before .before .before .args .bytes .now) (c .before .before .before .before .args .at) (c .before .before .if1 .left)
+    (c .if3 .taken)
 
 sub-read : tie.Need-sub-read
 sub-read c = search needs
@@ -33,10 +34,22 @@ enum-told : tie.Need-enum-told
 enum-told c = search needs
 
 returns-4 : tie.Need-returns-4
-returns-4 c = absurd (omega (arith, short-is (c .before .before .before .before .before .before .before .args .bytes .now) (c .before .before .before .before .before .before .before .args .at) (8 - (c .before .before .before .before .before .before .before .args .at) % 8) (omega arith) (sym (c .before .before .read .ensures) ∙ c .enum-told .given .1), c .before .before .before .if3 .left))
+returns-4 c = absurd (omega (
+  arith,
+  short-is (c .before .before .before .before .before .before .before .args .bytes .now)
+      (c .before .before .before .before .before .before .before .args .at) (8 - (c .before .before .before .before .before .before .before .args .at) % 8)
+      (omega arith) (sym (c .before .before .read .ensures) ∙ c .enum-told .given .1),
+  c .before .before .before .if3 .left,
+))
 
 returns-5 : tie.Need-returns-5
-returns-5 c = bits-left (c .before .before .before .before .before .before .before .before .args .bytes .now) (c .before .before .before .before .before .before .before .before .args .at) (c .before .before .before .before .before .before .if1 .left) (c .before .before .before .before .before .if2 .left) (c .before .before .before .before .if3 .left) _ (value-is (c .before .before .before .before .before .before .before .before .args .bytes .now) (c .before .before .before .before .before .before .before .before .args .at) (8 - (c .before .before .before .before .before .before .before .before .args .at) % 8) (sym (c .before .before .before .read .ensures) ∙ c .before .rest .given .1) .0)
+returns-5 c = bits-left (c .before .before .before .before .before .before .before .before .args .bytes .now)
+    (c .before .before .before .before .before .before .before .before .args .at) (c .before .before .before .before .before .before .if1 .left)
+    (c .before .before .before .before .before .if2 .left) (c .before .before .before .before .if3 .left) _
+    (value-is (c .before .before .before .before .before .before .before .before .args .bytes .now)
+    (c .before .before .before .before .before .before .before .before .args .at)
+    (8 - (c .before .before .before .before .before .before .before .before .args .at) % 8)
+    (sym (c .before .before .before .read .ensures) ∙ c .before .rest .given .1) .0)
 
 pub is-padding-spec : {M : Type 1} → statement M
 is-padding-spec =

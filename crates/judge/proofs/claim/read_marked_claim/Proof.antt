@@ -58,7 +58,8 @@ sub-left : tie.Need-sub-left
 sub-left c = let r = c .before .before .before in omega (arith, point-le (start-of r .args .out) (start-of r .args .played) (may r))
 
 narrow-requires : tie.Need-narrow-requires
-narrow-requires c κs = let r = c .before .before .before in omega (arith, value-lt _ (start-of r .args .at) 4 (sym (r .read .ensures) ∙ c .before .tricks .given .1))
+narrow-requires c κs = let r = c .before .before .before in
+    omega (arith, value-lt _ (start-of r .args .at) 4 (sym (r .read .ensures) ∙ c .before .tricks .given .1))
 
 no-claim-requires-3 : tie.Need-no-claim-requires-3
 no-claim-requires-3 c κs = search needs

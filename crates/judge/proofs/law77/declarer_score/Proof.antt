@@ -70,8 +70,11 @@ returns-2 c = let st = c .before .before .before in
     let s = stakeOf (st .args .s) in
     let l : st .args .s .level < 256 = search needs in
     let n : c .undertricks .result < 10000000000000 = omega (arith, c .undertricks .ensures, undertricks-le s (s .level + 6 - st .args .tricks)) in
-    rw (toZ-pos w64 (small (c .undertricks .result) n), +ℤ-idl, toZ-ofZ (negative (c .undertricks .result) n))
-    (ap (λ (k : ℕ). negℤ (pos k)) (c .undertricks .ensures) ∙ down-score s (st .args .tricks) (c .before .if1 .left), rw (size-neg (pos (c .undertricks .result))) n)
+    rw (toZ-pos w64 (small (c .undertricks .result) n), +ℤ-idl, toZ-ofZ (negative (c .undertricks .result) n)) (
+      ap (λ (k : ℕ). negℤ (pos k)) (c .undertricks .ensures)
+          ∙ down-score s (st .args .tricks) (c .before .if1 .left),
+      rw (size-neg (pos (c .undertricks .result))) n,
+    )
 
 pub declarer-score-spec : {M : Type 1} → statement M
 declarer-score-spec =

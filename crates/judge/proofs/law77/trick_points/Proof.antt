@@ -26,7 +26,10 @@ mul-odd-tricks c = let s = c .before .before .before .args .s in
 add-odd-tricks : tie.Need-add-odd-tricks
 add-odd-tricks c = let s = c .before .before .before .args .s in
     let l : s .level < 256 = search needs in
-    record { fits = rw (c .before .less .ensures, c .trick-value .ensures, c .before .before .first-trick-value .ensures) (omega (arith, later-le (s .level) (s .strain) l, first-le (s .strain))) }
+    record {
+      fits = rw (c .before .less .ensures, c .trick-value .ensures, c .before .before .first-trick-value .ensures)
+          (omega (arith, later-le (s .level) (s .strain) l, first-le (s .strain)));
+    }
 
 by-doubling-requires : tie.Need-by-doubling-requires
 by-doubling-requires c κs = search needs
@@ -35,11 +38,25 @@ mul-result : tie.Need-mul-result
 unfolding trickPoints
 mul-result c = let s = c .before .before .before .before .args .s in
     let l : s .level < 256 = search needs in
-    record { fits = rw (c .before .before .less .ensures, c .before .trick-value .ensures, c .before .before .before .first-trick-value .ensures, c .by-doubling .ensures) (omega (arith, points-le (stakeOf s) l)) }
+    record {
+      fits = rw (
+        c .before .before .less .ensures,
+        c .before .trick-value .ensures,
+        c .before .before .before .first-trick-value .ensures,
+        c
+            .by-doubling .ensures,
+      ) (omega (arith, points-le (stakeOf s) l));
+    }
 
 returns : tie.Need-returns
 unfolding trickPoints
-returns c = rw (c .before .before .less .ensures, c .before .trick-value .ensures, c .before .before .before .first-trick-value .ensures, c .by-doubling .ensures)
+returns c = rw (
+  c .before .before .less .ensures,
+  c .before .trick-value .ensures,
+  c .before .before .before .first-trick-value .ensures,
+  c .by-doubling
+      .ensures,
+)
 
 pub trick-points-spec : {M : Type 1} → statement M
 trick-points-spec =

@@ -15,7 +15,10 @@ doubled-undertrick-requires : tie.Need-doubled-undertrick-requires
 doubled-undertrick-requires c κs = search needs
 
 mul-by-doubling : tie.Need-mul-by-doubling
-mul-by-doubling c = record { fits = omega (arith, c .doubled-undertrick .ensures, doubled-le (stakeOf (c .before .before .args .s)) (c .before .before .args .k)) }
+mul-by-doubling c = record {
+  fits = omega
+      (arith, c .doubled-undertrick .ensures, doubled-le (stakeOf (c .before .before .args .s)) (c .before .before .args .k));
+}
 
 by-doubling-requires : tie.Need-by-doubling-requires
 by-doubling-requires c κs = search needs

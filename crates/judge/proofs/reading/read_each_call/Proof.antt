@@ -18,7 +18,9 @@ abbrev μ-loop : tie.MeasureT-loop
 μ-loop bytes dealer at count whole a₀ here₀ i₀ a here i = whole - i
 
 -- the codes that are whole, and the code once it is read
-whole-is : (t : tie.At-loop Inv-loop μ-loop) → (let s = t .before .before .before .before in t .before .before .whole-codes .result ≡ min ((8 * length (s .args .bytes .now) - s .args .at) / 6) (s .args .count))
+whole-is : (t : tie.At-loop Inv-loop μ-loop)
+    → (let s = t .before .before .before .before in
+    t .before .before .whole-codes .result ≡ min ((8 * length (s .args .bytes .now) - s .args .at) / 6) (s .args .count))
 whole-is t = t .before .before .whole-codes .ensures
 
 there : (c : tie.In-loop Inv-loop μ-loop) → (let t = c .before in t .loop .here + 6 ≤ 8 * length (t .before .before .before .before .args .bytes .now))
@@ -28,7 +30,8 @@ there c =
     omega (arith, t .loop .inv .0 .along, whole-in (length (a .bytes .now)) (a .at) (a .count) (whole-is t) (t .loop .i) (c .loop-test .taken))
 
 code-reads : (c : tie.After-code-ending Inv-loop μ-loop)
-    → (let t = c .before .before in read 6 (t .before .before .before .before .args .bytes .now) (t .loop .here) ≡ found (c .code-ending .result) (t .loop .here + 6))
+    → (let t = c .before .before in
+    read 6 (t .before .before .before .before .args .bytes .now) (t .loop .here) ≡ found (c .code-ending .result) (t .loop .here + 6))
 code-reads c = code-read _ (c .before .before .loop .here) (c .code-ending .ensures) (there (c .before))
 
 within : (c : tie.In-loop Inv-loop μ-loop) → c .before .loop .i < c .before .before .before .before .before .args .count
@@ -44,7 +47,8 @@ stops-short c =
     let t = c .before .before in
     let a = t .before .before .before .before .args in
     let last : t .loop .i ≡ t .before .before .whole-codes .result = omega (arith, t .loop .inv .1, c .before .loop-test .left) in
-    code-short _ (t .loop .here) (omega (arith, t .loop .inv .0 .along, last, whole-out (length (a .bytes .now)) (a .at) (a .count) (whole-is t) (c .if2 .taken)))
+    code-short _ (t .loop .here) (omega
+    (arith, t .loop .inv .0 .along, last, whole-out (length (a .bytes .now)) (a .at) (a .count) (whole-is t) (c .if2 .taken)))
 
 whole-codes-requires : tie.Need-whole-codes-requires Inv-loop μ-loop
 whole-codes-requires c κs = search needs
@@ -93,14 +97,19 @@ loop-less c = search needs
 loop-again : tie.Need-loop-again Inv-loop μ-loop
 loop-again c =
     let w = c .before .before .before in
-    let l = w .before in
-    (call-goes _ _ _ _ (l .before .loop .inv .0) (within l) (code-reads w) (c .before .before .refusal .ensures) (c .before .if1 .left) (c .call .ensures), omega arith)
+    let l = w .before in (
+      call-goes _ _ _ _ (l .before .loop .inv .0) (within l) (code-reads w) (c .before .before .refusal .ensures) (c .before .if1 .left)
+          (c .call .ensures),
+      omega arith,
+    )
 
 no-calls-requires-2 : tie.Need-no-calls-requires-2 Inv-loop μ-loop
 no-calls-requires-2 c κs = search needs
 
 returns-2 : tie.Need-returns-2 Inv-loop μ-loop
-returns-2 c = c .no-calls2 .ensures ∙ call-short _ _ _ _ (c .before .before .before .loop .inv .0) (omega (arith, c .before .before .before .loop .inv .1, c .before .if2 .taken)) (stops-short (c .before))
+returns-2 c = c .no-calls2 .ensures
+    ∙ call-short _ _ _ _ (c .before .before .before .loop .inv .0) (omega (arith, c .before .before .before .loop .inv .1, c .before .if2 .taken))
+    (stops-short (c .before))
 
 returns-3 : tie.Need-returns-3 Inv-loop μ-loop
 returns-3 c = call-ends _ _ _ _ (c .before .before .loop .inv .0) (omega (arith, c .before .loop-test .left, c .if2 .left))

@@ -64,7 +64,8 @@ no-heading-requires-3 c κs = search needs
 returns-3 : tie.Need-returns-3
 returns-3 c =
     let v = c .before .before in
-    c .no-heading3 .ensures ∙ no-board (bytes-of (v .before .before .before .before)) _ (board-reads (v .before .before .before .before)) _ (table-reads v) (c .before .if1 .taken)
+    c .no-heading3 .ensures ∙ no-board (bytes-of (v .before .before .before .before)) _ (board-reads (v .before .before .before .before)) _ (table-reads v)
+    (c .before .if1 .taken)
 
 no-heading-requires-4 : tie.Need-no-heading-requires-4
 no-heading-requires-4 c κs = search needs

@@ -60,7 +60,8 @@ add-result-3 : tie.Need-add-result-3
 add-result-3 c = search needs
 
 returns : tie.Need-returns
-returns c = let s = c .before .before .before .before in (play-number (s .args .k) (s .args .won) (s .args .after) (s .args .revokes) (s .args .word), omega arith)
+returns c = let s = c .before .before .before .before in
+    (play-number (s .args .k) (s .args .won) (s .args .after) (s .args .revokes) (s .args .word), omega arith)
 
 pub contract-bits-spec : {M : Type 1} → statement M
 contract-bits-spec =

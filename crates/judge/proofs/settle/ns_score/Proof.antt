@@ -24,7 +24,8 @@ sub-result c = rw (toZ-ofZ (c .before .fits .score), +ℤ-idl) (small (c .before
 
 returns-2 : tie.Need-returns-2
 unfolding nsScore
-returns-2 c = rw (toZ-ofZ (c .before .fits .score), +ℤ-idl, toZ-ofZ (small (c .before .args .score) (c .before .pre)), ne-eqb _ _ (c .if1 .left)) (refl, rw (size-neg (c .before .args .score)) (c .before .pre))
+returns-2 c = rw (toZ-ofZ (c .before .fits .score), +ℤ-idl, toZ-ofZ (small (c .before .args .score) (c .before .pre)), ne-eqb _ _ (c .if1 .left))
+    (refl, rw (size-neg (c .before .args .score)) (c .before .pre))
 
 pub ns-score-spec : {M : Type 1} → statement M
 ns-score-spec = tie.close (tie.spec returns sub-result returns-2)

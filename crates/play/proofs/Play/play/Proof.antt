@@ -20,7 +20,13 @@ with-trick-requires c κs = search needs
 
 returns-2 : tie.Need-returns-2
 unfolding step
-returns-2 c = simp (lt-leb _ _ (c .before .before .before .if1 .left), c .with-trick .ensures, c .before .with-card .ensures, c .before .before .with-lead .ensures)
+returns-2 c = simp (
+  lt-leb _ _ (c .before .before .before .if1 .left),
+  c .with-trick .ensures,
+  c .before .with-card .ensures,
+  c .before .before .with-lead
+      .ensures,
+)
 
 pub play-spec : {M : Type 1} → statement M
 play-spec =

@@ -68,7 +68,8 @@ loop-again c = list-goes (c .before .before .loop .inv) (c .before .loop-test .t
 returns-2 : tie.Need-returns-2 Inv-loop μ-loop
 returns-2 c =
     let s = c .before .before .before .before in
-    as-listed _ (word s) (c .before .before .if1 .left) refl (c .before .before .before .entries .ensures) (list-ends (c .before .loop .inv) (c .loop-test .left))
+    as-listed _ (word s) (c .before .before .if1 .left) refl (c .before .before .before .entries .ensures)
+    (list-ends (c .before .loop .inv) (c .loop-test .left))
 
 pub revokes-spec : {M : Type 1} → statement M
 revokes-spec =
