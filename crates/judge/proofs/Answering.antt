@@ -1,19 +1,17 @@
 -- What judging a record comes to in the number returned and in the two buffers. Assumes nothing.
-use Prim.Native.Nat.{ℕ, zero, suc, _≤_, _<_, _+_, _-_, _*_, _/_, _%_, _^_}
+use Prim.Native.Nat.{ℕ, _≤_, _<_, _+_, _-_, _*_, _/_, _%_}
 use native.Mathlib.Nat.{zero-add, div-one}
 use native.Mathlib.Numerals.{add-one}
 use native.Mathlib.Omega.{arith}
 use mathlib.Core.Path.{_≡_, refl, sym, ap, _∙_, subst}
-use mathlib.Core.Bool.{Bool, true, false, not}
+use mathlib.Core.Bool.{Bool, true, false}
 use mathlib.Core.List.{List, [], _∷_, _++_, reverse-reverse}
 use borrow.Author.Tests.{lt-ltb, le-ltb}
-use lib.Dec.{ltb}
 use lib.ListN.{length, take, drop, getD, set, length-map}
 use lib.Seq.{paste-suc}
-use Rattle.laws.specs.Choice.{if_then_else_}
 use Rattle.laws.specs.Auction.{passedOut}
-use Rattle.laws.specs.Record.{Parts, Field, bits, number, bytesOf, packed}
-use Rattle.laws.specs.Reading.{Reading, Reading.refused, Reading.found, refuse, onward}
+use Rattle.laws.specs.Record.{Parts, bits, number, bytesOf, packed}
+use Rattle.laws.specs.Reading.{Reading, Reading.refused, Reading.found, refuse}
 use Rattle.laws.specs.Law2.{dealer}
 use Rattle.laws.specs.Judge as Judge
 use Rattle.laws.specs.Judgement.{answerFields, answerBytes, playedFields, callsOf, revokesOf, revokeByte, revokeBytes}

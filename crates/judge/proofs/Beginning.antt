@@ -1,20 +1,19 @@
 -- The record from its first bit to the end of its calls: what each section's success tells, and the whole from its parts. Assumes nothing.
-use Prim.Native.Nat.{ℕ, zero, suc, _≤_, _<_, _+_, _-_, _*_, _/_, _%_}
+use Prim.Native.Nat.{ℕ, zero, suc, _≤_, _<_, _+_, _-_, _*_}
 use native.Mathlib.Nat.{mul-zero, mul-suc}
 use native.Mathlib.Omega.{arith}
 use mathlib.Core.Path.{_≡_, refl, sym, ap, _∙_, subst}
-use mathlib.Core.Bool.{Bool, true, false, not}
-use mathlib.Core.List.{List, [], _∷_}
+use mathlib.Core.Bool.{not}
+use mathlib.Core.List.{List}
 use borrow.Author.Tests.{eqb-true, not-false}
 use lib.Dec.{eqb}
 use lib.ListN.{length}
 use Rattle.laws.specs.Refusals.{noBoardOrTable, notThirteen}
 use Rattle.laws.specs.Cards.{noSeat, seatWithoutThirteen}
-use Rattle.laws.specs.Reading.{Reading, Reading.refused, Reading.found, onward, numberAt, readRow}
+use Rattle.laws.specs.Reading.{Reading, Reading.refused, Reading.found, onward, readRow}
 use Rattle.laws.specs.Law2.{dealer}
 use Rattle.laws.specs.Judge as Judge
 use Rattle.laws.specs.Record.{Parts}
-use Rattle.laws.proofs.Tests.{not-both}
 use Rattle.laws.proofs.Numbered.{Fair, not-0, fair-heading, fair-deal, fair-calls}
 use Rattle.laws.proofs.Readings.{first-of, first-read, first-test}
 use Rattle.deal.specs.Hands.{wordsOf}

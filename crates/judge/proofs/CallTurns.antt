@@ -1,8 +1,7 @@
 -- The loop over the calls: the auction's position is that of the history, and its refusal is the Law's. Assumes nothing.
-use Prim.Native.Nat.{ℕ, _≤_, _<_, _+_, _*_}
+use Prim.Native.Nat.{ℕ, _≤_, _<_, _+_}
 use mathlib.Core.Path.{_≡_, refl, sym, ap, _∙_}
-use mathlib.Core.Bool.{true}
-use mathlib.Core.List.{List, [], _∷_}
+use mathlib.Core.List.{List, []}
 use lib.ListN.{length}
 use Rattle.laws.specs.Auction.{callPlace}
 use Rattle.laws.specs.CallRefusal.{callRefusal}
@@ -11,7 +10,6 @@ use Rattle.auction.specs.declared.Auction.{Auction}
 use Rattle.auction.specs.Position.{positionOf, afterCall}
 use Rattle.auction.specs.Asked.{refusalOf}
 use Rattle.auction.proofs.Laws.{refusal-is}
-use Rattle.judge.specs.declared.reading.Calls.{Calls}
 use Rattle.judge.specs.Sections.{noCalls, callsOf}
 use Rattle.judge.proofs.Turns.{Reached, begins, ends, short, stops, goes}
 

@@ -1,15 +1,9 @@
 -- The loop over the cards: the play's position is that of the history, and its refusal is the Law's.
 -- Assumes nothing.
-use Prim.Native.Nat.{ℕ, _≤_, _<_, _+_, _*_, _%_}
+use Prim.Native.Nat.{ℕ, _≤_, _<_, _+_}
 use mathlib.Core.Path.{_≡_, refl, sym, ap, ap₂, _∙_, subst}
-use mathlib.Core.Bool.{Bool, true, false}
 use mathlib.Core.List.{List, [], _∷_}
-use native.Mathlib.Omega.{arith}
-use borrow.Author.Tests.{le-leb}
-use lib.Dec.{leb}
-use lib.ListN.{length, getD, set}
-use Rattle.laws.specs.Choice.{if_then_else_}
-use Rattle.laws.specs.Cards.{clockwise}
+use lib.ListN.{length}
 use Rattle.laws.specs.Law44.{cardsPlayed}
 use Rattle.laws.specs.CardRefusal.{cardRefusal}
 use Rattle.laws.specs.Reading.{Reading, Reading.refused, Reading.found, read, readEach}
@@ -18,7 +12,6 @@ use Rattle.play.specs.declared.Play.{Play}
 use Rattle.play.specs.Position.{startOf, step, verdictOf, verdictNumber}
 use Rattle.play.specs.History.{positionOf, AllPlayed}
 use Rattle.play.proofs.Verdicts.{verdict-law}
-use Rattle.judge.specs.declared.cards.Cards.{Cards}
 use Rattle.judge.specs.Sections.{noCards, cardsOf}
 use Rattle.judge.proofs.Turns.{Clean, Reached, begins, ends, short, stops, goes}
 

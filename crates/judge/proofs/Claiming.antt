@@ -1,12 +1,11 @@
 -- The claim in the code is the Laws' section: a law for each way out, over what was read. Assumes nothing.
-use Prim.Native.Nat.{ℕ, _≤_, _<_, _+_, _-_, _*_, _/_, _%_}
+use Prim.Native.Nat.{ℕ, _≤_, _<_, _+_, _-_, _/_, _%_}
 use mathlib.Core.Path.{_≡_, refl}
 use mathlib.Core.Bool.{Bool, true, false, not, _&&_, _||_}
 use mathlib.Core.List.{List, []}
 use borrow.Author.Tests.{eq-eqb, ne-eqb, le-leb, lt-leb, leb-true}
 use lib.Dec.{eqb, leb}
-use Rattle.laws.specs.Law68.{Claim, none, agreed}
-use Rattle.laws.specs.Reading.{Reading, Reading.refused, Reading.found, read, refuse}
+use Rattle.laws.specs.Reading.{Reading.refused, Reading.found, read, refuse}
 use Rattle.laws.proofs.Tests.{and-right}
 use Rattle.judge.specs.declared.claim.Claim.{Claim as Read}
 use Rattle.judge.specs.Sections.{noClaim, claimOf, pointAt, mayClaim, noClaimBy, markedBy, claimBy}

@@ -1,15 +1,14 @@
 -- The sections one after the other: what a reading that succeeds tells, and the whole from its parts. Assumes nothing.
-use Prim.Native.Nat.{ℕ, zero, suc, _≤_, _<_, _+_, _-_, _*_, _/_, _%_}
+use Prim.Native.Nat.{ℕ, zero, suc, _≤_, _<_, _+_, _-_, _*_}
 use native.Mathlib.Nat.{mul-zero, mul-suc}
 use native.Mathlib.Omega.{arith}
 use mathlib.Core.Path.{_≡_, refl, sym, ap, ap₂, _∙_, subst}
-use mathlib.Core.Bool.{Bool, true, false, not, _&&_, _||_}
+use mathlib.Core.Bool.{Bool, not, _&&_, _||_}
 use mathlib.Core.List.{List, [], _∷_}
-use borrow.Author.Tests.{eqb-true, not-false, not-true}
+use borrow.Author.Tests.{eqb-true, not-false}
 use lib.Dec.{eqb, ltb}
 use lib.ListN.{length}
-use Rattle.laws.specs.Choice.{if_then_else_}
-use Rattle.laws.specs.Reading.{Reading, Reading.refused, Reading.found, onward, numberAt, read, refuse, readEach}
+use Rattle.laws.specs.Reading.{Reading, Reading.refused, Reading.found, onward, numberAt, readEach}
 use Rattle.laws.specs.Law44.{cardsPlayed}
 use Rattle.laws.specs.Refusals.{auctionUnfinished, tooManyCards}
 use Rattle.laws.specs.CallRefusal.{callRefusal}
@@ -17,13 +16,11 @@ use Rattle.laws.specs.CardRefusal.{cardRefusal}
 use Rattle.laws.specs.Law2.{dealer}
 use Rattle.laws.specs.Auction as Law
 use Rattle.laws.specs.Judge as Judge
-use Rattle.laws.proofs.Tests.{by-test, not-both}
 use Rattle.laws.proofs.Bits.{number-lt}
 use Rattle.laws.proofs.CardRefusals.{refusal-le}
 use Rattle.laws.proofs.Numbered.{Fair, not-0, fair-read, fair-test, fair-each}
-use Rattle.laws.proofs.Readings.{refused-found, first-of, first-read, first-test}
+use Rattle.laws.proofs.Readings.{first-of, first-read, first-test}
 use Rattle.laws.specs.Cards.{clockwise}
-use Rattle.laws.specs.Law44.{tricksComplete}
 use Rattle.laws.specs.Record.{Parts}
 use Rattle.auction.specs.declared.Auction.{Auction}
 use Rattle.auction.specs.declared.Contract.{Contract}
@@ -31,12 +28,12 @@ use Rattle.auction.specs.Asked.{passedOutOf, contractOf, asLaw}
 use Rattle.auction.proofs.History.{passed-out-is}
 use Rattle.auction.proofs.Laws.{contract-is}
 use Rattle.play.specs.History.{AllPlayed, positionOf}
-use Rattle.play.proofs.Stands.{Stands, stands}
+use Rattle.play.proofs.Stands.{stands}
 use Rattle.play.proofs.Thirteen.{at-most-52}
 use Rattle.judge.specs.declared.cards.Cards.{Cards}
 use Rattle.judge.specs.declared.whole.Judged.{Judged}
 use Rattle.judge.specs.Sections.{cardsBy, cardsOf}
-use Rattle.judge.specs.Whole.{ThirteenEach, OfCards, OfCalls, afterCards, afterCalls, afterDeal, noJudgement, judgedOf}
+use Rattle.judge.specs.Whole.{OfCards, OfCalls, afterCards, afterCalls, noJudgement, judgedOf}
 use Rattle.judge.proofs.Turns.{Clean}
 use Rattle.judge.proofs.CardTurns.{all-played}
 

@@ -1,23 +1,21 @@
 -- The deal in the code is the Laws' section: two bits of a byte, the row of 52, and the seat without thirteen. Assumes nothing.
 use Prim.Native.Nat.{ℕ, zero, suc, _≤_, _<_, _+_, _-_, _*_, _/_, _%_, _^_}
-use native.Mathlib.Nat.{zero-add, add-zero, add-assoc, mul-zero, mul-suc}
-use native.Mathlib.Numerals.{add-one}
+use native.Mathlib.Nat.{zero-add, add-zero, mul-zero, mul-suc}
 use native.Mathlib.Omega.{arith}
-use mathlib.Core.Path.{_≡_, refl, sym, ap, ap₂, _∙_}
-use mathlib.Core.Bool.{Bool, true, false, not}
+use mathlib.Core.Path.{_≡_, refl, sym, ap, _∙_}
+use mathlib.Core.Bool.{true, false}
 use mathlib.Core.List.{List, [], _∷_, _++_}
 use borrow.Author.Tests.{eq-eqb, ne-eqb, leb-true, leb-false, ltb-true, ltb-false}
-use lib.Dec.{eqb, leb, ltb}
-use lib.ListN.{length, getD, take, replicate, length-append, List·getD-append}
+use lib.Dec.{leb, ltb}
+use lib.ListN.{length, getD, length-append, List·getD-append}
 use lib.Seq.{getD-at}
-use Rattle.laws.specs.Cards.{noSeat, seatWithoutThirteen}
-use Rattle.laws.specs.Reading.{Reading, Reading.refused, Reading.found, bitAt, numberAt, read, refuse, readRow}
+use Rattle.laws.specs.Cards.{seatWithoutThirteen}
+use Rattle.laws.specs.Reading.{Reading.refused, Reading.found, bitAt, numberAt, refuse, readRow}
 use Rattle.laws.specs.Judge.{readDeal}
 use Rattle.laws.proofs.Tests.{by-test}
 use Rattle.laws.proofs.Readings.{read-is, read-short}
 use Rattle.deal.specs.Hands.{wordsOf, notThirteenFrom}
 use Rattle.deal.proofs.Thirteen.{by-hands}
-use Rattle.judge.specs.declared.reading.Deal.{Deal}
 use Rattle.judge.specs.Sections.{rowAt, foursOf, noDeal, dealOf}
 
 -- ---- a holder: two bits of its byte

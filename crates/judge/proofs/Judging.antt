@@ -1,44 +1,42 @@
 -- The judgement that the positions give is the Laws' on the record's parts. Assumes nothing.
-use Prim.Native.Nat.{ℕ, zero, suc, _≤_, _<_, _+_, _-_, _*_, _/_, _%_}
+use Prim.Native.Nat.{ℕ, _-_, _/_}
 use native.Mathlib.Omega.{arith}
-use mathlib.Core.Path.{_≡_, refl, sym, ap, ap₂, _∙_, fun-ext}
+use mathlib.Core.Path.{_≡_, refl, sym, ap, _∙_, fun-ext}
 use mathlib.Core.Bool.{Bool, true, false}
-use mathlib.Core.List.{List, [], _∷_, map, reverse, reverse-reverse}
+use mathlib.Core.List.{List, [], _∷_, reverse, reverse-reverse}
 use borrow.Author.Tests.{eqb-true, eqb-false, eq-eqb}
 use lib.Dec.{eqb}
-use lib.IntN.{ℤ}
-use lib.ListN.{length, getD, length-map}
+use lib.ListN.{getD, length-map}
 use Rattle.laws.specs.Choice.{if_then_else_}
-use Rattle.laws.specs.Cards.{sideOf, partnerOf}
+use Rattle.laws.specs.Cards.{sideOf}
 use Rattle.laws.specs.Law2.{dealer, vulnerable}
 use Rattle.laws.specs.Auction as Law
 use Rattle.laws.specs.Reading.{Reading, Reading.refused, Reading.found, onward, refuse, ending, overfull}
 use Rattle.laws.specs.Judge.{readClaim, readNoClaim, readMarkedClaim}
 use Rattle.laws.specs.Law44.{cardsPlayed, allPlayed, tricksComplete, tricksLeft, cardsInTrick, winners, tricksWon}
-use Rattle.laws.specs.Law61.{Revoke, revokes}
-use Rattle.laws.specs.Law64.{transferredTricks, tricksAfter}
+use Rattle.laws.specs.Law61.{revokes}
 use Rattle.laws.specs.Law68.{Claim, none, agreed, claimedTricks, atClaimPoint, claimable}
 use Rattle.laws.specs.Law77.{declarerScore, nsScore}
 use Rattle.laws.specs.Record.{Parts, Field, field, number}
-use Rattle.laws.specs.Judgement.{callsOf, cardsOf, contractOf, winnersOf, revokesOf, claimedOf, wonOf, transferredOf, afterOf, stakeOf, scoreOf, playedFields}
+use Rattle.laws.specs.Judgement.{cardsOf, contractOf, winnersOf, revokesOf, claimedOf, wonOf, transferredOf, afterOf, stakeOf, scoreOf, playedFields}
 use Rattle.laws.specs.Judgement.{answerFields, twosComplement, revokeByte, revokeBytes}
 use Rattle.laws.proofs.Numbered.{Fair, not-0, fair-claim}
-use Rattle.laws.proofs.Tests.{by-test, not-both}
+use Rattle.laws.proofs.Tests.{by-test}
 use Rattle.auction.specs.declared.Contract.{Contract}
 use Rattle.auction.specs.Asked.{asLaw}
 use Rattle.play.specs.declared.Play.{Play}
 use Rattle.play.specs.declared.Tricks.{Tricks}
 use Rattle.play.specs.declared.Revokes.{Revokes}
 use Rattle.play.specs.Told.{tricksIn, revokesIn}
-use Rattle.play.specs.History.{positionOf, AllPlayed, tricksOf, revokesOf as Play·revokesOf}
+use Rattle.play.specs.History.{tricksOf, revokesOf as Play·revokesOf}
 use Rattle.play.proofs.Thirteen.{at-most-52}
-use Rattle.play.proofs.Stands.{Stands, stands}
+use Rattle.play.proofs.Stands.{stands}
 use Rattle.play.proofs.Complete.{tricks-law}
 use Rattle.play.proofs.Listed.{revokes-law}
 use Rattle.transfer.specs.Inputs.{claimedBy, transferredIn}
 use Rattle.transfer.proofs.History.{revokes-back, transferred-law, plain-bytes}
-use Rattle.judge.specs.Settled.{headFields, playFields, wonIn, afterIn, stakeIn, settledFields}
-use Rattle.judge.specs.Whole.{ThirteenEach, OfCards, listedIn, afterCards, noJudgement, judgedOf, boardFields}
+use Rattle.judge.specs.Settled.{headFields, wonIn, afterIn, stakeIn, settledFields}
+use Rattle.judge.specs.Whole.{OfCards, listedIn, afterCards, noJudgement, judgedOf, boardFields}
 use Rattle.judge.specs.declared.claim.Claim.{Claim as Read}
 use Rattle.judge.specs.declared.whole.Judged.{Judged}
 use Rattle.judge.specs.Sections.{claimOf, pointAt, noClaimBy, markedBy, claimBy}

@@ -2,11 +2,11 @@
 use Prim.Native.Nat.{ℕ, zero, suc, _≤_, _<_, _+_, _-_, _*_}
 use native.Mathlib.Nat.{mul-le-mul}
 use native.Mathlib.Omega.{arith}
-use mathlib.Core.Path.{_≡_, ap, _∙_}
+use mathlib.Core.Path.{_≡_, ap}
 use mathlib.Core.Bool.{Bool, true, false}
 use borrow.Author.Tests.{le-leb, lt-leb}
 use lib.Dec.{eqb, ltb, leb}
-use lib.IntN.{ℤ, pos, negℤ}
+use lib.IntN.{pos, negℤ}
 use Rattle.laws.specs.Choice.{if_then_else_}
 use Rattle.laws.specs.Law77.{Stake, byVulnerability, byDoubling, trickValue, firstTrickValue, trickPoints, overtrickValue, doubledUndertrick, undertrickValue}
 use Rattle.laws.specs.Law77.{undertricks, isGame, partScorePoints, gamePoints, slamPoints, doublingPoints, isMade, overtrickPoints, undertrickPoints}

@@ -4,8 +4,8 @@ use mathlib.Core.Path.{_≡_, refl, sym, ap, _∙_}
 use mathlib.Core.Bool.{Bool, true, false, not, _&&_, _||_}
 use mathlib.Core.List.{List, []}
 use native.Mathlib.Omega.{arith}
-use borrow.Author.Tests.{eq-eqb, ne-eqb, lt-ltb, le-ltb, le-leb, lt-leb, ltb-true, eqb-true, eqb-false}
-use lib.Dec.{eqb, ltb, leb}
+use borrow.Author.Tests.{eq-eqb, ne-eqb, lt-ltb, le-ltb, le-leb, lt-leb, ltb-true}
+use lib.Dec.{eqb, ltb}
 use lib.ListN.{length}
 use Rattle.laws.specs.Choice.{if_then_else_}
 use Rattle.laws.specs.Refusals.{auctionUnfinished}
@@ -17,10 +17,9 @@ use Rattle.laws.specs.Reading.{Reading, Reading.refused, Reading.found, onward,
 use Rattle.laws.specs.Judge as Law
 use Rattle.laws.proofs.CallRefusals.{refusal-le}
 use Rattle.laws.proofs.Numbered.{Fair, not-0, fair-each}
-use Rattle.laws.proofs.Tests.{by-test, not-both}
+use Rattle.laws.proofs.Tests.{by-test}
 use Rattle.auction.specs.Asked.{overOf}
 use Rattle.auction.proofs.History.{over-is}
-use Rattle.judge.specs.declared.reading.Heading.{Heading}
 use Rattle.judge.specs.declared.reading.Calls.{Calls}
 use Rattle.judge.specs.Sections.{noHeading, headingOf, noCalls, callsOf, noCards, cardsOf, cardsBy}
 

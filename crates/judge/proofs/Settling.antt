@@ -1,17 +1,16 @@
 -- The answer's 56 bits as one number, and a score as 16 bits. Assumes nothing.
-use Prim.Native.Nat.{ℕ, zero, suc, _≤_, _<_, _+_, _-_, _*_, _%_}
+use Prim.Native.Nat.{ℕ, _≤_, _<_, _+_, _-_, _*_, _%_}
 use native.Mathlib.Omega.{arith}
-use mathlib.Core.Path.{_≡_, refl, sym, ap, _∙_}
+use mathlib.Core.Path.{_≡_, refl, sym}
 use mathlib.Core.Bool.{Bool, true, false}
-use mathlib.Core.List.{List, [], _∷_}
+use mathlib.Core.List.{List, _∷_}
 use borrow.Author.Tests.{le-leb}
 use lib.Dec.{T}
 use lib.IntN.{ℤ, pos, negsuc, negℤ, natAbs}
 use lib.Signed.{leZ, nonNeg}
-use Rattle.laws.specs.Choice.{if_then_else_}
 use Rattle.laws.specs.Law64.{sideRevoked, tricksAfter}
 use Rattle.laws.specs.Law61.{Revoke}
-use Rattle.laws.specs.Record.{Field, field, bits, number}
+use Rattle.laws.specs.Record.{field, bits, number}
 use Rattle.laws.specs.Judgement.{twosComplement}
 use Rattle.laws.proofs.Tests.{by-test, not-both}
 use Rattle.auction.specs.declared.Contract.{Contract}

@@ -1,9 +1,9 @@
 -- Codes of six bits by two bytes, and how many of them are whole. Assumes nothing.
 use Prim.Native.Nat.{ℕ, _≤_, _<_, _+_, _-_, _*_, _/_, _%_, _^_, min}
 use native.Mathlib.Omega.{arith}
-use mathlib.Core.Path.{_≡_, sym, ap, _∙_}
+use mathlib.Core.Path.{_≡_, sym, _∙_}
 use mathlib.Core.List.{List}
-use lib.ListN.{length, getD}
+use lib.ListN.{length}
 use Rattle.laws.specs.Reading.{numberAt, Reading.found, Reading.refused, read}
 use Rattle.laws.specs.Refusals.{recordEnds}
 use Rattle.laws.proofs.Bits.{number-add, number-within}

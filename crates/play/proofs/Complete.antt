@@ -1,23 +1,21 @@
 -- The complete tricks that a position tells are the Laws': their number, their winners, and those of each side. Assumes nothing.
-use Prim.Native.Nat.{ℕ, zero, suc, _≤_, _<_, _+_, _*_, _/_, _%_}
+use Prim.Native.Nat.{ℕ, suc, _≤_, _<_, _+_, _*_, _/_, _%_}
 use mathlib.Core.Path.{_≡_, refl, sym, ap, _∙_}
 use mathlib.Core.Bool.{true, false}
 use mathlib.Core.List.{List, [], _∷_, _++_}
-use native.Mathlib.Nat.{mod-eq-of-lt}
 use native.Mathlib.Omega.{arith}
 use borrow.Author.Tests.{ne-eqb, ltb-true, ltb-false}
-use lib.Dec.{eqb, ltb}
+use lib.Dec.{ltb}
 use lib.ListN.{length, length-append}
-use Rattle.laws.specs.Choice.{if_then_else_}
 use Rattle.laws.specs.Law44.{cardsPlayed, tricksComplete, cardsInTrick, leader, winners, winner, trickUnderWay, suitLed}
 use Rattle.laws.proofs.Tests.{by-test}
-use Rattle.play.specs.declared.Play.{Play}
 use Rattle.play.specs.Told.{completeIn, winnersIn, tricksIn}
 use Rattle.play.specs.History.{positionOf, AllPlayed, entriesOf, tricksOf}
 use Rattle.play.proofs.Cards.{tricks-same, tricks-more, in-trick-more, in-trick-last}
 use Rattle.play.proofs.Thirteen.{at-most-52}
 use Rattle.play.proofs.Worth.{winner-low}
-use Rattle.play.proofs.Stands.{Stands, stands, won-by}
+use Rattle.play.proofs.UnderWay.{won-by}
+use Rattle.play.proofs.Stands.{stands}
 
 -- ---- the winners, a card at a time
 module _ (trump opening c : ℕ) (g : List ℕ) where

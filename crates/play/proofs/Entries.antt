@@ -5,7 +5,7 @@ use mathlib.Core.Bool.{true, false}
 use mathlib.Core.List.{List, [], _∷_}
 use native.Mathlib.Nat.{pow-suc, pow-succ', pow-le-pow-right, div-one, div-div-eq-div-mul, mod-eq-of-lt}
 use native.Mathlib.Omega.{arith}
-use borrow.Author.Tests.{eqb-true, eqb-false, eq-eqb, ne-eqb, leb-true, leb-false}
+use borrow.Author.Tests.{eqb-true, eqb-false, ne-eqb, leb-true, leb-false}
 use lib.Dec.{eqb, leb}
 use lib.ListN.{length, drop}
 use lib.Pow.{pow-add}
@@ -16,11 +16,11 @@ use Rattle.laws.specs.Law61.{revokeAt}
 use Rattle.laws.proofs.Tests.{by-test}
 use Rattle.play.specs.declared.Play.{Play}
 use Rattle.play.specs.Words.{withEntry}
-use Rattle.play.specs.Position.{leads}
-use Rattle.play.specs.Told.{entriesIn, revokeByte, cardBefore, entriesFrom, byteAfter}
+use Rattle.play.specs.Told.{entriesIn, revokeByte, cardBefore, byteAfter}
 use Rattle.play.specs.History.{entriesOf, byteOf}
-use Rattle.play.proofs.Cards.{in-trick-more, in-trick-last, leader-same, trick-more, trick-last, trick-size}
-use Rattle.play.proofs.Stands.{Stands, lead-test, entries-low, led-on, none-under-way}
+use Rattle.play.proofs.Cards.{in-trick-more, in-trick-last, trick-more, trick-size}
+use Rattle.play.proofs.UnderWay.{led-on}
+use Rattle.play.proofs.Stands.{Stands, lead-test, entries-low}
 
 -- the entries of the complete tricks, and one for the trick under way where there is one
 unfoldable pub allEntries : ℕ → ℕ → List ℕ → ℕ

@@ -1,18 +1,17 @@
 -- The loops that read a position's words from the lowest entry on: the winners filled in from the last trick, the revokes from the last card.
 -- What is still to be filled in, and what is filled in, are together the whole. Assumes nothing.
-use Prim.Native.Nat.{ℕ, zero, suc, _≤_, _<_, _+_, _-_, _*_, _/_, _%_, _^_}
+use Prim.Native.Nat.{ℕ, zero, suc, _≤_, _<_, _+_, _-_, _/_, _%_, _^_}
 use mathlib.Core.Path.{_≡_, refl, sym, ap, _∙_}
-use mathlib.Core.Bool.{Bool, true, false}
+use mathlib.Core.Bool.{true, false}
 use mathlib.Core.List.{List, [], _∷_, _++_, append-nil, append-assoc}
 use native.Mathlib.Nat.{pow-suc, div-one}
-use native.Mathlib.Numerals.{add-one}
 use native.Mathlib.Omega.{arith}
 use borrow.Author.Tests.{eqb-true, eqb-false, eq-eqb, ne-eqb, lt-ltb, le-ltb}
-use lib.Count.{ones, onesIn, ones-step, trailingZeros, under}
-use lib.Dec.{eqb, ltb}
-use lib.ListN.{length, getD, set, drop, replicate, length-append, length-set}
-use lib.Pow.{shr-lt, shr-shr}
-use lib.Seq.{set-split, drop-at, length-take-le, getD-set-same, drop-set-lt, drop-cons}
+use lib.Count.{ones, onesIn, ones-step, trailingZeros}
+use lib.Dec.{eqb}
+use lib.ListN.{length, set, drop, replicate, length-append, length-set}
+use lib.Pow.{shr-shr}
+use lib.Seq.{getD-set-same, drop-set-lt, drop-cons}
 use Rattle.laws.specs.Choice.{if_then_else_, howMany}
 use Rattle.laws.specs.Padded.{padded}
 use Rattle.laws.specs.Cards.{sideOf}

@@ -1,25 +1,24 @@
 -- The revokes that a position tells are the Laws', in order of play, and never more than 36. Assumes nothing.
-use Prim.Native.Nat.{ℕ, zero, suc, _≤_, _<_, _+_, _-_, _*_, _/_, _%_, _^_}
-use mathlib.Core.Path.{_≡_, refl, sym, ap, _∙_}
-use mathlib.Core.Bool.{Bool, true, false, not, _&&_}
+use Prim.Native.Nat.{ℕ, zero, suc, _≤_, _<_, _+_, _-_, _*_, _/_, _%_}
+use mathlib.Core.Path.{_≡_, refl, ap, _∙_}
+use mathlib.Core.Bool.{Bool, true, false, not}
 use mathlib.Core.List.{List, [], _∷_, _++_, map, append-nil}
 use native.Mathlib.Omega.{arith}
-use borrow.Author.Tests.{eqb-true, eqb-false, eq-eqb, ne-eqb, not-true, ltb-true, ltb-false, le-ltb}
+use borrow.Author.Tests.{eqb-false, not-true, ltb-true, ltb-false, le-ltb}
 use lib.Dec.{eqb, ltb}
 use lib.ListN.{length, drop, length-append, length-map}
-use Rattle.laws.specs.Choice.{if_then_else_}
-use Rattle.laws.specs.Cards.{cardsDealt, clockwise}
-use Rattle.laws.specs.Law44.{cardsPlayed, tricksComplete, cardsInTrick, trickUnderWay, suitLed, leader, toPlay}
+use Rattle.laws.specs.Cards.{cardsDealt}
+use Rattle.laws.specs.Law44.{cardsPlayed, tricksComplete, cardsInTrick}
 use Rattle.laws.specs.Law61.{Revoke, isRevoke, revokeAt, revokes}
 use Rattle.laws.proofs.Tests.{by-test, and-left}
 use Rattle.play.specs.Words.{bitOf}
 use Rattle.play.specs.Told as Told
-use Rattle.play.specs.Told.{byteAfter, bytesIn, revokedIn, revokesIn, revokeByte}
+use Rattle.play.specs.Told.{bytesIn, revokedIn, revokesIn}
 use Rattle.play.specs.History.{positionOf, AllPlayed, revokedOf, revokesOf, byteOf}
 use Rattle.play.proofs.Cards.{fewer-than-four, tricks-same, tricks-more, in-trick-more, in-trick-last}
 use Rattle.play.proofs.Thirteen.{at-most-52, none-on-thirteen}
 use Rattle.play.proofs.Filling.{none-in}
-use Rattle.play.proofs.Stands.{Stands, stands}
+use Rattle.play.proofs.Stands.{stands}
 use Rattle.play.proofs.Entries.{allEntries, all-entries, byte-is}
 
 module _ (trump opening : ℕ) (deal : List ℕ) where

@@ -1,6 +1,6 @@
 -- Words by a test of each place: the cards that pass two tests, a card taken out, and a seat's hand. Assumes nothing.
-use Prim.Native.Nat.{ℕ, zero, suc, _≤_, _<_, _+_, _*_, _/_, _%_, _^_, min}
-use mathlib.Core.Path.{_≡_, refl, sym, ap, ap₂, _∙_}
+use Prim.Native.Nat.{ℕ, zero, suc, _<_, _+_, _*_, _/_, _%_, _^_, min}
+use mathlib.Core.Path.{_≡_, refl, ap, _∙_}
 use mathlib.Core.Bool.{Bool, true, false, not, _&&_}
 use mathlib.Core.List.{List, [], _∷_}
 use native.Mathlib.Nat.{pow-suc}
@@ -9,7 +9,6 @@ use borrow.Author.Tests.{eqb-true, eqb-false, eq-eqb, ne-eqb}
 use lib.Bits.{bitAnd, bitXor, and-step, xor-step, xor-zero-r, differ}
 use lib.Dec.{eqb}
 use lib.ListN.{length, getD}
-use Rattle.laws.specs.Choice.{if_then_else_}
 use Rattle.laws.specs.Cards.{noSeat}
 use Rattle.laws.proofs.Tests.{by-test}
 use Rattle.deal.specs.Hands.{wordOf}

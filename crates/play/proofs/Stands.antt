@@ -1,96 +1,35 @@
 -- The position that the code keeps is the Laws' after every history that the verdicts allow: each field, a card at a time. Assumes nothing.
-use Prim.Native.Nat.{ℕ, zero, suc, _≤_, _<_, _+_, _*_, _%_, _^_, max}
-use mathlib.Core.Path.{_≡_, refl, sym, ap, _∙_}
-use mathlib.Core.Bool.{Bool, true, false, not, _&&_, _||_}
+use Prim.Native.Nat.{ℕ, zero, suc, _≤_, _<_, _%_, _^_, max}
+use mathlib.Core.Path.{_≡_, refl, sym, _∙_}
+use mathlib.Core.Bool.{true, false, not, _&&_}
 use mathlib.Core.List.{List, [], _∷_}
 use native.Mathlib.Nat.{mod-eq-of-lt, pow-suc, pow-le-pow-right}
 use native.Mathlib.Omega.{arith}
-use borrow.Author.Tests.{eqb-true, eqb-false, eq-eqb, ne-eqb, lt-leb, leb-true, leb-false, not-true}
-use lib.Bits.{bitAnd, bitOr, bitXor}
+use borrow.Author.Tests.{eqb-true, eqb-false, eq-eqb, ne-eqb, lt-leb, leb-true, leb-false}
+use lib.Bits.{bitXor}
 use lib.Dec.{eqb, leb}
 use lib.ListN.{length, getD, take}
 use lib.Pow.{pow-mono}
-use Rattle.laws.specs.Choice.{if_then_else_, some}
+use Rattle.laws.specs.Choice.{some}
 use Rattle.laws.specs.Cards.{suitOf, clockwise, dealtTo, noSeat}
-use Rattle.laws.specs.Law44.{cardsPlayed, tricksComplete, cardsInTrick, trickUnderWay, suitLed, winner, leader, toPlay, isPlayed, holds}
+use Rattle.laws.specs.Law44.{cardsPlayed, tricksComplete, cardsInTrick, trickUnderWay, suitLed, leader, toPlay, isPlayed, holds}
 use Rattle.laws.specs.Law61.{holdsSuit, isRevoke}
 use Rattle.laws.proofs.Tests.{by-test, not-both}
 use Rattle.laws.proofs.Counts.{any-default}
-use Rattle.deal.specs.Hands.{wordOf, wordsOf, hasSuit, holdsOne}
+use Rattle.deal.specs.Hands.{wordOf, wordsOf}
 use Rattle.deal.proofs.Built.{at-seat}
 use Rattle.deal.proofs.Held.{has-holds}
 use Rattle.play.specs.declared.Play.{Play}
-use Rattle.play.specs.Words.{bitOf, worth, withBit, withEntry}
+use Rattle.play.specs.Words.{bitOf, withBit, withEntry}
 use Rattle.play.specs.Position.{putPlayed, startOf, turnOf, handOf, couldFollow, leads, worthOf, revokesWith, withLead, withCard, withTrick, step}
 use Rattle.play.specs.History.{positionOf, AllPlayed, holdersOf, bestWorth, entriesOf, revokedOf}
-use Rattle.play.proofs.Cards.{Fair, fair, fewer-than-four, trick-more, trick-last, trick-size, in-trick-more, in-trick-last, tricks-same, tricks-more}
+use Rattle.play.proofs.Cards.{fair, trick-more, trick-last, trick-size, in-trick-more, in-trick-last, tricks-same, tricks-more}
 use Rattle.play.proofs.Cards.{leader-same, not-in-trick}
 use Rattle.play.proofs.Masks.{wordBy, word-same, word-and, word-without, word-places}
 use Rattle.play.proofs.Holders.{turn-seat, holders-52, holds-law, stood, suit-law}
 use Rattle.play.proofs.Thirteen.{at-most-52}
 use Rattle.play.proofs.Worth.{winner-low, best-more}
-
--- ---- the trick under way
--- one card more does not change the suit led
-pub led-on : (c : ℕ) (t : List ℕ) → (cardsPlayed t ≡ 0 → ⊥) → suitLed (c ∷ t) ≡ suitLed t
-unfolding suitLed cardsPlayed
-led-on c [] h = absurd (h refl)
-led-on c (d ∷ t) h = refl
-
-pub none-under-way : (g : List ℕ) → cardsInTrick g ≡ 0 → trickUnderWay g ≡ []
-unfolding trickUnderWay
-none-under-way g e = rw e
-
--- the trick with one card more, complete or not
-next-trick : (c : ℕ) (g : List ℕ) → (cardsInTrick (c ∷ g) ≡ 0 → ⊥) → trickUnderWay (c ∷ g) ≡ c ∷ trickUnderWay g
-next-trick c g ne =
-    by-test (leb 3 (cardsInTrick g))
-    (λ (q : leb 3 (cardsInTrick g) ≡ true). absurd (ne (in-trick-last c g (leb-true 3 (cardsInTrick g) q))))
-    (λ (q : leb 3 (cardsInTrick g) ≡ false). trick-more c g (leb-false 3 (cardsInTrick g) q))
-
-four-over : (seat : ℕ) → seat < 4 → bitOr seat 4 ≡ 4 + seat
-four-over zero h = refl
-four-over (suc zero) h = refl
-four-over (suc (suc zero)) h = refl
-four-over (suc (suc (suc zero))) h = refl
-four-over (suc (suc (suc (suc s)))) h = absurd (omega arith)
-
-bit-low : (b : Bool) → bitOf b < 2
-bit-low true = omega arith
-bit-low false = omega arith
-
-neither : (a b : Bool) → (not a && not b) ≡ not (a || b)
-neither true b = refl
-neither false b = refl
-
--- a card of the trick under way has been played
-in-play : (g : List ℕ) (x : ℕ) → isPlayed (trickUnderWay g) x ≡ true → isPlayed g x ≡ true
-in-play g x e =
-    by-test (isPlayed g x)
-    (λ (q : isPlayed g x ≡ true). q)
-    (λ (q : isPlayed g x ≡ false). not-both (isPlayed (trickUnderWay g) x) e (not-in-trick g x q))
-
-few-tricks : (c : ℕ) (g : List ℕ) → cardsPlayed (c ∷ g) ≤ 52 → suc (tricksComplete g) ≤ 13
-unfolding tricksComplete cardsPlayed
-few-tricks c g h = omega arith
-
--- the seat stands lowest in the worth
-best-seat : (trump leader c : ℕ) (t : List ℕ) → bestWorth trump leader (c ∷ t) % 4 ≡ winner trump leader (c ∷ t)
-unfolding bestWorth worth
-best-seat trump leader c t = omega (arith, winner-low trump leader c t)
-
-pub won-by : (trump opening c : ℕ) (g : List ℕ) → cardsInTrick (c ∷ g) ≡ 0 → leader trump opening (c ∷ g)
-    ≡ winner trump (leader trump opening g) (c ∷ trickUnderWay g)
-unfolding leader
-won-by trump opening c g e = rw e
-
-in-trick-test : (c : ℕ) (g : List ℕ) → eqb (cardsPlayed (c ∷ g) % 4) 0 ≡ eqb (cardsInTrick (c ∷ g)) 0
-unfolding cardsInTrick
-in-trick-test c g = refl
-
-one-more : (c : ℕ) (g : List ℕ) → cardsPlayed (c ∷ g) ≤ 52 → cardsPlayed g % 64 + 1 ≡ cardsPlayed (c ∷ g)
-unfolding cardsPlayed
-one-more c g h = omega arith
+use Rattle.play.proofs.UnderWay.{led-on, none-under-way, four-over, bit-low, neither, in-play, few-tricks, best-seat, won-by, in-trick-test, one-more}
 
 module _ (deal : List ℕ) (trump opening : ℕ) (all : length deal ≡ 52) where
   -- the fields of a position are what the Laws say after the cards

@@ -1,23 +1,22 @@
 -- Each seat holds what it was dealt less the cards it has played, so no more than 52 cards are played, and a seat that has played to twelve tricks
 -- cannot revoke. Assumes nothing.
-use Prim.Native.Nat.{ℕ, zero, suc, _≤_, _<_, _+_, _-_, _/_, _%_}
-use mathlib.Core.Path.{_≡_, refl, sym, ap, _∙_}
+use Prim.Native.Nat.{ℕ, suc, _≤_, _<_, _+_, _-_, _%_}
+use mathlib.Core.Path.{_≡_, _∙_}
 use mathlib.Core.Bool.{Bool, true, false, not, _&&_}
 use mathlib.Core.List.{List, [], _∷_}
 use native.Mathlib.Omega.{arith}
 use borrow.Author.Tests.{eqb-true, eqb-false, eq-eqb, ne-eqb, ltb-true, ltb-false, lt-ltb, le-ltb, not-true}
-use lib.Dec.{eqb, ltb, leb}
-use lib.ListN.{length, getD, set}
+use lib.Dec.{eqb, ltb}
+use lib.ListN.{length, getD}
 use Rattle.laws.specs.Choice.{if_then_else_, howMany, someBelow}
-use Rattle.laws.specs.Cards.{noSeat, clockwise, suitOf, dealtTo, cardsDealt}
-use Rattle.laws.specs.Law44.{cardsPlayed, tricksComplete, cardsInTrick, leader, winner, trickUnderWay, suitLed, isOf, toPlay, holds, playable}
+use Rattle.laws.specs.Cards.{noSeat, clockwise, cardsDealt}
+use Rattle.laws.specs.Law44.{cardsPlayed, tricksComplete, cardsInTrick, leader, trickUnderWay, suitLed, isOf, toPlay, holds}
 use Rattle.laws.specs.Law61.{holdsSuit, isRevoke}
-use Rattle.laws.specs.CardRefusal.{cardRefusal}
 use Rattle.laws.proofs.Tests.{by-test, not-both, and-left, and-right}
 use Rattle.laws.proofs.Counts.{many-le, below-some}
 use Rattle.laws.proofs.Stores.{many-set, two-places}
 use Rattle.play.specs.History.{holdersOf, AllPlayed, playsOf}
-use Rattle.play.proofs.Cards.{Fair, fair, fewer-than-four, tricks-same, tricks-more, leader-same, in-trick-more, in-trick-last}
+use Rattle.play.proofs.Cards.{fair, fewer-than-four, tricks-same, tricks-more, leader-same, in-trick-more, in-trick-last}
 use Rattle.play.proofs.Holders.{turn-seat, holders-52, holds-law, stood}
 
 -- ---- how many plays a seat has made: one to each complete trick, and one more where its turn in this trick is past

@@ -3,19 +3,18 @@ use Prim.Native.Nat.{ℕ}
 use mathlib.Core.Path.{_≡_, refl}
 use mathlib.Core.Bool.{Bool, true, false}
 use mathlib.Core.List.{List}
-use lib.Dec.{eqb, leb}
+use lib.Dec.{leb}
 use lib.ListN.{length}
 use Rattle.laws.specs.Choice.{if_then_else_}
-use Rattle.laws.specs.Cards.{dealtTo}
 use Rattle.laws.specs.Refusals.{accepted, cardNotHeld}
 use Rattle.laws.specs.Law44.{toPlay, holds, playable}
 use Rattle.laws.specs.CardRefusal.{cardRefusal}
 use Rattle.laws.proofs.Tests.{by-test}
 use Rattle.play.specs.declared.CardVerdict.the-variants.{Playable, NotHeld}
-use Rattle.play.specs.Position.{turnOf, verdictOf, verdictNumber}
-use Rattle.play.specs.History.{positionOf, AllPlayed, holdersOf}
+use Rattle.play.specs.Position.{verdictOf, verdictNumber}
+use Rattle.play.specs.History.{positionOf, AllPlayed}
 use Rattle.play.proofs.Holders.{turn-seat, holds-law}
-use Rattle.play.proofs.Stands.{Stands, stands, turn-is}
+use Rattle.play.proofs.Stands.{stands, turn-is}
 
 number-of : (b : Bool) → verdictNumber (if b then Playable else NotHeld) ≡ (if b then accepted else cardNotHeld)
 number-of true = refl

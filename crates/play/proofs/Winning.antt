@@ -1,13 +1,12 @@
 -- Law 44's winning card and winner of a trick, one card at a time: the card that wins so far, and one more card.
 -- A trick is written latest card first. Assumes nothing.
-use Prim.Native.Nat.{ℕ, zero, suc, _≤_, _<_, max}
-use mathlib.Core.Path.{_≡_, refl, sym, ap, _∙_, subst}
-use mathlib.Core.Bool.{Bool, true, false, _||_}
+use Prim.Native.Nat.{ℕ, max}
+use mathlib.Core.Path.{_≡_, refl, sym, _∙_, subst}
+use mathlib.Core.Bool.{Bool, true, false}
 use mathlib.Core.Logic.{_⊎_, inl, inr}
 use mathlib.Core.List.{List, [], _∷_}
 use native.Mathlib.Nat.{max-eq-left, max-eq-right, max-zero, le-of-lt}
-use native.Mathlib.Omega.{arith}
-use borrow.Author.Tests.{leb-true, leb-false, eqb-true, eqb-false, eq-eqb, ne-eqb, lt-ltb, le-ltb, ltb-true, ltb-false}
+use borrow.Author.Tests.{leb-true, leb-false, eqb-true, eqb-false, eq-eqb, ne-eqb, ltb-true, ltb-false}
 use lib.Dec.{eqb, ltb, leb}
 use Rattle.laws.specs.Choice.{if_then_else_, some}
 use Rattle.laws.specs.Cards.{suitOf, clockwise}

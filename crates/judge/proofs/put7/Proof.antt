@@ -1,11 +1,11 @@
 -- `put7` meets its contract: seven stores at the front. Assumes nothing.
-use mathlib.Core.Path.{_≡_, ap, _∙_}
+use mathlib.Core.Path.{ap, _∙_}
 use mathlib.Core.List.{List, [], _∷_, _++_}
 use Prim.Native.Nat.{ℕ}
 use lib.Seq.{sets-eq}
 use Rattle.judge.proofs.Answering.{seven}
 use native.Mathlib.Omega.{arith}
-use lib.ListN.{length, drop, length-set}
+use lib.ListN.{drop, length-set}
 use borrow.Author.Needs.{needs}
 use Rattle.judge.proofs.put7.Statement.{statement}
 use Rattle.judge.proofs.put7.Tie as tie

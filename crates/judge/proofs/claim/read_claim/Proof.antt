@@ -1,5 +1,5 @@
 -- `read_claim` meets its contract: a law of Claiming for each way out. Assumes nothing.
-use Prim.Native.Nat.{ℕ, _+_}
+use Prim.Native.Nat.{_+_}
 use mathlib.Core.Path.{_≡_, sym, ap, _∙_}
 use lib.Dec.{lit≤}
 use Rattle.field.proofs.ThreeBytes.{value-reads, short-stops}

@@ -1,5 +1,4 @@
 -- `code_ending` meets its contract. Assumes nothing.
-use native.Mathlib.Omega.{arith}
 use Rattle.judge.proofs.SixBits.{code-is}
 use borrow.Author.Needs.{needs}
 use Rattle.judge.proofs.codes.code_ending.Statement.{statement}

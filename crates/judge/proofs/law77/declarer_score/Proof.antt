@@ -1,11 +1,10 @@
 -- `declarer_score` meets its contract: made, or so many down; its size is far below what 64 bits hold. Assumes nothing.
-use Prim.Native.Nat.{ℕ, suc, _≤_, _<_, _+_, _-_, _*_, _^_}
-use mathlib.Core.Path.{_≡_, refl, sym, ap, _∙_}
+use Prim.Native.Nat.{ℕ, _<_, _+_, _-_, _^_}
+use mathlib.Core.Path.{ap, _∙_}
 use native.Mathlib.Omega.{arith}
-use mathlib.Core.Path.{subst}
-use lib.IntN.{ℤ, pos, negℤ, natAbs, _-ℤ_, +ℤ-idl}
+use lib.IntN.{pos, negℤ, +ℤ-idl}
 use mir.Syntax.{w64}
-use mir.Val.{SFits, toZ, ofZ}
+use mir.Val.{SFits}
 use mir.Facts.{toZ-ofZ, toZ-pos}
 use Rattle.laws.proofs.Integers.{size-neg, mag-le-size}
 use Rattle.judge.proofs.Points.{undertricks-le, made-score, down-score, made-le}

@@ -1,9 +1,8 @@
 -- `made` meets its contract: each item is small, so the sums fit. Assumes nothing.
-use Prim.Native.Nat.{ℕ, suc, _≤_, _<_, _+_, _-_, _*_}
-use mathlib.Core.Path.{_≡_, refl, sym, ap, _∙_}
+use Prim.Native.Nat.{_<_, _-_}
 use native.Mathlib.Omega.{arith}
 use native.Mathlib.Nat.{mul-le-mul}
-use Rattle.laws.specs.Law77.{doublingPoints, overtrickValue}
+use Rattle.laws.specs.Law77.{doublingPoints}
 use Rattle.judge.proofs.Points.{part-le, game-le, slam-le, insult-le, points-le, overtrick-le}
 use Rattle.judge.specs.Scoring.{stakeOf, madePoints}
 use borrow.Author.Needs.{needs}

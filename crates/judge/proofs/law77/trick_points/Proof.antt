@@ -1,9 +1,8 @@
 -- `trick_points` meets its contract. Assumes nothing.
-use Prim.Native.Nat.{ℕ, suc, _≤_, _<_, _+_, _-_, _*_}
-use mathlib.Core.Path.{_≡_, refl, sym, ap, _∙_}
+use Prim.Native.Nat.{_<_, _-_}
 use native.Mathlib.Omega.{arith}
 use Rattle.laws.specs.Law77.{trickPoints}
-use Rattle.judge.proofs.Points.{value-le, first-le, factor-le, later-le, points-le}
+use Rattle.judge.proofs.Points.{first-le, later-le, points-le}
 use Rattle.judge.specs.Scoring.{stakeOf}
 use borrow.Author.Needs.{needs}
 use Rattle.judge.proofs.law77.trick_points.Statement.{statement}

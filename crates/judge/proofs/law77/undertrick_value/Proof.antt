@@ -1,5 +1,4 @@
 -- `undertrick_value` meets its contract. Assumes nothing.
-use mathlib.Core.Path.{_≡_, refl, sym, ap, _∙_}
 use native.Mathlib.Omega.{arith}
 use Rattle.laws.specs.Law77.{undertrickValue}
 use Rattle.judge.proofs.Points.{doubled-le}

@@ -1,14 +1,12 @@
 -- `score_word` meets its contract. Assumes nothing.
-use Prim.Native.Nat.{ℕ, suc, _≤_, _<_, _+_, _-_, _*_}
-use mathlib.Core.Path.{_≡_, refl, sym, ap, _∙_}
+use Prim.Native.Nat.{_<_, _+_, _-_}
 use native.Mathlib.Omega.{arith}
-use lib.IntN.{ℤ, pos, negℤ, natAbs, _-ℤ_, +ℤ-idl}
+use lib.IntN.{ℤ, negℤ, natAbs, +ℤ-idl}
 use mir.Syntax.{w64}
-use mir.Val.{SFits, toZ, ofZ}
+use mir.Val.{SFits}
 use mir.Facts.{toZ-ofZ}
 use Rattle.laws.proofs.Integers.{size-neg, mag-le-size}
-use lib.Signed.{leZ}
-use Rattle.judge.proofs.Settling.{word-up, up-nonNeg, down-nonNeg, word-down, word-le}
+use Rattle.judge.proofs.Settling.{word-up, up-nonNeg, down-nonNeg, word-down}
 use Rattle.judge.proofs.settle.score_word.Statement.{statement}
 use Rattle.judge.proofs.settle.score_word.Tie as tie
 

@@ -1,8 +1,8 @@
 -- `settle` meets its contract: each number is what its call ensures. Assumes nothing.
 use Rattle.laws.specs.Law77.{nsScore}
 use Rattle.laws.specs.Judgement.{twosComplement}
-use mathlib.Core.Path.{_≡_, refl, sym, ap, ap₂, _∙_}
-use Prim.Native.Nat.{ℕ, suc, _≤_, _<_, _+_, _-_, _*_}
+use mathlib.Core.Path.{ap, _∙_}
+use Prim.Native.Nat.{_-_}
 use native.Mathlib.Omega.{arith}
 use borrow.Author.Needs.{needs}
 use Rattle.transfer.specs.Inputs.{revokesIn}

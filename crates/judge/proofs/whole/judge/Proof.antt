@@ -1,9 +1,7 @@
 -- `judge` meets its contract: a law of Beginning for each way out. Assumes nothing.
-use Prim.Native.Nat.{ℕ, suc, _≤_, _<_, _+_, _-_, _*_}
-use mathlib.Core.Path.{_≡_, refl, sym, ap, _∙_}
-use native.Mathlib.Omega.{arith}
+use Prim.Native.Nat.{_-_}
+use mathlib.Core.Path.{_∙_}
 use borrow.Author.Needs.{needs}
-use borrow.Author.Tests.{not-true, not-false}
 use Rattle.judge.proofs.Beginning.{heading-refused, deal-refused, calls-refused, calls-bound, calls-read}
 use Rattle.judge.proofs.whole.judge.Statement.{statement}
 use Rattle.judge.proofs.whole.judge.Tie as tie

@@ -1,10 +1,9 @@
 -- `judge_play` meets its contract: a law of Composing for each way out. Assumes nothing.
-use Prim.Native.Nat.{ℕ, suc, _≤_, _<_, _+_, _-_, _*_}
-use mathlib.Core.Path.{_≡_, refl, sym, ap, _∙_}
+use Prim.Native.Nat.{_-_}
+use mathlib.Core.Path.{_≡_, _∙_}
 use native.Mathlib.Omega.{arith}
 use borrow.Author.Needs.{needs}
 use lib.ListN.{length}
-use borrow.Author.Tests.{not-true, not-false}
 use Rattle.judge.proofs.Composing.{card-bounds, cards-refused, cards-read}
 use Rattle.judge.proofs.whole.judge_play.Statement.{statement}
 use Rattle.judge.proofs.whole.judge_play.Tie as tie
