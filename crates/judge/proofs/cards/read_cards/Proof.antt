@@ -1,8 +1,9 @@
 -- `read_cards` meets its contract: a law of Sections for each way out. Assumes nothing.
 use Prim.Native.Nat.{_+_, _<_}
-use mathlib.Core.Path.{_≡_, sym, _∙_}
+use mathlib.Core.Path.{_≡_, sym, ap, _∙_}
 use native.Mathlib.Omega.{arith}
 use lib.Dec.{lit≤}
+use Rattle.field.specs.Field.{fieldAnswer}
 use Rattle.field.proofs.ThreeBytes.{value-reads, value-lt, short-stops}
 use Rattle.laws.specs.Reading.{Reading.found, read}
 use Rattle.judge.proofs.Sections.{cards-short, too-many-cards, cards-read}
@@ -15,12 +16,12 @@ count-reads : (c : tie.After-known-told)
     → (let a = c .before .before .before .before .before .args in read 6 (a .bytes .now) (a .at) ≡ found (c .before .count .given .0 .0) (a .at + 6))
 count-reads c =
     let r = c .before .before .before in
-    value-reads _ (r .before .before .args .at) 6 (sym (r .read .ensures) ∙ c .before .count .given .1)
+    value-reads _ (r .before .before .args .at) 6 (sym (r .read .ensures) ∙ ap fieldAnswer (c .before .count .given .1))
 
 few : (c : tie.After-known-told) → c .before .count .given .0 .0 < 64
 few c =
     let r = c .before .before .before in
-    value-lt (r .before .before .args .bytes .now) (r .before .before .args .at) 6 (sym (r .read .ensures) ∙ c .before .count .given .1)
+    value-lt (r .before .before .args .bytes .now) (r .before .before .args .at) 6 (sym (r .read .ensures) ∙ ap fieldAnswer (c .before .count .given .1))
 
 read-requires : tie.Need-read-requires
 read-requires c κs = search needs
@@ -38,7 +39,7 @@ returns : tie.Need-returns
 returns c =
     let r = c .before .before .before in
     let a = r .before .before .args in
-    c .no-cards .ensures ∙ cards-short _ _ _ _ _ _ (short-stops (a .bytes .now) (a .at) 6 (lit≤ tt) (sym (r .read .ensures) ∙ c .before .enum-told .given .1))
+    c .no-cards .ensures ∙ cards-short _ _ _ _ _ _ (short-stops (a .bytes .now) (a .at) 6 (lit≤ tt) (sym (r .read .ensures) ∙ ap fieldAnswer (c .before .enum-told .given .1)))
 
 narrow-requires : tie.Need-narrow-requires
 narrow-requires c κs = omega (arith, few c)

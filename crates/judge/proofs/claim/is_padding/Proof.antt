@@ -1,8 +1,9 @@
 -- `is_padding` meets its contract. Assumes nothing.
 use Prim.Native.Nat.{_-_, _%_}
-use mathlib.Core.Path.{sym, _∙_}
+use mathlib.Core.Path.{sym, ap, _∙_}
 use native.Mathlib.Omega.{arith}
 use borrow.Author.Needs.{needs}
+use Rattle.field.specs.Field.{fieldAnswer}
 use Rattle.field.proofs.ThreeBytes.{value-is, short-is}
 use Rattle.judge.proofs.Sections.{none-behind, whole-bytes, more-bytes, bits-left}
 use Rattle.judge.proofs.claim.is_padding.Statement.{statement}
@@ -38,7 +39,7 @@ returns-4 c = absurd (omega (
   arith,
   short-is (c .before .before .before .before .before .before .before .args .bytes .now)
       (c .before .before .before .before .before .before .before .args .at) (8 - (c .before .before .before .before .before .before .before .args .at) % 8)
-      (omega arith) (sym (c .before .before .read .ensures) ∙ c .enum-told .given .1),
+      (omega arith) (sym (c .before .before .read .ensures) ∙ ap fieldAnswer (c .enum-told .given .1)),
   c .before .before .before .if3 .left,
 ))
 
@@ -49,7 +50,7 @@ returns-5 c = bits-left (c .before .before .before .before .before .before .befo
     (value-is (c .before .before .before .before .before .before .before .before .args .bytes .now)
     (c .before .before .before .before .before .before .before .before .args .at)
     (8 - (c .before .before .before .before .before .before .before .before .args .at) % 8)
-    (sym (c .before .before .before .read .ensures) ∙ c .before .rest .given .1) .0)
+    (sym (c .before .before .before .read .ensures) ∙ ap fieldAnswer (c .before .rest .given .1)) .0)
 
 pub is-padding-spec : {M : Type 1} → statement M
 is-padding-spec =

@@ -2,6 +2,7 @@
 use Prim.Native.Nat.{_+_}
 use mathlib.Core.Path.{_≡_, sym, ap, _∙_}
 use lib.Dec.{lit≤}
+use Rattle.field.specs.Field.{fieldAnswer}
 use Rattle.field.proofs.ThreeBytes.{value-reads, short-stops}
 use Rattle.laws.specs.Reading.{Reading.found, read}
 use Rattle.judge.specs.Sections.{claimOf}
@@ -15,7 +16,7 @@ mark-reads : (c : tie.After-known-told)
     → (let a = c .before .before .before .before .before .args in read 1 (a .bytes .now) (a .at) ≡ found (c .before .mark .given .0 .0) (a .at + 1))
 mark-reads c =
     let r = c .before .before .before in
-    value-reads _ (r .before .before .args .at) 1 (sym (r .read .ensures) ∙ c .before .mark .given .1)
+    value-reads _ (r .before .before .args .at) 1 (sym (r .read .ensures) ∙ ap fieldAnswer (c .before .mark .given .1))
 
 read-requires : tie.Need-read-requires
 read-requires c κs = search needs
@@ -33,7 +34,7 @@ returns : tie.Need-returns
 returns c =
     let r = c .before .before .before in
     let a = r .before .before .args in
-    c .no-claim .ensures ∙ mark-short _ _ _ _ (short-stops (a .bytes .now) (a .at) 1 (lit≤ tt) (sym (r .read .ensures) ∙ c .before .enum-told .given .1))
+    c .no-claim .ensures ∙ mark-short _ _ _ _ (short-stops (a .bytes .now) (a .at) 1 (lit≤ tt) (sym (r .read .ensures) ∙ ap fieldAnswer (c .before .enum-told .given .1)))
 
 add-read-no-claim : tie.Need-add-read-no-claim
 add-read-no-claim c = search needs

@@ -1,10 +1,11 @@
 -- `read_marked_claim` meets its contract: a law of Claiming for each way out. Assumes nothing.
 use Prim.Native.Nat.{_+_}
 use mathlib.Core.Bool.{true}
-use mathlib.Core.Path.{_≡_, sym, _∙_}
+use mathlib.Core.Path.{_≡_, sym, ap, _∙_}
 use native.Mathlib.Omega.{arith}
 use borrow.Author.Tests.{not-true, not-false}
 use lib.Dec.{lit≤}
+use Rattle.field.specs.Field.{fieldAnswer}
 use Rattle.field.proofs.ThreeBytes.{value-reads, value-lt, short-stops}
 use Rattle.laws.specs.Reading.{Reading.found, read}
 use Rattle.judge.specs.Sections.{mayClaim}
@@ -22,7 +23,7 @@ may r = sym (r .before .before .may-claim .ensures) ∙ not-false _ (r .before .
 
 tricks-read : (c : tie.After-known-told)
     → (let a = start-of (c .before .before .before) .args in read 4 (a .bytes .now) (a .at) ≡ found (c .before .tricks .given .0 .0) (a .at + 4))
-tricks-read c = let r = c .before .before .before in value-reads _ (start-of r .args .at) 4 (sym (r .read .ensures) ∙ c .before .tricks .given .1)
+tricks-read c = let r = c .before .before .before in value-reads _ (start-of r .args .at) 4 (sym (r .read .ensures) ∙ ap fieldAnswer (c .before .tricks .given .1))
 
 may-claim-requires : tie.Need-may-claim-requires
 may-claim-requires c κs = search needs
@@ -51,14 +52,14 @@ returns-2 : tie.Need-returns-2
 returns-2 c =
     let r = c .before .before .before in
     c .no-claim2 .ensures
-    ∙ claim-short _ _ _ _ (may r) (short-stops _ (start-of r .args .at) 4 (lit≤ tt) (sym (r .read .ensures) ∙ c .before .enum-told .given .1))
+    ∙ claim-short _ _ _ _ (may r) (short-stops _ (start-of r .args .at) 4 (lit≤ tt) (sym (r .read .ensures) ∙ ap fieldAnswer (c .before .enum-told .given .1)))
 
 sub-left : tie.Need-sub-left
 sub-left c = let r = c .before .before .before in omega (arith, point-le (start-of r .args .out) (start-of r .args .played) (may r))
 
 narrow-requires : tie.Need-narrow-requires
 narrow-requires c κs = let r = c .before .before .before in
-    omega (arith, value-lt _ (start-of r .args .at) 4 (sym (r .read .ensures) ∙ c .before .tricks .given .1))
+    omega (arith, value-lt _ (start-of r .args .at) 4 (sym (r .read .ensures) ∙ ap fieldAnswer (c .before .tricks .given .1)))
 
 no-claim-requires-3 : tie.Need-no-claim-requires-3
 no-claim-requires-3 c κs = search needs

@@ -1,9 +1,10 @@
 -- `read_calls` meets its contract: a law of Sections for each way out. Assumes nothing.
 use Prim.Native.Nat.{_+_, _<_}
-use mathlib.Core.Path.{_≡_, sym, _∙_}
+use mathlib.Core.Path.{_≡_, sym, ap, _∙_}
 use native.Mathlib.Omega.{arith}
 use borrow.Author.Tests.{not-true, not-false}
 use lib.Dec.{lit≤}
+use Rattle.field.specs.Field.{fieldAnswer}
 use Rattle.field.proofs.ThreeBytes.{value-reads, value-lt, short-stops}
 use Rattle.laws.specs.Reading.{Reading.found, read}
 use Rattle.judge.proofs.Sections.{calls-short, calls-stopped, calls-open, calls-over}
@@ -16,12 +17,12 @@ count-reads : (c : tie.After-known-told)
     → (let a = c .before .before .before .before .before .args in read 9 (a .bytes .now) (a .at) ≡ found (c .before .count .given .0 .0) (a .at + 9))
 count-reads c =
     let r = c .before .before .before in
-    value-reads _ (r .before .before .args .at) 9 (sym (r .read .ensures) ∙ c .before .count .given .1)
+    value-reads _ (r .before .before .args .at) 9 (sym (r .read .ensures) ∙ ap fieldAnswer (c .before .count .given .1))
 
 few : (c : tie.After-known-told) → c .before .count .given .0 .0 < 512
 few c =
     let r = c .before .before .before in
-    value-lt (r .before .before .args .bytes .now) (r .before .before .args .at) 9 (sym (r .read .ensures) ∙ c .before .count .given .1)
+    value-lt (r .before .before .args .bytes .now) (r .before .before .args .at) 9 (sym (r .read .ensures) ∙ ap fieldAnswer (c .before .count .given .1))
 
 read-requires : tie.Need-read-requires
 read-requires c κs = search needs
@@ -39,7 +40,7 @@ returns : tie.Need-returns
 returns c =
     let r = c .before .before .before in
     let a = r .before .before .args in
-    c .no-calls .ensures ∙ calls-short _ _ _ (short-stops (a .bytes .now) (a .at) 9 (lit≤ tt) (sym (r .read .ensures) ∙ c .before .enum-told .given .1))
+    c .no-calls .ensures ∙ calls-short _ _ _ (short-stops (a .bytes .now) (a .at) 9 (lit≤ tt) (sym (r .read .ensures) ∙ ap fieldAnswer (c .before .enum-told .given .1)))
 
 add-read-each-call : tie.Need-add-read-each-call
 add-read-each-call c = search needs

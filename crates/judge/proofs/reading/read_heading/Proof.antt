@@ -1,9 +1,10 @@
 -- `read_heading` meets its contract: a law of Sections for each way out. Assumes nothing.
 use Prim.Native.Nat.{ℕ}
 use mathlib.Core.List.{List}
-use mathlib.Core.Path.{_≡_, sym, _∙_}
+use mathlib.Core.Path.{_≡_, sym, ap, _∙_}
 use native.Mathlib.Omega.{arith}
 use lib.Dec.{lit≤}
+use Rattle.field.specs.Field.{fieldAnswer}
 use Rattle.field.proofs.ThreeBytes.{value-reads, value-lt, short-stops}
 use Rattle.laws.specs.Reading.{Reading.found, read}
 use Rattle.judge.proofs.Sections.{heading-short, table-short, no-board, no-table, heading-read}
@@ -16,10 +17,10 @@ abbrev bytes-of : tie.After-known-told → List ℕ
 bytes-of c = c .before .before .before .before .before .args .bytes .now
 
 board-reads : (c : tie.After-known-told) → read 7 (bytes-of c) 0 ≡ found (c .before .board .given .0 .0) 7
-board-reads c = value-reads (bytes-of c) 0 7 (sym (c .before .before .before .read .ensures) ∙ c .before .board .given .1)
+board-reads c = value-reads (bytes-of c) 0 7 (sym (c .before .before .before .read .ensures) ∙ ap fieldAnswer (c .before .board .given .1))
 
 table-reads : (c : tie.After-known-told2) → read 9 (bytes-of (c .before .before .before .before)) 7 ≡ found (c .before .table .given .0 .0) 16
-table-reads c = value-reads (bytes-of (c .before .before .before .before)) 7 9 (sym (c .before .before .before .read2 .ensures) ∙ c .before .table .given .1)
+table-reads c = value-reads (bytes-of (c .before .before .before .before)) 7 9 (sym (c .before .before .before .read2 .ensures) ∙ ap fieldAnswer (c .before .table .given .1))
 
 read-requires : tie.Need-read-requires
 read-requires c κs = search needs
@@ -37,7 +38,7 @@ returns : tie.Need-returns
 returns c =
     let r = c .before .before .before in
     let b = r .before .before .args .bytes .now in
-    c .no-heading .ensures ∙ heading-short b (short-stops b 0 7 (lit≤ tt) (sym (r .read .ensures) ∙ c .before .enum-told .given .1))
+    c .no-heading .ensures ∙ heading-short b (short-stops b 0 7 (lit≤ tt) (sym (r .read .ensures) ∙ ap fieldAnswer (c .before .enum-told .given .1)))
 
 read-requires-2 : tie.Need-read-requires-2
 read-requires-2 c κs = search needs
@@ -56,7 +57,7 @@ returns-2 c =
     let r = c .before .before .before in
     let v = r .before in
     let b = bytes-of v in
-    c .no-heading2 .ensures ∙ table-short b _ (board-reads v) (short-stops b 7 9 (lit≤ tt) (sym (r .read2 .ensures) ∙ c .before .enum-told2 .given .1))
+    c .no-heading2 .ensures ∙ table-short b _ (board-reads v) (short-stops b 7 9 (lit≤ tt) (sym (r .read2 .ensures) ∙ ap fieldAnswer (c .before .enum-told2 .given .1)))
 
 no-heading-requires-3 : tie.Need-no-heading-requires-3
 no-heading-requires-3 c κs = search needs
@@ -79,7 +80,7 @@ returns-4 c =
 narrow-requires : tie.Need-narrow-requires
 narrow-requires c κs =
     let w = c .before .before .before .before .before .before in
-    omega (arith, value-lt (bytes-of w) 0 7 (sym (w .before .before .before .read .ensures) ∙ w .before .board .given .1))
+    omega (arith, value-lt (bytes-of w) 0 7 (sym (w .before .before .before .read .ensures) ∙ ap fieldAnswer (w .before .board .given .1)))
 
 returns-5 : tie.Need-returns-5
 returns-5 c =
