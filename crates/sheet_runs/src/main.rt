@@ -1,4 +1,4 @@
-// The sheet of many inputs, each under a line that names it; and 01's example with bytes enough and one too few.
+// The sheet of many inputs, each under a line that names it; and the example of docs/RULES.md with bytes enough and one too few.
 use libc::STDOUT_FILENO;
 use sheet_text::Outcome;
 ghost use Prim.Native.Nat.{_≤_};
@@ -29,7 +29,7 @@ fn repeated(name: &[u8], times: usize)
     show(name, &input[..n]);
 }
 
-// What 01's example gives in lent bytes, all `.` before.
+// What the example of docs/RULES.md gives in lent bytes, all `.` before.
 fn lend(bytes: &mut [u8]) {
     match sheet_text::write(b"420\n420\n-50\n450\n", bytes) {
         Outcome::Written(_) => io::write_all(STDOUT_FILENO, b"written:\n"),

@@ -114,7 +114,7 @@ fn merges(program: &str) {
     let merge = |checked: bool| {
         for _ in 0..MERGES {
             let (a, b) = (black_box(&a), black_box(&b));
-            assert!(!checked || (a.described() && b.described()), "a tally as document 01 describes it");
+            assert!(!checked || (a.described() && b.described()), "a tally as docs/RULES.md describes it");
             black_box(a.merge(b)).expect("a merge that is accepted");
         }
     };
