@@ -18,7 +18,7 @@ BLOCKS = 20000
 ARCHIVE = target/staticlib/libjudge.a
 TREE = target/bin/tree
 SHEET = target/bin/sheet
-MERGES = target/bin/merge_speed
+MERGES = target/bin/try_merges
 
 CC = cc
 CXX = c++

@@ -50,7 +50,8 @@ module _ (h g : List ℕ) where
             by-test (eqb mark 0)
             (λ (z : eqb mark 0 ≡ true).
             let t = first-test playUnfinished (cardsPlayed g) _ bytes (at + 1) _ (rw z at (m .1)) in
-            landed (Claimed h g) claimFields {a = none} (t .1) (λ f. not-false (allPlayed g) (rw f at (t .0)), stands-cons (eqb-true mark 0 z) (stands-nil refl (m .0))))
+            let at-end = stands-cons (eqb-true mark 0 z) (stands-nil refl (m .0)) in
+            landed (Claimed h g) claimFields {a = none} (t .1) (λ f. not-false (allPlayed g) (rw f at (t .0)), at-end))
             (λ (z : eqb mark 0 ≡ false).
             let one : mark ≡ 1 = omega (arith, eqb-false mark 0 z, number-lt bytes at 1) in
             let t = first-test noClaimPoint (cardsPlayed g) _ bytes (at + 1) _ (rw z at (m .1)) in

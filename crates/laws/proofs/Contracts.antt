@@ -8,7 +8,8 @@ use mathlib.Core.List.{List, [], _∷_}
 use borrow.Author.Tests.{eqb-true, eqb-false, eq-eqb, ne-eqb, leb-true}
 use lib.Dec.{eqb, leb}
 use Rattle.laws.specs.Cards.{noSeat, clockwise, sideOf}
-use Rattle.laws.specs.Auction.{double, redouble, isBid, levelOf, strainOf, toCall, lastBid, lastBidder, hasBid, doubling, bidsStrain, firstToBid, declarer}
+use Rattle.laws.specs.Auction.{double, redouble, isBid, levelOf, strainOf, toCall, lastBid, lastBidder, hasBid, doubling}
+use Rattle.laws.specs.Auction.{bidsStrain, firstToBid, declarer}
 use Rattle.laws.proofs.Tests.{by-test, not-both, and-right}
 
 pub last-bid-le : (h : List ℕ) → lastBid h ≤ 37

@@ -22,7 +22,8 @@ pub record Exact {A : Type 0} (m : Reader A) (Ok : A → Type 0) (fields : A →
   pub is : (bytes : List ℕ) (at : ℕ) (a : A) (end : ℕ) → Ok a → Stands bytes at (fields a) end → m bytes at ≡ found a end
 
 -- what holds of the value and the bit that a section gives at its end
-pub landed : {A : Type 0} (Ok : A → Type 0) (fields : A → List Field) {bytes : List ℕ} {at : ℕ} {a x : A} {m end : ℕ} → _≡_ {A = Reading A} (found a m) (found x end)
+pub landed : {A : Type 0} (Ok : A → Type 0) (fields : A → List Field) {bytes : List ℕ} {at : ℕ} {a x : A} {m end : ℕ}
+    → _≡_ {A = Reading A} (found a m) (found x end)
     → Ok a × Stands bytes at (fields a) m → Ok x × Stands bytes at (fields x) end
 landed Ok fields {bytes} {at} {a} {x} {m} {end} q h =
     let same : a ≡ x = cc in
@@ -111,7 +112,8 @@ module _ (w : ℕ) (place : List ℕ → ℕ) (rule : List ℕ → ℕ → ℕ) 
   each-goes [] h bytes at a k = ap (λ (x : ℕ). found h x) (stands-end k)
   each-goes (c ∷ l) h bytes at a k =
       let passes : not (eqb (rule h c) accepted) ≡ false = rw (eq-eqb (rule h c) accepted (same h c .1 (a .0))) in
-      simp (read-is w bytes at (stands-here k) (stands-fits k), test-is (rule h c) (place h) bytes (at + w) passes) (each-goes l (c ∷ h) bytes (at + w) (a .1) (stands-rest k))
+      simp (read-is w bytes at (stands-here k) (stands-fits k), test-is (rule h c) (place h) bytes (at + w) passes)
+      (each-goes l (c ∷ h) bytes (at + w) (a .1) (stands-rest k))
 
   -- the history is read latest first; its members stand in their order
   pub each-exact : (n : ℕ) → Exact (readEach w place rule n []) (λ g. (length g ≡ n) × Each Ok [] (reverse g)) (λ g. row w (reverse g))

@@ -8,7 +8,8 @@ use borrow.Author.Tests.{eqb-false, not-true}
 use lib.Dec.{leb, ltb, eqb, lit≤}
 use lib.ListN.{length}
 use Rattle.laws.specs.Choice.{if_then_else_}
-use Rattle.laws.specs.Refusals.{refusalNumber, accepted, shortBuffer, recordEnds, noBoardOrTable, notThirteen, auctionUnfinished, tooManyCards, playUnfinished, noClaimPoint, claimTooMany, notPadding}
+use Rattle.laws.specs.Refusals.{refusalNumber, accepted, shortBuffer, recordEnds, noBoardOrTable, notThirteen, auctionUnfinished}
+use Rattle.laws.specs.Refusals.{tooManyCards, playUnfinished, noClaimPoint, claimTooMany, notPadding}
 use Rattle.laws.specs.Cards.{noSeat, hasThirteen, firstWithoutThirteen, seatWithoutThirteen}
 use Rattle.laws.specs.Law2.{dealer}
 use Rattle.laws.specs.Auction.{callPlace, isOver, passedOut, trumpAfter, openingAfter}
@@ -18,7 +19,8 @@ use Rattle.laws.specs.CardRefusal.{cardRefusal}
 use Rattle.laws.specs.Law68.{atClaimPoint, claimable}
 use Rattle.laws.specs.Record.{Parts}
 use Rattle.laws.specs.Reading.{numberAt, Reading, Reading.refused, Reading.found, onward, read, refuse, readRow, readEach, overfull, ending}
-use Rattle.laws.specs.Judge.{readHeading, readDeal, readCalls, readCards, readNoClaim, readMarkedClaim, readClaim, readRecord, readLent, Outcome, Outcome.refused as declined, Outcome.accepted as taken, outcome, judgeOf}
+use Rattle.laws.specs.Judge.{readHeading, readDeal, readCalls, readCards, readNoClaim, readMarkedClaim, readClaim, readRecord, readLent}
+use Rattle.laws.specs.Judge.{Outcome, Outcome.refused as declined, Outcome.accepted as taken, outcome, judgeOf}
 use Rattle.laws.proofs.Tests.{by-test}
 use Rattle.laws.proofs.Bits.{number-lt}
 use Rattle.laws.proofs.CallRefusals.{refusal-le}
@@ -39,7 +41,8 @@ module _ {B : Type 0} where
   fair-on (refused n place) next f g = f
   fair-on (found a m) next f g = g a m refl
 
-  pub fair-read : (w : ℕ) (bytes : List ℕ) (at : ℕ) (next : ℕ → ℕ → Reading B) → ((v : ℕ) → v < 2 ^ w → Fair (next v (at + w))) → Fair (onward (read w bytes at) next)
+  pub fair-read : (w : ℕ) (bytes : List ℕ) (at : ℕ) (next : ℕ → ℕ → Reading B) → ((v : ℕ) → v < 2 ^ w → Fair (next v (at + w)))
+      → Fair (onward (read w bytes at) next)
   unfolding read
   fair-read w bytes at next g = go (leb (at + w) (8 * length bytes))
     where

@@ -30,13 +30,15 @@ module _ {B : Type 0} {b : B} {end : ℕ} where
   unfolding read
   first-read w bytes at next q = go (leb (at + w) (8 * length bytes)) refl q
     where
-      go : (t : Bool) → leb (at + w) (8 * length bytes) ≡ t → onward (if t then found (numberAt bytes at w) (at + w) else refused recordEnds 0) next ≡ found b end
+      go : (t : Bool) → leb (at + w) (8 * length bytes) ≡ t
+          → onward (if t then found (numberAt bytes at w) (at + w) else refused recordEnds 0) next ≡ found b end
           → (at + w ≤ 8 * length bytes) × (next (numberAt bytes at w) (at + w) ≡ found b end)
       go true h p = (leb-true _ _ h, p)
       go false h p = refused-found p
 
   -- .. a test
-  pub first-test : (n place : ℕ) (test : Bool) (bytes : List ℕ) (at : ℕ) (next : Unit {0} → ℕ → Reading B) → onward (refuse n place test bytes at) next ≡ found b end
+  pub first-test : (n place : ℕ) (test : Bool) (bytes : List ℕ) (at : ℕ) (next : Unit {0} → ℕ → Reading B)
+      → onward (refuse n place test bytes at) next ≡ found b end
       → (test ≡ false) × (next tt at ≡ found b end)
   unfolding refuse
   first-test n place true bytes at next q = refused-found q

@@ -3,7 +3,8 @@ use Prim.Native.Nat.{ℕ, _<_}
 use mathlib.Core.Path.{_≡_, refl, sym, ap, subst, _∙_}
 use mathlib.Core.Logic.{_↔_, _⊎_, inl, inr, ⊎-elim}
 use mathlib.Core.Bool.{Bool, true, false, not, _&&_}
-use mathlib.Core.List.{List, [], _∷_, _++_, List·Memᴰ, List·Memᴰ·head, Memᴰ·append-left, Memᴰ·append-right, List·Memᴰ·append-cases, List·Memᴰ·eq-of-singleton, List·Memᴰ·not-nil}
+use mathlib.Core.List.{List, [], _∷_, _++_, List·Memᴰ, List·Memᴰ·head, Memᴰ·append-left, Memᴰ·append-right}
+use mathlib.Core.List.{List·Memᴰ·append-cases, List·Memᴰ·eq-of-singleton, List·Memᴰ·not-nil}
 use borrow.Author.Tests.{eqb-true, eqb-false, eq-eqb, ne-eqb, not-true}
 use lib.Dec.{eqb}
 use Rattle.laws.specs.Choice.{if_then_else_, someBelow}
@@ -39,10 +40,11 @@ module _ (trump opening : ℕ) (deal : List ℕ) where
   is-revoked g c r =
       let suit = suitLed (trickUnderWay g) in
       let d = r .could in
+      let of-suit = eq-eqb (suitOf d) suit (r .could-suit) in
       rw (
         ne-eqb (cardsInTrick g) 0 (r .follows),
         ne-eqb (suitOf c) suit (r .other),
-        some-below (holding g) 52 d (r .could-card) (and-both (isOf suit d) (holds deal g (toPlay trump opening g) d) (eq-eqb (suitOf d) suit (r .could-suit)) (r .could-held)),
+        some-below (holding g) 52 d (r .could-card) (and-both (isOf suit d) (holds deal g (toPlay trump opening g) d) of-suit (r .could-held)),
       )
 
   -- the test of a revoke is what demand 2 says of it
@@ -68,14 +70,16 @@ module _ (trump opening : ℕ) (deal : List ℕ) where
       ⊎-elim
       (λ (k : List·Memᴰ r (revokes trump opening deal g)).
       let i = listed-in g r k in
-      record { after = c ∷ i .after; card = i .card; before = i .before; parts = ap (λ (l : List ℕ). c ∷ l) (i .parts); revoke = i .revoke; as-listed = i .as-listed })
+      let parts = ap (λ (l : List ℕ). c ∷ l) (i .parts) in
+      record { after = c ∷ i .after; card = i .card; before = i .before; parts = parts; revoke = i .revoke; as-listed = i .as-listed })
       (λ (k : List·Memᴰ r (at-card g c)). by-test (isRevoke trump opening deal g c)
       (λ (q : isRevoke trump opening deal g c ≡ true).
       record { after = []; card = c; before = g; parts = refl; revoke = revoked g c q; as-listed = List·Memᴰ·eq-of-singleton (rw q at k) })
       (λ (q : isRevoke trump opening deal g c ≡ false). absurd (List·Memᴰ·not-nil (rw q at k))))
       (List·Memᴰ·append-cases (revokes trump opening deal g) m)
 
-  stays-listed : (after : List ℕ) (c : ℕ) (g : List ℕ) → isRevoke trump opening deal g c ≡ true → List·Memᴰ (revokeAt trump opening g) (revokes trump opening deal (after ++ (c ∷ g)))
+  stays-listed : (after : List ℕ) (c : ℕ) (g : List ℕ) → isRevoke trump opening deal g c ≡ true
+      → List·Memᴰ (revokeAt trump opening g) (revokes trump opening deal (after ++ (c ∷ g)))
   unfolding revokes
   stays-listed [] c g q = rw q (Memᴰ·append-right (revokes trump opening deal g) (List·Memᴰ·head refl))
   stays-listed (x ∷ after) c g q = Memᴰ·append-left (at-card (after ++ (c ∷ g)) x) (stays-listed after c g q)

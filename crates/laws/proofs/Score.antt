@@ -40,7 +40,9 @@ allValid vulnerable =
     everyBelow 7 (λ l. everyBelow 5 (λ strain. everyBelow 3 (λ doubling. everyBelow 14 (λ tricks. validAt (suc l) strain doubling vulnerable tricks))))
 
 all-valid : (vulnerable : Bool) → allValid vulnerable ≡ true
-unfolding validScore declarerScore isMade Law77.trickPoints Law77.firstTrickValue Law77.trickValue Law77.overtrickPoints Law77.overtrickValue undertrickPoints undertricks Law77.undertrickValue Law77.doubledUndertrick Law77.partScorePoints Law77.gamePoints Law77.isGame Law77.slamPoints Law77.doublingPoints
+unfolding validScore declarerScore isMade Law77.trickPoints Law77.firstTrickValue Law77.trickValue Law77.overtrickPoints Law77.overtrickValue
+    undertrickPoints undertricks Law77.undertrickValue Law77.doubledUndertrick
+    Law77.partScorePoints Law77.gamePoints Law77.isGame Law77.slamPoints Law77.doublingPoints
 all-valid true = refl
 all-valid false = refl
 

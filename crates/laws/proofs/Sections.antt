@@ -78,7 +78,8 @@ module _ (deal : List ℕ) where
   four a b c d (suc (suc (suc (suc seat)))) h = absurd (omega arith)
 
   -- a seat that is not the first of some that are short has thirteen cards, and the rest goes on
-  next-short : (seat : ℕ) (rest : List ℕ) → seat < 4 → firstWithoutThirteen deal (seat ∷ rest) ≡ noSeat → (cardsDealt seat deal ≡ 13) × (firstWithoutThirteen deal rest ≡ noSeat)
+  next-short : (seat : ℕ) (rest : List ℕ) → seat < 4 → firstWithoutThirteen deal (seat ∷ rest) ≡ noSeat
+      → (cardsDealt seat deal ≡ 13) × (firstWithoutThirteen deal rest ≡ noSeat)
   unfolding firstWithoutThirteen
   next-short seat rest low e =
       by-test (hasThirteen seat deal)
@@ -205,6 +206,7 @@ module _ (d : ℕ) (deal h : List ℕ) (full : length deal ≡ 52) where
             let read = read-is 6 bytes at (stands-here k) (stands-fits k) in
             let cards = cards-each (length x) .is bytes (at + 6) x end (refl, ok .allow) (stands-rest k) in
             by-test (passedOut h)
-            (λ (t : passedOut h ≡ true). simp (read, t, le-ltb 52 (length x) (ok .count), le-ltb 0 (length x) (omega (arith, ok .none-if-passed-out t)), test-is, cards))
+            (λ (t : passedOut h ≡ true).
+            simp (read, t, le-ltb 52 (length x) (ok .count), le-ltb 0 (length x) (omega (arith, ok .none-if-passed-out t)), test-is, cards))
             (λ (f : passedOut h ≡ false). simp (read, f, le-ltb 52 (length x) (ok .count), test-is, cards));
       }

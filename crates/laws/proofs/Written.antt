@@ -29,7 +29,9 @@ number-append : (fs gs : List Field) → number (fs ++ gs) ≡ number fs * 2 ^ b
 unfolding number
 number-append [] gs = rw (zero-mul (2 ^ bits gs), zero-add (number gs))
 number-append (f ∷ fs) gs =
-    rw (number-append fs gs, bits-append fs gs, pow-add 2 (bits fs) (bits gs), add-mul (f .value * 2 ^ bits fs) (number fs) (2 ^ bits gs), mul-assoc (f .value) (2 ^ bits fs) (2 ^ bits gs)) (omega arith)
+    let a = 2 ^ bits fs in
+    let b = 2 ^ bits gs in
+    rw (number-append fs gs, bits-append fs gs, pow-add 2 (bits fs) (bits gs), add-mul (f .value * a) (number fs) b, mul-assoc (f .value) a b) (omega arith)
 
 number-lt : (fs : List Field) → Fit fs → number fs < 2 ^ bits fs
 unfolding number bits Fit
@@ -43,9 +45,11 @@ unfolding number bits Fit
 read-back before f behind n a e =
     let x : ℕ = number (before ++ f ∷ behind) in
     let room : bits before + f .width + bits behind ≡ 8 * n = omega (arith, bits-append before (f ∷ behind)) in
+    let w = 2 ^ f .width in
+    let b = 2 ^ bits behind in
     let split : x ≡ (number before * 2 ^ f .width + f .value) * 2 ^ bits behind + number behind =
     number-append before (f ∷ behind)
-    ∙ rw (pow-add 2 (f .width) (bits behind), add-mul (number before * 2 ^ f .width) (f .value) (2 ^ bits behind), mul-assoc (number before) (2 ^ f .width) (2 ^ bits behind)) (omega arith)
+    ∙ rw (pow-add 2 (f .width) (bits behind), add-mul (number before * w) (f .value) b, mul-assoc (number before) w b) (omega arith)
     in
     number-of-bytes n x (bits before) (f .width) (bits behind) room
     ∙ ap (λ (y : ℕ). y / 2 ^ bits behind % 2 ^ f .width) split

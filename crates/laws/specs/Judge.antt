@@ -5,7 +5,8 @@ use mathlib.Core.Bool.{Bool, not, _&&_, _||_}
 use mathlib.Core.List.{List, [], _∷_, reverse}
 use lib.Dec.{ltb, eqb}
 use Rattle.laws.specs.Choice.{if_then_else_}
-use Rattle.laws.specs.Refusals.{refusalNumber, shortBuffer, noBoardOrTable, notThirteen, auctionUnfinished, tooManyCards, playUnfinished, noClaimPoint, claimTooMany}
+use Rattle.laws.specs.Refusals.{refusalNumber, shortBuffer, noBoardOrTable, notThirteen, auctionUnfinished}
+use Rattle.laws.specs.Refusals.{tooManyCards, playUnfinished, noClaimPoint, claimTooMany}
 use Rattle.laws.specs.Cards.{noSeat, seatWithoutThirteen}
 use Rattle.laws.specs.Law2.{dealer}
 use Rattle.laws.specs.Auction.{callPlace, isOver, passedOut, trumpAfter, openingAfter}

@@ -39,7 +39,9 @@ pub record Called (p : Parts) : Type 0 where
 -- Law 44: each card is held by the seat at turn after those before it; passed out, no card is played
 pub record Played (p : Parts) : Type 0 where
   pub each : (k : ℕ) → k < length (p .cards)
-      → playable (trumpAfter (reverse (p .calls))) (openingAfter (dealer (p .board)) (reverse (p .calls))) (p .deal) (firstOf k (p .cards)) (getD (p .cards) k 0) ≡ true
+      → playable
+      (trumpAfter (reverse (p .calls))) (openingAfter (dealer (p .board)) (reverse (p .calls)))
+      (p .deal) (firstOf k (p .cards)) (getD (p .cards) k 0) ≡ true
   pub none-if-passed-out : passedOut (reverse (p .calls)) ≡ true → length (p .cards) ≡ 0
 
 -- Law 68: without a claim a contract needs all 52 cards; a claim needs a contract, a point for it, and tricks that are left

@@ -12,7 +12,8 @@ use Rattle.laws.specs.Record.{Parts, encode, Field, field, bits, number, bytesO
 use Rattle.laws.specs.Reading.{numberAt}
 use Rattle.laws.specs.Auction.{passedOut}
 use Rattle.laws.specs.Judge.{Outcome, Outcome.accepted, numberOf}
-use Rattle.laws.specs.Judgement.{callsOf, contractOf, declarerOf, trumpOf, openingOf, cardsOf, wonOf, afterOf, revokesOf, scoreOf, twosComplement, playedFields, answerFields, answerBytes, revokeBytes}
+use Rattle.laws.specs.Judgement.{callsOf, contractOf, declarerOf, trumpOf, openingOf, cardsOf, wonOf, afterOf, revokesOf, scoreOf}
+use Rattle.laws.specs.Judgement.{twosComplement, playedFields, answerFields, answerBytes, revokeBytes}
 use Rattle.laws.specs.Lawful.{Lawful}
 use Rattle.laws.specs.Lent.{_over_, answerLeft, listLeft}
 use Rattle.laws.proofs.Accepts as Accepts
@@ -76,7 +77,13 @@ module _ (p : Parts) (ok : Lawful p) where
 
     played-fit : Fit (playedFields p)
     unfolding Fit playedFields
-    played-fit = (omega (arith, level-le p ok bid .1), (omega (arith, strain-le p ok bid), (omega (arith, doubled-le p ok bid), (omega (arith, declarer-lt p ok bid), (omega (arith, won-le p ok), (omega (arith, after-le p ok), (omega (arith, few), (word-lt (scoreOf p) (valid p ok bid), tt))))))))
+    played-fit =
+        let score : Fit (field 16 (twosComplement (scoreOf p)) ∷ []) = (word-lt (scoreOf p) (valid p ok bid), tt) in
+        let tricks : Fit (field 4 (wonOf p) ∷ field 4 (afterOf p) ∷ field 6 (length (revokesOf p)) ∷ field 16 (twosComplement (scoreOf p)) ∷ [])
+        = (omega (arith, won-le p ok), (omega (arith, after-le p ok), (omega (arith, few), score))) in (
+          omega (arith, level-le p ok bid .1),
+          (omega (arith, strain-le p ok bid), (omega (arith, doubled-le p ok bid), (omega (arith, declarer-lt p ok bid), tricks))),
+        )
 
     -- the fields from each on
     abbrev f1 : Field

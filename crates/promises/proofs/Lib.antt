@@ -6,6 +6,7 @@ pub mod BestTotal
 pub mod Demand1
 pub mod Widths
 pub mod Demand2Judgement
+pub mod Demand2Revokes
 pub mod Demand3
 pub mod TalliesMatchpoints
 pub mod Tallies

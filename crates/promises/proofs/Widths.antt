@@ -19,7 +19,8 @@ use Rattle.laws.specs.Law68.{Claim, none, agreed, claimable, claimedTricks}
 use Rattle.laws.specs.Law77.{validScore}
 use Rattle.laws.specs.Record.{Parts}
 use Rattle.laws.specs.Lawful.{Lawful, Claimed}
-use Rattle.laws.specs.Judgement.{callsOf, cardsOf, contractOf, declarerOf, trumpOf, openingOf, winnersOf, revokesOf, claimedOf, wonOf, transferredOf, afterOf, stakeOf, scoreOf, twosComplement}
+use Rattle.laws.specs.Judgement.{callsOf, cardsOf, contractOf, declarerOf, trumpOf, openingOf, winnersOf, revokesOf, claimedOf, wonOf}
+use Rattle.laws.specs.Judgement.{transferredOf, afterOf, stakeOf, scoreOf, twosComplement}
 use Rattle.laws.proofs.Tests.{by-test, not-both, or-left, and-left}
 use Rattle.laws.proofs.Counts.{many-append}
 use Rattle.laws.proofs.Contracts.{level-bounds, strain-lt, doubling-le, declarer-side}
@@ -90,8 +91,9 @@ module _ (p : Parts) (ok : Lawful p) where
   in-all =
       let mine : eqb side side ≡ true = eq-eqb side side refl in
       let theirs : eqb other side ≡ false = ne-eqb other side (λ e. apart (sym e)) in
-      rw (mine, theirs)
-      (omega (arith, shared side other apart (winnersOf p), winners-count (trumpOf p) (openingOf p) (cardsOf p), claim-shared (callsOf p) (cardsOf p) (p .claim) (ok .claim), complete))
+      let won = shared side other apart (winnersOf p) in
+      let claimed = claim-shared (callsOf p) (cardsOf p) (p .claim) (ok .claim) in
+      rw (mine, theirs) (omega (arith, won, winners-count (trumpOf p) (openingOf p) (cardsOf p), claimed, complete))
 
   pub won-le : wonOf p ≤ 13
   won-le = omega (arith, in-all)
@@ -101,7 +103,9 @@ module _ (p : Parts) (ok : Lawful p) where
   after-le =
       by-test (sideRevoked side (revokesOf p))
       (λ (q : sideRevoked side (revokesOf p) ≡ true). rw q (omega (arith, won-le)))
-      (λ (q : sideRevoked side (revokesOf p) ≡ false). rw q (omega (arith, in-all, moved-le (partnerOf (declarerOf p)) (winnersOf p) (claimedOf p) side other the-other (revokesOf p) q)))
+      (λ (q : sideRevoked side (revokesOf p) ≡ false).
+      let moved = moved-le (partnerOf (declarerOf p)) (winnersOf p) (claimedOf p) side other the-other (revokesOf p) q in
+      rw q (omega (arith, in-all, moved)))
 
   module _ (bid : Auction.passedOut (callsOf p) ≡ false) where
     pub declarer-lt : declarerOf p < 4

@@ -12,7 +12,8 @@ use Rattle.laws.specs.Judge.{Outcome.accepted, numberOf}
 use Rattle.laws.specs.Auction.{passedOut}
 use Rattle.laws.specs.Law77.{validScore}
 use Rattle.laws.specs.Reading.{numberAt}
-use Rattle.laws.specs.Judgement.{callsOf, contractOf, declarerOf, trumpOf, openingOf, cardsOf, wonOf, afterOf, revokesOf, scoreOf, twosComplement, answerBytes, revokeBytes}
+use Rattle.laws.specs.Judgement.{callsOf, contractOf, declarerOf, trumpOf, openingOf, cardsOf, wonOf, afterOf, revokesOf, scoreOf}
+use Rattle.laws.specs.Judgement.{twosComplement, answerBytes, revokeBytes}
 use Rattle.laws.specs.Lawful.{Lawful}
 use Rattle.laws.specs.Lent.{_over_, answerLeft, listLeft}
 use Rattle.promises.specs.Demand1.{saidOf}

@@ -4,6 +4,7 @@ pub mod Lengths
 pub mod BestTotal
 pub mod Demand1
 pub mod Demand2Judgement
+pub mod Demand2Revokes
 pub mod Demand3
 pub mod Tallies
 pub mod Demand2Imps

@@ -1,4 +1,5 @@
 // Valid scores, IMPs by the scale of Law 78B, and the two scoring units with their sums.
+use laws::INVALID_SCORE;
 ghost use mathlib.Core.Path.{_≡_};
 ghost use mathlib.Core.Bool.{true};
 ghost use lib.IntN.{pos, _-ℤ_};
@@ -108,10 +109,10 @@ pub fn imps_of(first: i16, second: i16) -> ImpAnswer
     ensures { λ r. ⌜ impAnswer r ≡ imps first second ⌝ }
 {
     if !valid(first) {
-        return ImpAnswer::Refused(20);
+        return ImpAnswer::Refused(INVALID_SCORE);
     }
     if !valid(second) {
-        return ImpAnswer::Refused(20);
+        return ImpAnswer::Refused(INVALID_SCORE);
     }
     if second <= first {
         let gained = ends_reached(difference(first, second));

@@ -1,4 +1,4 @@
--- Document 01's sheet, by evaluating the definition. Assumes nothing.
+-- The example sheet of docs/RULES.md, by evaluating the definition. Assumes nothing.
 use Prim.Native.Nat.{ℕ}
 use mathlib.Core.Path.{_≡_, refl}
 use mathlib.Core.List.{List, [], _∷_}

@@ -1,4 +1,4 @@
--- The calls at the tallies of lists of scores: each does to the tally what document 01 does to the list. Assumes nothing.
+-- The calls at the tallies of lists of scores: each does to the tally what the rules of docs/RULES.md for trees do to the list. Assumes nothing.
 use Prim.Native.Nat.{ℕ, zero, suc, _≤_}
 use native.Mathlib.Omega.{arith}
 use mathlib.Core.Path.{_≡_, refl, ap, _∙_}

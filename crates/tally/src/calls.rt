@@ -1,14 +1,15 @@
 // A score added to a tally, and two tallies merged: their refusals in order, and the tally made.
-use super::INVALID_SCORE;
-use super::MALFORMED_TALLY;
-use super::TOO_MANY_RESULTS;
-use super::TWO_BOARDS;
 use super::Tallied;
 use super::Tally;
 use super::check;
 use super::empty;
 use super::joined;
 use super::refuse;
+use laws::ACCEPTED;
+use laws::INVALID_SCORE;
+use laws::MALFORMED_TALLY;
+use laws::TOO_MANY_RESULTS;
+use laws::TWO_BOARDS;
 use score::valid;
 ghost use mathlib.Core.Path.{_≡_};
 ghost use mathlib.Core.List.{[], _∷_};
@@ -32,7 +33,7 @@ fn score_refusal(score: i16) -> u8
     ensures { λ r. ⌜ r ≡ scoreRefusal score ⌝ }
 {
     if valid(score) {
-        return 0;
+        return ACCEPTED;
     }
     INVALID_SCORE
 }
@@ -42,7 +43,7 @@ fn boards_refusal(board: u8, board2: u8) -> u8
     ensures { λ r. ⌜ r ≡ boardsRefusal board board2 ⌝ }
 {
     if board == board2 {
-        return 0;
+        return ACCEPTED;
     }
     TWO_BOARDS
 }
@@ -55,14 +56,14 @@ fn room_refusal(results: u8, more: u8) -> u8
     if 128 - results < more {
         return TOO_MANY_RESULTS;
     }
-    0
+    ACCEPTED
 }
 
 // Of two refusals the first that is one.
 fn first(refusal: u8, later: u8) -> u8
     ensures { λ r. ⌜ r ≡ firstOf refusal later ⌝ }
 {
-    if refusal == 0 {
+    if refusal == ACCEPTED {
         return later;
     }
     refusal
@@ -80,14 +81,14 @@ pub fn add(t: Tally, score: i16) -> Tallied
     let invalid = score_refusal(score);
     let full = room_refusal(x.results, 1);
     let refusal = first(invalid, full);
-    if refusal != 0 {
+    if refusal != ACCEPTED {
         return refuse(refusal);
     }
     let none = empty(t.board);
     let one = single(none, score);
     let grown = joined(none, t, x.used, one, 1);
     Tallied {
-        refusal: 0,
+        refusal: ACCEPTED,
         tally: grown,
     }
 }
@@ -109,13 +110,13 @@ pub fn merge(a: Tally, b: Tally) -> Tallied
     let boards = boards_refusal(a.board, b.board);
     let full = room_refusal(x.results, y.results);
     let refusal = first(boards, full);
-    if refusal != 0 {
+    if refusal != ACCEPTED {
         return refuse(refusal);
     }
     let none = empty(a.board);
     let both = joined(none, a, x.used, b, y.used);
     Tallied {
-        refusal: 0,
+        refusal: ACCEPTED,
         tally: both,
     }
 }

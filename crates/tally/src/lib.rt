@@ -5,6 +5,8 @@ mod points;
 
 pub use calls::add;
 pub use calls::merge;
+use laws::ACCEPTED;
+use laws::NO_BOARD_OR_TABLE;
 pub use points::MatchpointAnswer;
 pub use points::matchpoints;
 use score::valid;
@@ -19,19 +21,6 @@ ghost use Rattle.laws.specs.Choice.{if_then_else_};
 ghost use Rattle.laws.specs.Law78.{sameScore};
 ghost use Rattle.tally.specs.Tallies.{tallyOf, scoresIn, allZero, wellFormed, refusedWith, freshOf};
 ghost use Rattle.tally.specs.Steps.{Checks, entryAt, higherOf, nextOf, Joinable};
-
-// The refusals of tally calls, as document 01 numbers them. The place of each is 0.
-const NO_SUCH_BOARD: u8 = 3;
-
-const MALFORMED_TALLY: u8 = 17;
-
-const TWO_BOARDS: u8 = 18;
-
-const TOO_MANY_RESULTS: u8 = 19;
-
-const INVALID_SCORE: u8 = 20;
-
-const SCORE_NOT_IN_TALLY: u8 = 21;
 
 // A board with its distinct scores, highest first, and the number of results of each; unused places are zero.
 pub struct Tally {
@@ -198,14 +187,14 @@ pub fn fresh(board: u8) -> Tallied
     ensures { λ r. ⌜ r ≡ freshOf board ⌝ }
 {
     if board == 0 {
-        return refuse(NO_SUCH_BOARD);
+        return refuse(NO_BOARD_OR_TABLE);
     }
     if 127 < board {
-        return refuse(NO_SUCH_BOARD);
+        return refuse(NO_BOARD_OR_TABLE);
     }
     let none = empty(board);
     Tallied {
-        refusal: 0,
+        refusal: ACCEPTED,
         tally: none,
     }
 }

@@ -1,9 +1,9 @@
 // The matchpoints of a score in a tally.
-use super::INVALID_SCORE;
-use super::MALFORMED_TALLY;
-use super::SCORE_NOT_IN_TALLY;
 use super::Tally;
 use super::well_formed;
+use laws::INVALID_SCORE;
+use laws::MALFORMED_TALLY;
+use laws::SCORE_NOT_IN_TALLY;
 use score::Matchpoints;
 use score::valid;
 ghost use mathlib.Core.Path.{_≡_};

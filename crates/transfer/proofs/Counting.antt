@@ -39,7 +39,8 @@ module _ (rs : Revokes) (ts : Tricks) (declarer claim left : ℕ) (all : length 
   -- revoke i: what it entitles to is added, up to what its side won from there on
   pub total-at : (i : ℕ) → i < min (rs .count) 36
       → totalFrom i rs ts declarer claim left
-      ≡ min (totalFrom (suc i) rs ts declarer claim left + entitlement (partnerOf declarer) (winnersIn ts) (earlier i (rs .list)) (revokeOf (getD (rs .list) i 0)))
+      ≡ min (totalFrom (suc i) rs ts declarer claim left
+      + entitlement (partnerOf declarer) (winnersIn ts) (earlier i (rs .list)) (revokeOf (getD (rs .list) i 0)))
       (wonFrom (winnersIn ts) (claimedBy declarer claim left) (sideOf (revokeOf (getD (rs .list) i 0) .seat)) (revokeOf (getD (rs .list) i 0) .trick))
   unfolding totalFrom dues total earlier
   total-at i h = rw (next-revoke rs all i h)
@@ -49,7 +50,8 @@ module _ (rs : Revokes) (ts : Tricks) (declarer claim left : ℕ) (all : length 
       → sum ≡ totalFrom i rs ts declarer claim left
       → due ≡ entitlement (partnerOf declarer) (winnersIn ts) (earlier (i - 1) (rs .list)) (revokeOf (getD (rs .list) (i - 1) 0))
       → won
-      ≡ wonFrom (winnersIn ts) (claimedBy declarer claim left) (sideOf (revokeOf (getD (rs .list) (i - 1) 0) .seat)) (revokeOf (getD (rs .list) (i - 1) 0) .trick)
+      ≡ wonFrom (winnersIn ts) (claimedBy declarer claim left)
+      (sideOf (revokeOf (getD (rs .list) (i - 1) 0) .seat)) (revokeOf (getD (rs .list) (i - 1) 0) .trick)
       → min (sum + due) won ≡ totalFrom (i - 1) rs ts declarer claim left
   total-before zero due won sum h k es ed ew = absurd (omega arith)
   total-before (suc j) due won sum h k es ed ew =

@@ -96,5 +96,6 @@ module _ (deal : List ℕ) (trump opening : ℕ) (all : length deal ≡ 52) (dea
   transferred-law g w declarer claim left = rw (revokes-back g w, winners-back g w)
 
   -- the bytes of the list are the revokes' numbers as they are, since each part fits its bits
-  pub plain-bytes : (g : List ℕ) → AllPlayed deal trump opening g → map byteOf (revokes trump opening deal g) ≡ map Judgement.revokeByte (revokes trump opening deal g)
+  pub plain-bytes : (g : List ℕ) → AllPlayed deal trump opening g
+      → map byteOf (revokes trump opening deal g) ≡ map Judgement.revokeByte (revokes trump opening deal g)
   plain-bytes g w = plain (revokes trump opening deal g) (all-within g w)

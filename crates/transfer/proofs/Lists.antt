@@ -46,7 +46,8 @@ module _ (rs : Revokes) (all : length (rs .list) ≡ 36) where
   pub revokes-end : (i : ℕ) → min (rs .count) 36 ≤ i → drop i (revokesIn rs) ≡ []
   unfolding revokesIn
   revokes-end i h =
-      drop-map revokeOf i (take (rs .count) (rs .list)) ∙ ap (map revokeOf) (past-end (take (rs .count) (rs .list)) i (rw (length-take (rs .count) (rs .list)) (omega arith)))
+      let l = take (rs .count) (rs .list) in
+      drop-map revokeOf i l ∙ ap (map revokeOf) (past-end l i (rw (length-take (rs .count) (rs .list)) (omega arith)))
 
 module _ (ts : Tricks) (all : length (ts .winners) ≡ 13) where
   pub next-winner : (i : ℕ) → i < min (ts .count) 13 → drop i (winnersIn ts) ≡ getD (ts .winners) i 0 ∷ drop (suc i) (winnersIn ts)
@@ -73,7 +74,8 @@ pub none-before : (byte : ℕ) (l : List ℕ) → repeated (earlier 0 l) (revoke
 unfolding repeated some earlier
 none-before byte l = refl
 
-pub one-before : (byte j : ℕ) (l : List ℕ) → repeated (earlier (suc j) l) (revokeOf byte) ≡ (eqb (getD l j 0 % 16) (byte % 16) || repeated (earlier j l) (revokeOf byte))
+pub one-before : (byte j : ℕ) (l : List ℕ)
+    → repeated (earlier (suc j) l) (revokeOf byte) ≡ (eqb (getD l j 0 % 16) (byte % 16) || repeated (earlier j l) (revokeOf byte))
 unfolding repeated some earlier
 one-before byte j l = rw (same-low (getD l j 0) byte)
 

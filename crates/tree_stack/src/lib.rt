@@ -1,4 +1,5 @@
 // A stack of at most 16 tallies, and the calls on it.
+use laws::ACCEPTED;
 use tally::MatchpointAnswer;
 use tally::Tallied;
 use tally::Tally;
@@ -44,7 +45,7 @@ fn land(s: Stack, at: usize, used: usize, made: Tallied) -> Step
     ensures { λ r. ⌜ r ≡ landed s at used made ⌝ }
 {
     let refusal = made.refusal;
-    if refusal != 0 {
+    if refusal != ACCEPTED {
         return Step {
             stack: s,
             said: Said::Refused(refusal),

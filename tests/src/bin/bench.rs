@@ -46,7 +46,7 @@ fn main() {
         let claim = |r: &mut Random| making::with_claim_after(r, tricks);
         line(&format!("{} cards and a claim, 4 to 7 calls", 4 * tricks), &set(&mut random, claim));
     }
-    let program = words.text("--merges").unwrap_or_else(|| stop("--merges needs the path of the program merge_speed"));
+    let program = words.text("--merges").unwrap_or_else(|| stop("--merges needs the path of the program try_merges"));
     merges(program);
 }
 
@@ -114,7 +114,7 @@ fn merges(program: &str) {
     let merge = |checked: bool| {
         for _ in 0..MERGES {
             let (a, b) = (black_box(&a), black_box(&b));
-            assert!(!checked || (a.described() && b.described()), "a tally as document 01 describes it");
+            assert!(!checked || (a.described() && b.described()), "a tally as docs/RULES.md describes it");
             black_box(a.merge(b)).expect("a merge that is accepted");
         }
     };

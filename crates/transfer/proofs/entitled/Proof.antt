@@ -23,18 +23,30 @@ is-repeat-requires c κs = search needs
 
 returns-3 : tie.Need-returns-3
 unfolding entitlement
-returns-3 c = simp (ne-eqb _ _ (c .before .before .before .before .if1 .left), ne-eqb _ _ (c .before .before .before .if2 .left), sym (c .before .is-repeat .ensures) ∙ c .if3 .taken)
+returns-3 c =
+    let asked = c .before .before .before in
+    simp (ne-eqb _ _ (asked .before .if1 .left), ne-eqb _ _ (asked .if2 .left), sym (c .before .is-repeat .ensures) ∙ c .if3 .taken)
 
 winner-of-requires : tie.Need-winner-of-requires
 winner-of-requires c κs = search needs
 
 returns-4 : tie.Need-returns-4
 unfolding entitlement
-returns-4 c = simp (ne-eqb _ _ (c .before .before .before .before .before .before .if1 .left), ne-eqb _ _ (c .before .before .before .before .before .if2 .left), sym (c .before .before .before .is-repeat .ensures) ∙ c .before .before .if3 .left, eq-eqb _ _ (sym (c .before .winner-of .ensures) ∙ c .if4 .taken))
+returns-4 c =
+    let b = c .before .before in
+    let asked = b .before .before .before in
+    let once = sym (b .before .is-repeat .ensures) ∙ b .if3 .left in
+    let own = eq-eqb _ _ (sym (c .before .winner-of .ensures) ∙ c .if4 .taken) in
+    simp (ne-eqb _ _ (asked .before .if1 .left), ne-eqb _ _ (asked .if2 .left), once, own)
 
 returns-5 : tie.Need-returns-5
 unfolding entitlement
-returns-5 c = simp (ne-eqb _ _ (c .before .before .before .before .before .before .if1 .left), ne-eqb _ _ (c .before .before .before .before .before .if2 .left), sym (c .before .before .before .is-repeat .ensures) ∙ c .before .before .if3 .left, ne-eqb _ _ (λ e. c .if4 .left (c .before .winner-of .ensures ∙ e)))
+returns-5 c =
+    let b = c .before .before in
+    let asked = b .before .before .before in
+    let once = sym (b .before .is-repeat .ensures) ∙ b .if3 .left in
+    let other = ne-eqb _ _ (λ e. c .if4 .left (c .before .winner-of .ensures ∙ e)) in
+    simp (ne-eqb _ _ (asked .before .if1 .left), ne-eqb _ _ (asked .if2 .left), once, other)
 
 pub entitled-spec : {M : Type 1} → statement M
 entitled-spec =

@@ -42,7 +42,8 @@ loop-again : tie.Need-loop-again Inv-loop μ-loop
 loop-again c = let l = c .before .before .loop in
     let list = c .before .before .before .args .t1 in
     let byte = getD list (c .before .before .before .args .i) 0 in
-    (omega arith, l .inv .1 ∙ place-before byte (l .j) list (c .before .loop-test .taken) ∙ rw (ne-eqb (getD list (l .j - 1) 0 % 16) (byte % 16) (c .if1 .left)))
+    let other = ne-eqb (getD list (l .j - 1) 0 % 16) (byte % 16) (c .if1 .left) in
+    (omega arith, l .inv .1 ∙ place-before byte (l .j) list (c .before .loop-test .taken) ∙ rw other)
 
 returns-2 : tie.Need-returns-2 Inv-loop μ-loop
 returns-2 c = let l = c .before .loop in

@@ -1,4 +1,5 @@
--- `transfer::total` meets its contract. The loop goes from the last revoke to the first: the sum is the count from `i` on, at most two for each revoke. Assumes nothing.
+-- `transfer::total` meets its contract. The loop goes from the last revoke to the first: the sum is the count from `i` on, at most two for each
+-- revoke. Assumes nothing.
 use Prim.Native.Nat.{ℕ, _≤_, _<_, _+_, _-_, _*_, _/_, _%_, min}
 use mathlib.Core.Path.{_≡_, refl, sym, ap, _∙_}
 use native.Mathlib.Omega.{arith}
@@ -31,7 +32,8 @@ loop-holds : tie.Need-loop-holds Inv-loop μ-loop
 loop-holds c = let st = c .before in
     let n : length (st .args .t1 .list) ≡ 36 = search needs in
     let e = c .at-most .ensures in
-    (omega arith, omega arith, sym (total-end (st .args .t1) (st .args .ts) (st .args .declarer) (st .args .claim) (st .args .left) n (c .at-most .result) (omega arith)))
+    let a = st .args in
+    (omega arith, omega arith, sym (total-end (a .t1) (a .ts) (a .declarer) (a .claim) (a .left) n (c .at-most .result) (omega arith)))
 
 sub-i : tie.Need-sub-i Inv-loop μ-loop
 sub-i c = search needs
@@ -63,7 +65,9 @@ loop-again c = let st = c .before .before .before .before .before .before .befor
     let sum = c .at-most2 .ensures in (
       omega arith,
       omega arith,
-      sum ∙ total-before (st .args .t1) (st .args .ts) (st .args .declarer) (st .args .claim) (st .args .left) n (l .i) _ _ _ (c .before .before .before .before .loop-test .taken) (l .inv .0)
+      let a = st .args in
+          let more = c .before .before .before .before .loop-test .taken in
+          sum ∙ total-before (a .t1) (a .ts) (a .declarer) (a .claim) (a .left) n (l .i) _ _ _ more (l .inv .0)
           (l .inv .2) (rw (dummy-is (st .args .declarer)) at (c .before .before .before .entitled .ensures)) (c .before .available .ensures),
     )
 

@@ -16,7 +16,10 @@ use Rattle.transfer.proofs.won_from.Statement.{statement}
 use Rattle.transfer.proofs.won_from.Tie as tie
 
 abbrev Inv-loop : tie.InvT-loop
-Inv-loop side trick ts end i₀ n₀ i n = (end ≡ min (ts .count) 13) × (n ≤ i) × (n + tricksWon side (drop i (winnersIn ts)) ≡ tricksWon side (drop (trick - 1) (winnersIn ts)))
+Inv-loop side trick ts end i₀ n₀ i n =
+    (end ≡ min (ts .count) 13)
+    × (n ≤ i)
+    × (n + tricksWon side (drop i (winnersIn ts)) ≡ tricksWon side (drop (trick - 1) (winnersIn ts)))
 
 abbrev μ-loop : tie.MeasureT-loop
 μ-loop side trick ts end i₀ n₀ i n = end - i
