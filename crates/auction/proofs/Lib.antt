@@ -1,3 +1,4 @@
+mod Bounds
 pub mod Steps
 pub mod History
 pub mod Doubles

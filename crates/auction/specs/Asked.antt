@@ -2,7 +2,6 @@
 use Prim.Native.Nat.{ℕ}
 use mathlib.Core.Bool.{Bool, not, _&&_}
 use lib.Dec.{eqb, ltb, leb}
-use lib.ListN.{getD}
 use Rattle.laws.specs.Choice.{if_then_else_}
 use Rattle.laws.specs.Cards.{sameSide}
 use Rattle.laws.specs.Auction.{pass, double, redouble, levelOf, strainOf}
@@ -12,7 +11,7 @@ use Rattle.auction.specs.declared.Auction.{Auction}
 use Rattle.auction.specs.declared.Contract.{Contract}
 use Rattle.auction.specs.declared.Verdict.{Verdict}
 use Rattle.auction.specs.declared.Verdict.the-variants.{Allowed, NotACall, AfterEnd, Insufficient, Inadmissible}
-use Rattle.auction.specs.Position.{firstPlace, stands}
+use Rattle.auction.specs.Position.{firstPlace, seatAt, stands}
 
 -- three passes in a row after a bid, or four without one
 unfoldable pub overOf : Auction → Bool
@@ -60,7 +59,7 @@ contractOf a =
       level = levelOf (a .last);
       strain = strainOf (a .last);
       doubling = a .doubling;
-      declarer = getD (a .first) (firstPlace (a .bidder) (a .last)) 0;
+      declarer = seatAt (a .first) (firstPlace (a .bidder) (a .last));
     }
 
 -- a contract of the code as the Laws' contract

@@ -1,10 +1,9 @@
 -- The position of an auction: before the first call, after one more, and after a history of calls. It holds no history.
 -- Assumes nothing.
-use Prim.Native.Nat.{ℕ, _+_, _*_, _%_, min}
+use Prim.Native.Nat.{ℕ, _+_, _-_, _*_, _/_, _%_, _^_, min}
 use mathlib.Core.Bool.{Bool, false, _&&_}
 use mathlib.Core.List.{List, [], _∷_}
 use lib.Dec.{eqb}
-use lib.ListN.{getD, set, replicate}
 use Rattle.laws.specs.Choice.{if_then_else_}
 use Rattle.laws.specs.Cards.{noSeat, clockwise, sideOf}
 use Rattle.laws.specs.Auction.{pass, double, redouble, isBid, strainOf}
@@ -14,9 +13,17 @@ use Rattle.auction.specs.declared.Auction.{Auction}
 unfoldable pub firstPlace : ℕ → ℕ → ℕ
 firstPlace seat bid = sideOf seat * 5 + strainOf bid
 
--- the seat at a place where nobody stands, and no change where somebody does
-unfoldable pub entered : List ℕ → ℕ → ℕ → List ℕ
-entered first place seat = if eqb (getD first place 0) noSeat then set first place seat else first
+-- the three bits at a place: 0 where nobody stands, else one more than the seat
+unfoldable pub entryAt : ℕ → ℕ → ℕ
+entryAt word place = word / 2 ^ (3 * place) % 8
+
+-- the seat at a place; a number that is no seat counts modulo 4
+unfoldable pub seatAt : ℕ → ℕ → ℕ
+seatAt word place = if eqb (entryAt word place) 0 then noSeat else (entryAt word place - 1) % 4
+
+-- the seat at a place where nobody stands, and no change where somebody does; forty bits stay
+unfoldable pub entered : ℕ → ℕ → ℕ → ℕ
+entered word place seat = word % 2 ^ 40 + (if eqb (entryAt word place) 0 then 1 else 0) * (seat % 4 + 1) * 2 ^ (3 * place)
 
 -- the last bid stands, with that doubling
 unfoldable pub stands : Auction → ℕ → Bool
@@ -32,7 +39,7 @@ opening dealer =
       doubling = 0;
       standing = false;
       passes = 0;
-      first = replicate 10 noSeat;
+      first = 0;
     }
 
 -- after a call: the passes in a row count up to four, and what is no call takes a turn, and no bid stands after it

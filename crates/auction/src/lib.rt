@@ -6,9 +6,10 @@ use laws::INSUFFICIENT_BID;
 use laws::NO_CALL;
 ghost use mathlib.Core.Path.{_≡_};
 ghost use mathlib.Core.List.{[]};
-ghost use Prim.Native.Nat.{_+_, _-_, min};
+ghost use Prim.Native.Nat.{_+_, _-_, _<_, min};
+ghost use Rattle.laws.specs.Choice.{if_then_else_};
 ghost use Rattle.laws.specs.Cards.{clockwise};
-ghost use Rattle.auction.specs.Position.{stands, afterCall, positionOf};
+ghost use Rattle.auction.specs.Position.{entryAt, entered, seatAt, stands, afterCall, positionOf};
 ghost use Rattle.auction.specs.Asked.{overOf, passedOutOf, mayDoubleOf, mayRedoubleOf, contractOf, verdictOf, numberOf, refusalOf};
 
 // The seat that stands for nobody.
@@ -29,8 +30,8 @@ pub struct Auction {
     standing: bool,
     // The passes in a row, up to four.
     passes: u8,
-    // At 5 × side + strain, the first player of the side to have bid the strain.
-    first: [u8; 10],
+    // Three bits at each place 5 × side + strain: 0, or 1 + the first player of the side to have bid the strain.
+    first: u64,
 }
 
 // What is said of a code: it is allowed, or what is wrong with it.
@@ -86,6 +87,41 @@ fn above_club(bid: u8) -> u8
     if bid < 3 { 0 } else { bid - 3 }
 }
 
+fn bit(test: bool) -> u64
+    ensures { λ r. ⌜ (r ≡ (if test then 1 else 0)) × (r < 2) ⌝ }
+{
+    if test { 1 } else { 0 }
+}
+
+// The three bits at a place.
+fn entry(word: u64, place: u8) -> u64
+    requires { ⌜ place < 10 ⌝ }
+    ensures { λ r. ⌜ (r ≡ entryAt word place) × (r < 8) ⌝ }
+{
+    (word >> (3 * place)) % 8
+}
+
+// The word with a seat at a place, where nobody stands there.
+fn entered(word: u64, place: u8, seat: u8) -> u64
+    requires { ⌜ place < 10 ⌝ }
+    ensures { λ r. ⌜ r ≡ entered word place seat ⌝ }
+{
+    let free = bit(entry(word, place) == 0);
+    word % 1099511627776 + ((free * (seat % 4 + 1) as u64) << (3 * place))
+}
+
+// The seat at a place, or nobody.
+fn seat_at(word: u64, place: u8) -> u8
+    requires { ⌜ place < 10 ⌝ }
+    ensures { λ r. ⌜ r ≡ seatAt word place ⌝ }
+{
+    let e = entry(word, place);
+    if e == 0 {
+        return NOBODY;
+    }
+    ((e - 1) % 4) as u8
+}
+
 impl Auction {
     // The position before the first call.
     pub fn new(dealer: u8) -> Self
@@ -98,7 +134,7 @@ impl Auction {
             doubling: 0,
             standing: false,
             passes: 0,
-            first: [NOBODY; 10],
+            first: 0,
         }
     }
 
@@ -141,10 +177,7 @@ impl Auction {
         self.last = code;
         self.bidder = turn;
         self.doubling = 0;
-        let at = ((turn % 2) * 5 + (code - 3) % 5) as usize;
-        if self.first[at] == NOBODY {
-            self.first[at] = turn;
-        }
+        self.first = entered(self.first, (turn % 2) * 5 + (code - 3) % 5, turn);
         self
     }
 
@@ -234,8 +267,7 @@ impl Auction {
     {
         let above = above_club(self.last);
         let strain = above % 5;
-        let at = ((self.bidder % 2) * 5 + strain) as usize;
-        let declarer = self.first[at];
+        let declarer = seat_at(self.first, (self.bidder % 2) * 5 + strain);
         Contract {
             level: above / 5 + 1,
             strain,

@@ -9,24 +9,23 @@ use Rattle.auction.proofs.Auction.contract.Tie as tie
 above-club-requires : tie.Need-above-club-requires
 above-club-requires c κs = search needs
 
-mul-at : tie.Need-mul-at
-mul-at c = search needs
+mul-seat-at : tie.Need-mul-seat-at
+mul-seat-at c = search needs
 
-add-at : tie.Need-add-at
-add-at c = search needs
+add-seat-at : tie.Need-add-seat-at
+add-seat-at c = search needs
 
-cast-at : tie.Need-cast-at
-cast-at c = search needs
-
-element-copy-out-declarer : tie.Need-element-copy-out-declarer
-element-copy-out-declarer c = search needs
+seat-at-requires : tie.Need-seat-at-requires
+seat-at-requires c κs = search needs
 
 add-t7 : tie.Need-add-t7
 add-t7 c = search needs
 
 returns : tie.Need-returns
 unfolding contractOf levelOf strainOf firstPlace
-returns c = rw (c .before .above-club .ensures)
+returns c = rw (c .seat-at .ensures, c .before .before .above-club .ensures)
 
 pub contract-spec : {M : Type 1} → statement M
-contract-spec = tie.close (tie.spec above-club-requires mul-at add-at cast-at element-copy-out-declarer add-t7 returns)
+contract-spec =
+    tie.close
+    (tie.spec above-club-requires mul-seat-at add-seat-at seat-at-requires add-t7 returns)
