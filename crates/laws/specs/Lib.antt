@@ -23,3 +23,5 @@ pub mod Lawful
 pub mod Tally
 pub mod Decimal
 pub mod Sheet
+pub mod Percentages
+pub mod CellSheet

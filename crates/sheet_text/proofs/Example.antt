@@ -6,7 +6,7 @@ use Rattle.laws.specs.Choice.{howMany}
 use Rattle.laws.specs.Decimal.{startsWith, lastDigits, decimal, signedDecimal, allDigits, isNumber, valueAfter}
 use Rattle.laws.specs.Law77.{validScore}
 use Rattle.laws.specs.Law78.{occurrences, comparison, comparisons, others, nsMatchpoints, ewMatchpoints}
-use Rattle.laws.specs.Sheet.{before, linesOf, isZero, isSize, scoreOf, isScore, refusedLine, insert, distinct, header, row, rows, table, refusal, sheetOf, sheet}
+use Rattle.laws.specs.Sheet.{before, linesOf, isZero, isSize, scoreOf, isScore, refusedLine, insert, distinct, header, row, rows, table, refusal, tabled, sheet}
 
 -- `420`, `420`, `-50`, `450`
 abbrev scores : List ℕ
@@ -21,5 +21,5 @@ printed =
     ∷ 32 ∷ 49 ∷ 32 ∷ 48 ∷ 32 ∷ 54 ∷ 10 ∷ []
 
 pub example : sheet scores ≡ printed
-unfolding before linesOf isZero isSize scoreOf isScore refusedLine insert distinct header row rows table refusal sheetOf sheet startsWith lastDigits decimal signedDecimal allDigits isNumber valueAfter validScore occurrences comparison comparisons others nsMatchpoints ewMatchpoints howMany
+unfolding before linesOf isZero isSize scoreOf isScore refusedLine insert distinct header row rows table refusal tabled sheet startsWith lastDigits decimal signedDecimal allDigits isNumber valueAfter validScore occurrences comparison comparisons others nsMatchpoints ewMatchpoints howMany
 example = refl
