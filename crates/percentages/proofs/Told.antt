@@ -1,5 +1,5 @@
 -- The cell of a score by the matchpoints that a tally answers for it. Assumes nothing.
-use Prim.Native.Nat.{ℕ, _+_, _/_, _≤_}
+use Prim.Native.Nat.{ℕ, _+_, _-_, _*_, _/_, _≤_}
 use native.Mathlib.Omega.{arith}
 use mathlib.Core.Path.{_≡_, refl, sym, ap, _∙_, subst}
 use mathlib.Core.Bool.{Bool, true, false}
@@ -11,14 +11,15 @@ use lib.ListN.{length}
 use Rattle.laws.specs.Refusals.{Answer, refused, answered}
 use Rattle.laws.specs.Law77.{validScore}
 use Rattle.laws.specs.Law78.{occurrences, nsMatchpoints, ewMatchpoints, Points as BothSides, matchpoints}
-use Rattle.laws.specs.Percentages.{percentage, mostMatchpoints, nsPercentage, cellOf, cellAsked, Cell as Entered}
+use Rattle.laws.specs.Percentages.{percentage, mostMatchpoints, nsPercentage, cellOf, cellAsked, isAward, award, Cell as Entered}
 use Rattle.laws.proofs.Comparisons.{below-equal, both-most}
 use Rattle.laws.proofs.Tests.{by-test}
 use Rattle.tally.specs.declared.Tally.{Tally}
 use Rattle.tally.specs.Points.{matchpointsOf}
 use Rattle.tally.specs.Tallies.{scoresIn, wellFormed}
 use Rattle.tally.proofs.Formed.{formed, room-scores}
-use Rattle.percentages.specs.Cells.{cellOfTally, cellBy}
+use Rattle.percentages.specs.Cells.{cellOfTally, cellBy, Numbered}
+use Rattle.percentages.proofs.Floats.{whole-number, percentage-number}
 
 -- ---- over a list of results
 -- how many results there are, by the matchpoints of both sides
@@ -71,3 +72,31 @@ few t s =
     (λ (o : eqb (occurrences s l) 0 ≡ false). rw o (omega (arith, both-most l s (some (occurrences s l) o), room-scores t (formed t w))))))
     (λ (v : validScore s ≡ false). rw v tt)))
     (λ (w : wellFormed t ≡ false). rw w tt)
+
+-- ---- the float of an answer is a number
+pub cell-numbered : (t : Tally) (s : ℤ) → Numbered (cellOfTally t s)
+unfolding cellOfTally cellAsked cellOf nsPercentage mostMatchpoints
+cell-numbered t s =
+    let l = scoresIn t in
+    by-test (wellFormed t)
+    (λ (w : wellFormed t ≡ true). rw w (by-test (validScore s)
+    (λ (v : validScore s ≡ true). rw v (by-test (eqb (occurrences s l) 0)
+    (λ (o : eqb (occurrences s l) 0 ≡ true). rw o tt)
+    (λ (o : eqb (occurrences s l) 0 ≡ false). rw o (by-test (eqb (length l) 1)
+    (λ (n : eqb (length l) 1 ≡ true). rw n tt)
+    (λ (n : eqb (length l) 1 ≡ false).
+    let one = some (occurrences s l) o in
+    let both = both-most l s one in
+    let room = room-scores t (formed t w) in
+    let more = eqb-false (length l) 1 n in
+    let least = below-equal s l in
+    rw n (percentage-number (nsMatchpoints l s) (2 * (length l - 1)) (omega arith) (omega arith) (omega arith)))))))
+    (λ (v : validScore s ≡ false). rw v tt)))
+    (λ (w : wellFormed t ≡ false). rw w tt)
+
+pub award-numbered : (n : ℕ) → Numbered (award n)
+unfolding award
+award-numbered n =
+    by-test (isAward n)
+    (λ (e : isAward n ≡ true). rw e (whole-number n))
+    (λ (e : isAward n ≡ false). rw e tt)

@@ -1,6 +1,8 @@
 -- The cell that a tally gives for a score, and what an answer stands for. Assumes nothing.
 use Prim.Native.Nat.{ℕ, _-_, _*_}
-use lib.Dec.{eqb}
+use mathlib.Core.Bool.{not}
+use lib.Dec.{T, eqb}
+use lib.Ieee.{isNan}
 use lib.IntN.{ℤ}
 use Rattle.laws.specs.Choice.{if_then_else_}
 use Rattle.laws.specs.Refusals.{Answer, refused, answered, malformedTally}
@@ -30,3 +32,10 @@ cellAnswer (Is c) = answered (entered c)
 -- the cell of a result with so many matchpoints, one of so many results
 unfoldable pub cellBy : ℕ → ℕ → Answer Entered
 cellBy points results = answered (if eqb results 1 then alone else played (percentage points (2 * (results - 1))))
+
+-- the float of an answer, where it has one, is a number
+abbrev pub Numbered : Answer Entered → Type 0
+Numbered (refused n) = Unit {0}
+Numbered (answered (played x)) = T (not (isNan x))
+Numbered (answered (awarded x)) = T (not (isNan x))
+Numbered (answered alone) = Unit {0}

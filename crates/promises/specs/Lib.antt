@@ -5,3 +5,4 @@ pub mod Demand2Judgement
 pub mod Demand3
 pub mod Tallies
 pub mod Demand2Imps
+pub mod Percentages
