@@ -89,7 +89,7 @@ build/rust-built: $(ARCHIVE) FORCE | tools
 
 outside: tools build/rust-built build/terminal $(TREE) $(SHEET) $(CELLS)
 	$(CC) $(CFLAGS) -Iinclude tests/c/header.c $(ARCHIVE) -o build/header-c
-	build/header-c
+	valgrind --quiet --error-exitcode=1 build/header-c
 	$(CXX) $(CXXFLAGS) -Iinclude -x c++ tests/c/header.c -x none $(ARCHIVE) -o build/header-c++
 	build/header-c++
 	tests/samples.sh $(RUST)/write_record

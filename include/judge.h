@@ -1,7 +1,9 @@
 /* The judge of table records of duplicate bridge, for C99 and C++.
  *
- * The library libjudge.a has one function, judge_record. It is proved to do what this header says of it, for every record and every
- * buffer. The helpers below it are plain C and are tested, not proved. docs/01-scope.md has the record's layout and the rules. */
+ * The library libjudge.a has one function, judge_record. docs/RULES.md has the record's layout and the rules.
+ *
+ * Proved, of the library's source: what this header says judge_record returns, writes and leaves, for every record and every two
+ * buffers. Not proved, and tried by tests: the compiler's work on that source, and all else in this header, which is plain C. */
 #ifndef JUDGE_H
 #define JUDGE_H
 
@@ -12,7 +14,7 @@
 extern "C" {
 #endif
 
-/* The least lengths of the two buffers, and the most bytes that an accepted record has by document 01; this last number is not proved. */
+/* The least lengths of the two buffers, and the most bytes that an accepted record has: this too is proved. */
 enum { JUDGE_ANSWER_BYTES = 7, JUDGE_REVOKE_BYTES = 36, JUDGE_RECORD_MOST = 296 };
 
 /* Judges one table record.
@@ -23,12 +25,23 @@ enum { JUDGE_ANSWER_BYTES = 7, JUDGE_REVOKE_BYTES = 36, JUDGE_RECORD_MOST = 296 
  *
  * No record and no length is trusted. What C has to see to is this, and nothing else:
  *   - each pointer has as many bytes as the length beside it says, the two buffers writable;
- *   - no two of the three overlap;
- *   - no pointer is null, not even beside the length 0. judge_record_or_null takes null pointers. */
+ *   - no two of the three overlap.
+ * A null pointer beside the length 0 meets both: nothing is read or written through it. A null record is refused with 2, a null buffer
+ * with 1. */
 uint32_t judge_record(const uint8_t *record, size_t record_len, uint8_t *answer, size_t answer_len, uint8_t *revokes,
                       size_t revokes_len);
 
-/* The refusals, in the order of the checks: the first one that applies is returned. Calls and plays count from 0. */
+/* The refusals by number. Calls and plays count from 0.
+ *
+ * The number is no rank. One refusal is returned, the first that applies in this order:
+ *   - the buffers: 1, for the answer, then for the revokes;
+ *   - board and table: both are read (2 where the record ends), then 3, for the board, then for the table;
+ *   - the deal: it is read whole (2), then 4;
+ *   - the number of calls (2); then for each call in turn: it is read (2), then 5, then 8, then 6 or 7; after the last call 9;
+ *   - the number of cards (2), then 10; then for each card in turn: it is read (2), then 11, then 12;
+ *   - the claim's mark (2); unmarked, 13; marked, 14, then the claim is read (2), then 15;
+ *   - 16.
+ * So the record 00 01 is refused with 3 and not with 2, and a bid after the end that is too low as well with 8 and not with 6. */
 enum judge_refusal {
     JUDGE_ACCEPTED = 0,
     JUDGE_BUFFER_TOO_SHORT = 1,      /* place 0: answer under 7 bytes; 1: revokes under 36 */
@@ -52,14 +65,6 @@ enum judge_refusal {
 /* The two parts of a number that is not 0. */
 static inline enum judge_refusal judge_refusal_of(uint32_t number) { return (enum judge_refusal)(number / 1024u); }
 static inline unsigned judge_place_of(uint32_t number) { return (unsigned)(number % 1024u); }
-
-/* judge_record, for callers that may have a null pointer: a null pointer is a slice of length 0, whatever length is given with it. */
-static inline uint32_t judge_record_or_null(const uint8_t *record, size_t record_len, uint8_t *answer, size_t answer_len,
-                                            uint8_t *revokes, size_t revokes_len) {
-    uint8_t no_record = 0, no_answer = 0, no_revokes = 0;
-    return judge_record(record ? record : &no_record, record ? record_len : 0, answer ? answer : &no_answer,
-                        answer ? answer_len : 0, revokes ? revokes : &no_revokes, revokes ? revokes_len : 0);
-}
 
 /* Seats: N 0, E 1, S 2, W 3. Strains: clubs 0, diamonds 1, hearts 2, spades 3, notrump 4. */
 struct judge_judgement {

@@ -1,6 +1,6 @@
 #!/bin/sh
 # Builds the program of the README's fifteen lines against the copy installed under the folder that is given, with the flags of its pkg-config
-# file and outside the repository's own folders, and judges document 01's passed-out board with it.
+# file and outside the repository's own folders, and judges the passed-out board of docs/RULES.md with it.
 set -u
 prefix=$1
 cc=$2

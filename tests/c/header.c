@@ -1,5 +1,5 @@
-/* Tries include/judge.h as C99 and as C++: the helpers on bytes worked out by hand, null pointers, short buffers, and document 01's
- * example of bytes. */
+/* Tries include/judge.h as C99 and as C++: the helpers on bytes worked out by hand, null pointers, short buffers, the order of the
+ * checks, and the passed-out board of docs/RULES.md. */
 #include "judge.h"
 
 #include <stdio.h>
@@ -102,16 +102,25 @@ static void refuses_short_buffers(void) {
 
 static void takes_null_pointers(void) {
     fill();
-    expect("null record", (long)judge_record_or_null(NULL, 0, answer, 40, revokes, 80), 2 * 1024);
-    expect("null record with a length", (long)judge_record_or_null(NULL, 20, answer, 40, revokes, 80), 2 * 1024);
-    expect("null answer", (long)judge_record_or_null(PASSED_OUT, 20, NULL, 0, revokes, 80), 1024);
-    expect("null answer with a length", (long)judge_record_or_null(PASSED_OUT, 20, NULL, 7, revokes, 80), 1024);
-    expect("null list", (long)judge_record_or_null(PASSED_OUT, 20, answer, 40, NULL, 0), 1025);
-    expect("null list with a length", (long)judge_record_or_null(PASSED_OUT, 20, answer, 40, NULL, 36), 1025);
-    expect("all null", (long)judge_record_or_null(NULL, 0, NULL, 0, NULL, 0), 1024);
+    expect("null record", (long)judge_record(NULL, 0, answer, 40, revokes, 80), 2 * 1024);
+    expect("null answer", (long)judge_record(PASSED_OUT, 20, NULL, 0, revokes, 80), 1024);
+    expect("null list", (long)judge_record(PASSED_OUT, 20, answer, 40, NULL, 0), 1025);
+    expect("null record and list", (long)judge_record(NULL, 0, answer, 40, NULL, 0), 1025);
+    expect("all null", (long)judge_record(NULL, 0, NULL, 0, NULL, 0), 1024);
     expect_untouched("buffers beside null pointers");
-    expect("no null", (long)judge_record_or_null(PASSED_OUT, 20, answer, 40, revokes, 80), 0);
-    expect("its answer", memcmp(answer, PASSED_OUT_ANSWER, 7), 0);
+}
+
+/* Board 1, table 1, the passed-out deal, five calls: 1 club, three passes, 1 club. */
+static const uint8_t LOW_AFTER_END[20] = {0x02, 0x01, 0x00, 0x00, 0x00, 0x15, 0x55, 0x55, 0x5A, 0xAA,
+                                          0xAA, 0xAB, 0xFF, 0xFF, 0xFF, 0x02, 0x86, 0x00, 0x00, 0x06};
+
+/* A number is no rank: 3 comes before the 2 of a later field, and 8 before 6. */
+static void checks_in_order(void) {
+    const uint8_t board_0[2] = {0x00, 0x01};
+    fill();
+    expect("board 0", (long)judge_record(board_0, 2, answer, 40, revokes, 80), 3 * 1024);
+    expect("a low bid after the end", (long)judge_record(LOW_AFTER_END, 20, answer, 40, revokes, 80), 8 * 1024 + 4);
+    expect_untouched("buffers after a refusal in order");
 }
 
 int main(void) {
@@ -122,5 +131,6 @@ int main(void) {
     judges_the_example();
     refuses_short_buffers();
     takes_null_pointers();
+    checks_in_order();
     return failed;
 }

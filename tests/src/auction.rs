@@ -8,7 +8,7 @@ pub const FIRST_BID: u64 = 3;
 /// The codes from here on are no calls.
 pub const NO_CALL: u64 = 38;
 
-/// Why a call is refused, as document 01 numbers it.
+/// Why a call is refused, as docs/RULES.md numbers it.
 #[derive(Clone, Copy, PartialEq, Eq, Debug)]
 pub enum Fault {
     BidNotAbove = 6,

@@ -1,4 +1,4 @@
-//! The judge: a record read in document 01's order, judged as it is read.
+//! The judge: a record read in the order of docs/RULES.md, judged as it is read.
 use crate::auction::{Auction, Contract, NO_CALL};
 use crate::deal;
 use crate::law64;

@@ -1,4 +1,4 @@
-//! Law 64 as document 01 counts it.
+//! Law 64 as docs/RULES.md counts it.
 use crate::play::MOST_REVOKES;
 
 fn trick(revoke: u8) -> usize {

@@ -1,4 +1,4 @@
-//! A judge, a tally and a sheet for duplicate bridge, written from document 01 alone (docs/01-scope.md), and what is needed to compare
+//! A judge, a tally and a sheet for duplicate bridge, written from docs/RULES.md alone, and what is needed to compare
 //! the proved library with them: records of all shapes, damaged records, trees of tally calls, sheets.
 
 pub mod auction;

@@ -1,4 +1,4 @@
-//! A record's parts, and its bytes by the layout table of document 01. Counts and codes are written as they are given, right or wrong.
+//! A record's parts, and its bytes by the layout table of docs/RULES.md. Counts and codes are written as they are given, right or wrong.
 
 #[derive(Clone, Debug)]
 pub struct Parts {

@@ -79,7 +79,7 @@ impl Tally {
         Ok(merged)
     }
 
-    /// Whether a tally is as document 01 describes it: the test for refusal 17.
+    /// Whether a tally is as docs/RULES.md describes it: the test for refusal 17.
     pub fn described(&self) -> bool {
         let (scores, unused) = self.scores.split_at(self.used);
         let (counts, uncounted) = self.counts.split_at(self.used);

@@ -1,4 +1,4 @@
-//! Trees of tally calls by document 01's rules on lists of scores, and scripts of such calls as the program `tree` reads them.
+//! Trees of tally calls by the rules of docs/RULES.md on lists of scores, and scripts of such calls as the program `tree` reads them.
 use crate::score;
 use crate::tally::{Cell, Tally, MOST_RESULTS};
 

@@ -1,4 +1,5 @@
-//! The examples of document 01, by the independent judge and by the proved one. The numbers are the document's.
+//! The examples of docs/RULES.md. The numbers due are that page's. A test of whole records goes over both judges, the proved one and the one written here;
+//! one of a single function, of matchpoints or of the sheet tries the Rust code alone.
 use outside::auction::Contract;
 use outside::compare::Judge;
 use outside::law64::transferred;
@@ -51,7 +52,7 @@ fn one_club_and_a_claim() {
     }
 }
 
-/// Level, strain, doubling, tricks, vulnerable, and what declarer's side scores: P1 to P6.
+/// Level, strain, doubling, tricks, vulnerable, and what declarer's side scores: P1 to P6, by the Rust judge's function.
 const SCORES: [(u8, u8, u8, u8, bool, i32); 6] = [
     (3, 4, 0, 9, false, 400),
     (4, 3, 0, 11, true, 650),
@@ -69,7 +70,7 @@ fn p1_to_p6() {
     }
 }
 
-/// The same by whole records: N declares, dealer on boards 1 and 5, and has the ace of diamonds for the two of clubs. It wins the first trick,
+/// The same by whole records and both judges: N declares, dealer on boards 1 and 5, and has the ace of diamonds for the two of clubs. It wins the first trick,
 /// but for spades, where W ruffs; the rest is claimed.
 #[test]
 fn p1_to_p6_by_records() {
@@ -103,7 +104,7 @@ fn revoke(trick: u8, seat: u8, suit: u8) -> u8 {
     trick << 4 | seat << 2 | suit
 }
 
-/// N declares; E is the defender who revokes.
+/// The Rust judge's function alone. N declares; E is the defender who revokes.
 #[test]
 fn p9_to_p11_law_64() {
     let mut winners = [0; 13];
@@ -120,11 +121,154 @@ fn p9_to_p11_law_64() {
     assert_eq!(transferred(&[revoke(12, 1, 2)], &winners, 0, [0, 0]), Some((1, 0)));
 }
 
+/// A card in words, `SA` for the ace of spades.
+fn card(word: &str) -> u64 {
+    let (suit, rank) = word.split_at(1);
+    13 * "CDHS".find(suit).unwrap() as u64 + "23456789TJQKA".find(rank).unwrap() as u64
+}
+
+/// One club by N on board 1, where nobody is vulnerable. A line is a trick, the seat that leads and the four cards in order of play; all thirteen
+/// say which seat was dealt which card. With a claim, only the first `played` tricks are in the record.
+fn one_club_played(tricks: &[&str; 13], played: usize, claim: Option<u64>) -> Vec<u8> {
+    let (mut deal, mut cards) = (vec![4; 52], Vec::new());
+    for trick in tricks {
+        let (leader, words) = trick.split_once(' ').unwrap();
+        let leader = "NESW".find(leader).unwrap() as u64;
+        for (k, word) in words.split(' ').enumerate() {
+            deal[card(word) as usize] = (leader + k as u64) % 4;
+            cards.push(card(word));
+        }
+    }
+    record(1, deal, &[3, 0, 0, 0], &cards[..4 * played], claim)
+}
+
+/// Accepted by both judges, with tricks won by N's side, the same after Law 64, NS's score, and the revokes.
+fn expect_law_64(record: &[u8], tricks: u8, after: u8, score: i32, revokes: &[u8]) {
+    for judge in JUDGES {
+        let (mut answer, mut list) = ([0; 7], [0; 36]);
+        assert_eq!(judge(record, &mut answer, &mut list), 0);
+        assert_eq!((answer[3] >> 2 & 15, (answer[3] & 3) << 2 | answer[4] >> 6), (tricks, after));
+        assert_eq!(i32::from(i16::from_be_bytes([answer[5], answer[6]])), score);
+        assert_eq!((usize::from(answer[4] & 63), &list[..revokes.len()]), (revokes.len(), revokes));
+    }
+}
+
+/// E takes the ace of diamonds, and on trick 3 ruffs a heart with a heart in hand. His side wins no other trick.
+const NONE_LATER: [&str; 13] = [
+    "E DA D2 S3 S2",
+    "E DK D3 S4 C4",
+    "N H2 C2 H4 S5",
+    "E D4 H5 S6 C5",
+    "N CA D5 H6 C3",
+    "N CK D6 H7 S7",
+    "N CQ D7 H8 S8",
+    "N CJ D8 H9 S9",
+    "N CT D9 HT ST",
+    "N C9 DT HJ SJ",
+    "N C8 DJ HQ SQ",
+    "N C7 DQ HK SK",
+    "N C6 H3 HA SA",
+];
+
+/// The same, but E wins four diamonds after trick 3 and W ruffs a fifth.
+const FIVE_LATER: [&str; 13] = [
+    "E DA D2 S8 S2",
+    "E DK D3 S9 C9",
+    "N H2 C2 H4 ST",
+    "E DQ H5 SJ S3",
+    "E DJ H6 SQ S4",
+    "E DT H7 SK S5",
+    "E D9 H8 SA S6",
+    "E D8 H9 C3 S7",
+    "W C4 CT D4 HT",
+    "N CJ D5 HJ C5",
+    "N CQ D6 HQ C6",
+    "N CK D7 HK C7",
+    "N CA H3 HA C8",
+];
+
+/// P9: the two tricks of the revoke, down to those that E's side won from trick 3 on, played or claimed. 12 tricks score 20 + 50 + 5 × 20, 8 tricks
+/// 20 + 50 + 20.
+#[test]
+fn p9_by_records() {
+    let hearts = [revoke(3, 1, 2)];
+    expect_law_64(&one_club_played(&NONE_LATER, 13, None), 11, 12, 170, &hearts);
+    expect_law_64(&one_club_played(&NONE_LATER, 3, Some(10)), 11, 12, 170, &hearts);
+    expect_law_64(&one_club_played(&FIVE_LATER, 13, None), 6, 8, 90, &hearts);
+    expect_law_64(&one_club_played(&NONE_LATER, 3, Some(5)), 6, 8, 90, &hearts);
+}
+
+/// P10: E ruffs a heart on trick 3 and a spade on trick 10, each with a card of the suit in hand. With the ace of diamonds his side has three tricks, two
+/// of them from trick 3 on.
+#[test]
+fn p10_by_records() {
+    let tricks = [
+        "E DA D2 D5 S4",
+        "E DK D3 ST CT",
+        "N H2 C2 H5 H6",
+        "E DQ D4 SJ CJ",
+        "N H4 H3 HA H7",
+        "S HK H8 S5 DJ",
+        "S HQ H9 S6 DT",
+        "S HJ SQ S7 D9",
+        "S HT SK S8 D8",
+        "S S2 SA S9 C3",
+        "E D6 C4 C7 CQ",
+        "N CK S3 C5 C8",
+        "N CA D7 C6 C9",
+    ];
+    expect_law_64(&one_club_played(&tricks, 13, None), 10, 12, 170, &[revoke(3, 1, 2), revoke(10, 1, 3)]);
+}
+
+/// P11: on trick 12, which W wins, E throws a diamond with a club in hand. 10 tricks score 20 + 50 + 3 × 20.
+#[test]
+fn p11_by_records() {
+    let tricks = [
+        "E DA D2 D5 S4",
+        "E DK D3 ST CK",
+        "N H2 H3 HA H6",
+        "S HK H7 H4 DQ",
+        "S HQ H8 S5 DJ",
+        "S HJ H9 S6 DT",
+        "S HT SJ S7 D9",
+        "S H5 SQ S8 D8",
+        "S D4 SK CQ D6",
+        "N CJ C2 C4 C7",
+        "N S9 S3 S2 SA",
+        "W CA C9 D7 C5",
+        "W C8 CT C3 C6",
+    ];
+    expect_law_64(&one_club_played(&tricks, 13, None), 10, 10, 130, &[revoke(12, 1, 0)]);
+}
+
 #[test]
 fn p12_ends_of_auctions() {
     for judge in JUDGES {
         assert_eq!(judged(judge, &suits(1, &[3, 0, 0, 0], &[], None)).0, 13 * 1024);
         assert_eq!(judged(judge, &suits(1, &[0, 0, 0], &[], None)).0, 9 * 1024 + 3);
+    }
+}
+
+/// The longest auction and with it the longest record: three passes, then every bid, each doubled and redoubled after two passes, 319 calls. The
+/// seat that bids goes round by one from W on, so E bids the last, seven notrump, and W is the first of that side to have bid notrump. N leads and
+/// wins every trick with a club: thirteen down, redoubled, not vulnerable, 2 × (100 + 2 × 200 + 10 × 300).
+#[test]
+fn longest_auction_and_record() {
+    let rounds = (3..38).flat_map(|bid| [bid, 0, 0, 1, 0, 0, 2, 0, 0]);
+    let calls: Vec<u64> = [0; 3].into_iter().chain(rounds).chain([0]).collect();
+    let cards: Vec<u64> = (0..13).flat_map(|rank| [rank, 13 + rank, 26 + rank, 39 + rank]).collect();
+    let record = suits(1, &calls, &cards, None);
+    assert_eq!((calls.len(), record.len()), (319, 296));
+    for judge in JUDGES {
+        let (mut answer, mut list) = ([0; 7], [0; 36]);
+        assert_eq!(judge(&record, &mut answer, &mut list), 0);
+        // board 7, table 9; level 7, strain 4, doubling 2; declarer 3, no trick, none after Law 64, no revoke
+        assert_eq!(answer[..5], [2, 1, 7 << 5 | 4 << 2 | 2, 3 << 6, 0]);
+        assert_eq!(judged(judge, &record), (0, 7000));
+    }
+    let one_call_more = suits(1, &[&calls[..], &[0]].concat(), &cards, None);
+    for judge in JUDGES {
+        assert_eq!(judged(judge, &one_call_more).0, 8 * 1024 + 319);
     }
 }
 

@@ -1,5 +1,5 @@
 //! A record for each refusal and each kind of place, every prefix of whole records, and buffers about the least length, by both judges.
-//! The numbers due and the bytes due are worked out from document 01.
+//! The numbers due and the bytes due are worked out from docs/RULES.md.
 use outside::compare::Judge;
 use outside::parts::Parts;
 use outside::{judge, proved};

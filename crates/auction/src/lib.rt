@@ -1,4 +1,9 @@
 // The auction, a call at a time: a position that steps and returns itself, and holds no history.
+use laws::ACCEPTED;
+use laws::CALL_AFTER_END;
+use laws::INADMISSIBLE_DOUBLE;
+use laws::INSUFFICIENT_BID;
+use laws::NO_CALL;
 ghost use mathlib.Core.Path.{_≡_};
 ghost use mathlib.Core.List.{[]};
 ghost use Prim.Native.Nat.{_+_, _-_, min};
@@ -43,11 +48,11 @@ impl Verdict {
         ensures { λ r. ⌜ r ≡ numberOf self ⌝ }
     {
         match self {
-            Verdict::Allowed => 0,
-            Verdict::NotACall => 5,
-            Verdict::AfterEnd => 8,
-            Verdict::Insufficient => 6,
-            Verdict::Inadmissible => 7,
+            Verdict::Allowed => ACCEPTED,
+            Verdict::NotACall => NO_CALL,
+            Verdict::AfterEnd => CALL_AFTER_END,
+            Verdict::Insufficient => INSUFFICIENT_BID,
+            Verdict::Inadmissible => INADMISSIBLE_DOUBLE,
         }
     }
 }

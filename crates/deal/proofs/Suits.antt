@@ -6,8 +6,7 @@ use Prim.Native.Nat.{ℕ, _+_, _-_, _*_, _/_, _≤_, _<_}
 use native.Mathlib.Omega.{arith}
 use borrow.Author.Tests.{eqb-true, eqb-false, eq-eqb, ne-eqb, not-true}
 use lib.Dec.{eqb}
-use lib.Count.{ones}
-use lib.ListN.{length, getD, take, drop, length-drop, length-take, drop-of-length-le}
+use lib.ListN.{length, getD, drop, length-drop, length-take, drop-of-length-le}
 use lib.Seq.{getD-take, getD-drop}
 use Rattle.laws.specs.Choice.{howMany}
 use Rattle.laws.specs.Cards.{noSeat, dealtTo, cardsDealt}
@@ -15,8 +14,7 @@ use Rattle.laws.specs.Law44.{isOf}
 use Rattle.laws.proofs.Tests.{same-test, and-left, and-right, and-both}
 use Rattle.laws.proofs.Counts.{below-some, some-below}
 use Rattle.laws.proofs.Counts.{many-place, place-many}
-use Rattle.deal.specs.Hands.{wordOf, suitPlaces, suitCount, holdsOne}
-use Rattle.deal.proofs.Words.{ones-word}
+use Rattle.deal.specs.Hands.{suitPlaces, suitCount, holdsOne}
 
 -- of a suit of 4 or more there is no card
 pub no-suit : (s suit : ℕ) (l : List ℕ) → length l ≡ 52 → 3 < suit → suitCount s suit l ≡ 0

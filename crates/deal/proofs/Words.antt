@@ -1,5 +1,5 @@
 -- Laws of `wordOf`: its bits are the places, its set bits are counted as the cards are. Assumes nothing.
-use mathlib.Core.Path.{_≡_, refl, sym, ap, ap₂, _∙_, subst}
+use mathlib.Core.Path.{_≡_, refl, sym, ap, ap₂, _∙_}
 use mathlib.Core.Bool.{Bool, true, false}
 use mathlib.Core.List.{List, [], _∷_}
 use Prim.Native.Nat.{ℕ, zero, suc, _+_, _-_, _*_, _/_, _%_, _^_, _≤_, _<_}
@@ -9,8 +9,7 @@ use native.Mathlib.Omega.{arith}
 use lib.Dec.{eqb}
 use lib.Pow.{pow-pos, shr-shr, mod-pow-add}
 use lib.Count.{ones, ones-step}
-use lib.ListN.{length, getD, take, drop, length-drop, length-take}
-use lib.Seq.{drop-cons}
+use lib.ListN.{length, take, drop}
 use Rattle.laws.specs.Choice.{if_then_else_, howMany}
 use Rattle.laws.specs.Cards.{cardsDealt}
 use Rattle.deal.specs.Hands.{wordOf, suitCount}
@@ -70,29 +69,3 @@ word-take s (suc k) (x ∷ t) =
 pub suit-bits : (s suit : ℕ) (l : List ℕ) → ones (wordOf s l / 2 ^ (13 * suit) % 2 ^ 13) ≡ suitCount s suit l
 unfolding suitCount
 suit-bits s suit l = rw (word-drop s (13 * suit) l, word-take s 13 (drop (13 * suit) l)) (ones-word s (take 13 (drop (13 * suit) l)))
-
--- no place, no bit
-pub word-none : (s n i : ℕ) (l : List ℕ) → n ≤ i → wordOf s (take (n - i) (drop i l)) ≡ 0
-unfolding wordOf
-word-none s n i l h = let z : n - i ≡ 0 = omega arith in rw z
-
--- one place more, in front
-pub word-front : (s : ℕ) (l : List ℕ) (i n : ℕ) → i < length l
-    → wordOf s (take (suc n) (drop i l)) ≡ wordOf s (take n (drop (suc i) l)) * 2 + bit (eqb (getD l i 0) s)
-unfolding wordOf
-word-front s l i n h = rw (drop-cons l i 0 h)
-
--- A loop down the places: w is the word of the places from i on, and room is left for one more.
-module _ (s i w : ℕ) (l : List ℕ) (long : length l ≡ 52) (p : 0 < i) (h : i ≤ 52) (e : w ≡ wordOf s (take (52 - i) (drop i l))) where
-  pub room : w < 2 ^ 51
-  room = subst (λ (x : ℕ). x < 2 ^ 51) (sym e) (word-lt s (take (52 - i) (drop i l)) 51 (simp (length-take, length-drop) (omega arith)))
-
-  pub goes-down : (b : Bool) → eqb (getD l (i - 1) 0) s ≡ b → w * 2 + bit b ≡ wordOf s (take (52 - (i - 1)) (drop (i - 1) l))
-  goes-down b t =
-      let within : i - 1 < length l = omega arith in
-      let up : suc (i - 1) ≡ i = omega arith in
-      let more : 52 - (i - 1) ≡ suc (52 - i) = omega arith in
-      sym (ap (λ (k : ℕ). wordOf s (take k (drop (i - 1) l))) more
-      ∙ word-front s l (i - 1) (52 - i) within
-      ∙ ap₂ (λ (x : ℕ) (y : Bool). wordOf s (take (52 - i) (drop x l)) * 2 + bit y) up t
-      ∙ ap (λ (x : ℕ). x * 2 + bit b) (sym e))

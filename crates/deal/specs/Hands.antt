@@ -1,6 +1,6 @@
 -- A seat's hand as a word, one bit for a place of the holder list, and a suit's cards as thirteen of its bits.
 -- Assumes nothing.
-use Prim.Native.Nat.{ℕ, _+_, _-_, _*_, _/_, _%_, _^_}
+use Prim.Native.Nat.{ℕ, suc, _+_, _*_, _/_, _%_, _^_}
 use mathlib.Core.Bool.{Bool, not, _&&_}
 use mathlib.Core.List.{List, [], _∷_}
 use lib.Dec.{eqb, ltb}
@@ -27,9 +27,10 @@ suitBits hand suit = if ltb suit 4 then ones (hand / 2 ^ (13 * suit) % 2 ^ 13) e
 unfoldable pub hasSuit : ℕ → ℕ → Bool
 hasSuit hand suit = not (eqb (suitBits hand suit) 0)
 
--- a hand without a card; one that does not have it, and any hand without what is no card, stays
-unfoldable pub withoutCard : ℕ → ℕ → ℕ
-withoutCard hand card = if ltb card 52 && eqb (hand / 2 ^ card % 2) 1 then hand - 2 ^ card else hand
+-- the first of some hands, the seats counted from a number on, that has not thirteen cards; the number past the last where each has
+unfoldable pub notThirteenFrom : ℕ → List ℕ → ℕ
+notThirteenFrom seat [] = seat
+notThirteenFrom seat (hand ∷ rest) = if eqb (ones hand) 13 then notThirteenFrom (suc seat) rest else seat
 
 -- the thirteen places of a suit; none for a suit of 4 or more, since there are 52 places
 abbrev pub suitPlaces : ℕ → List ℕ → List ℕ

@@ -1,33 +1,9 @@
-// The deal: a seat's hand as a 52-bit word of the holders, thirteen cards each, suits still held, and Law 2.
+// The deal: the hands of the four seats as 52-bit words of the holders, thirteen cards each, suits still held, and Law 2.
 // The holder of a card is any number: seats are 0 to 3, and a card with another holder is in nobody's hand.
 ghost use mathlib.Core.Path.{_≡_};
 ghost use Prim.Native.Nat.{_-_, _^_, _<_};
-ghost use Rattle.laws.specs.Cards.{cardsDealt, shortSeat};
 ghost use Rattle.laws.specs.Law2;
-ghost use Rattle.deal.specs.Hands.{wordOf, wordsOf, suitBits, hasSuit, withoutCard};
-
-// The hand of a seat: a bit for each of the 52 cards.
-pub fn hand(holders: [u8; 52], seat: u8) -> u64
-    ensures { λ r. ⌜ r ≡ wordOf seat holders ⌝ }
-{
-    let mut bits: u64 = 0;
-    let mut i: usize = 52;
-    while 0 < i {
-        i -= 1;
-        bits = bits * 2;
-        if holders[i] == seat {
-            bits += 1;
-        }
-    }
-    bits
-}
-
-// How many cards a seat holds.
-pub fn cards_held(holders: [u8; 52], seat: u8) -> u32
-    ensures { λ r. ⌜ r ≡ cardsDealt seat holders ⌝ }
-{
-    u64::count_ones(hand(holders, seat))
-}
+ghost use Rattle.deal.specs.Hands.{wordsOf, suitBits, hasSuit, notThirteenFrom};
 
 // The bit of a card.
 fn bit_of(card: usize) -> u64
@@ -55,20 +31,6 @@ pub fn holds_suit(hand: u64, suit: u8) -> bool
     suit_held(hand, suit) != 0
 }
 
-// A hand without a card; one that does not have it stays.
-pub fn without(hand: u64, card: u8) -> u64
-    ensures { λ r. ⌜ r ≡ withoutCard hand card ⌝ }
-{
-    if 52 <= card {
-        return hand;
-    }
-    let bit = bit_of(card as usize);
-    if hand / bit % 2 == 0 {
-        return hand;
-    }
-    hand - bit
-}
-
 // The hands of the four seats, in one pass over the cards.
 pub fn hands(holders: [u8; 52]) -> [u64; 4]
     ensures { λ r. ⌜ r ≡ wordsOf holders ⌝ }
@@ -86,14 +48,13 @@ pub fn hands(holders: [u8; 52]) -> [u64; 4]
     words
 }
 
-// The first seat without thirteen cards, in the order North, East, South, West; 4 where each has thirteen.
-pub fn short_seat(holders: [u8; 52]) -> u8
-    ensures { λ r. ⌜ r ≡ shortSeat holders ⌝ }
+// The first of four hands, in the order North, East, South, West, that has not thirteen cards; 4 where each has thirteen.
+pub fn seat_without_thirteen(hands: [u64; 4]) -> u8
+    ensures { λ r. ⌜ r ≡ notThirteenFrom 0 hands ⌝ }
 {
-    let words = hands(holders);
     let mut seat: usize = 0;
     while seat < 4 {
-        if u64::count_ones(words[seat]) != 13 {
+        if u64::count_ones(hands[seat]) != 13 {
             return seat as u8;
         }
         seat += 1;

@@ -40,8 +40,9 @@ fn by_suits() -> [u8; 52] {
 }
 
 fn holdings(holders: [u8; 52]) {
-    number(deal::short_seat(holders) as u64);
-    let north = deal::hand(holders, 0);
+    let hands = deal::hands(holders);
+    number(deal::seat_without_thirteen(hands) as u64);
+    let north = hands[0];
     let mut suit: u8 = 0;
     while suit < 5 {
         text(b" ");

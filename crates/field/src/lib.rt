@@ -3,7 +3,7 @@ ghost use mathlib.Core.Path.{_≡_};
 ghost use Prim.Native.Nat.{_+_, _*_, _^_, _≤_, _<_};
 ghost use lib.ListN.{getD};
 ghost use Rattle.laws.specs.Reading.{numberAt};
-ghost use Rattle.field.specs.Field.{fieldAt};
+ghost use Rattle.field.specs.Field.{fieldAnswer, fieldAt};
 
 // What a read finds: the field's number, or that the record ends before the field is whole.
 pub enum Field {
@@ -56,7 +56,7 @@ fn window(bytes: &[u8], first: usize, skipped: usize, width: usize) -> u16
 
 // The field of `width` bits from bit `at` on. Where three bytes are there from its first one on, it is whole.
 pub fn read(bytes: &[u8], at: usize, width: usize) -> Field
-    ensures { λ r. ⌜ r ≡ fieldAt (now (bytes .entry)) at width ⌝ }
+    ensures { λ r. ⌜ fieldAnswer r ≡ fieldAt (now (bytes .entry)) at width ⌝ }
 {
     if 16 < width {
         return Field::Short;

@@ -1,19 +1,17 @@
 -- What judging a record comes to in the number returned and in the two buffers. Assumes nothing.
-use Prim.Native.Nat.{ℕ, zero, suc, _≤_, _<_, _+_, _-_, _*_, _/_, _%_, _^_}
+use Prim.Native.Nat.{ℕ, _≤_, _<_, _+_, _-_, _*_, _/_, _%_}
 use native.Mathlib.Nat.{zero-add, div-one}
 use native.Mathlib.Numerals.{add-one}
 use native.Mathlib.Omega.{arith}
 use mathlib.Core.Path.{_≡_, refl, sym, ap, _∙_, subst}
-use mathlib.Core.Bool.{Bool, true, false, not}
+use mathlib.Core.Bool.{Bool, true, false}
 use mathlib.Core.List.{List, [], _∷_, _++_, reverse-reverse}
 use borrow.Author.Tests.{lt-ltb, le-ltb}
-use lib.Dec.{ltb}
 use lib.ListN.{length, take, drop, getD, set, length-map}
 use lib.Seq.{paste-suc}
-use Rattle.laws.specs.Choice.{if_then_else_}
 use Rattle.laws.specs.Auction.{passedOut}
-use Rattle.laws.specs.Record.{Parts, Field, bits, number, bytesOf, packed}
-use Rattle.laws.specs.Reading.{Reading, Reading.refused, Reading.found, refuse, onward}
+use Rattle.laws.specs.Record.{Parts, bits, number, bytesOf, packed}
+use Rattle.laws.specs.Reading.{Reading, Reading.refused, Reading.found, refuse}
 use Rattle.laws.specs.Law2.{dealer}
 use Rattle.laws.specs.Judge as Judge
 use Rattle.laws.specs.Judgement.{answerFields, answerBytes, playedFields, callsOf, revokesOf, revokeByte, revokeBytes}
@@ -111,26 +109,27 @@ module _ (bytes : List ℕ) (answer list : List ℕ) where
     unfolding Judge.judgeOf Judge.readLent refuse
     said-is = rw (le-ltb (length answer) 7 h, le-ltb (length list) 36 k)
 
-    stops : (r : Reading Parts) → (judgedOf r .fault ≡ 0 → ⊥) → said ≡ Judge.outcome r → Left (judgedOf r .fault) answer list
+    stops : (r : Reading Parts) → (judgedOf r .refusal ≡ 0 → ⊥) → said ≡ Judge.outcome r → Left (judgedOf r .refusal) answer list
     stops (refused n place) e o = kept o
     stops (found p at) e o = absurd (e refl)
 
-    pub judge-refuses : (j .fault ≡ 0 → ⊥) → Left (j .fault) answer list
+    pub judge-refuses : (j .refusal ≡ 0 → ⊥) → Left (j .refusal) answer list
     judge-refuses e = rw ej (stops (Judge.readRecord bytes 0) (rw ej at e) said-is)
 
-    few : (r : Reading Parts) → Judge.readRecord bytes 0 ≡ r → judgedOf r .fault ≡ 0 → said ≡ Judge.outcome r → judgedOf r .revokes .count ≤ 36
+    few : (r : Reading Parts) → Judge.readRecord bytes 0 ≡ r → judgedOf r .refusal ≡ 0 → said ≡ Judge.outcome r → judgedOf r .revokes .count ≤ 36
     unfolding listedIn
     few (refused n place) q e o = absurd (not-0 o e)
     few (found p at) q e o = few-revokes bytes q
 
-    pub few-listed : j .fault ≡ 0 → j .revokes .count ≤ 36
+    pub few-listed : j .refusal ≡ 0 → j .revokes .count ≤ 36
     few-listed e = rw ej (few (Judge.readRecord bytes 0) refl (rw ej at e) said-is)
 
     -- what putting the answer's bits and the list leaves
     abbrev Put : Judged → List ℕ → List ℕ → Type 0
-    Put x a l = (a ≡ bytesOf 7 (x .pack) ++ drop 7 answer) × (l ≡ take (x .revokes .count) (x .revokes .list) ++ drop (x .revokes .count) list)
+    Put x a l = (a ≡ bytesOf 7 (x .bits) ++ drop 7 answer) × (l ≡ take (x .revokes .count) (x .revokes .list) ++ drop (x .revokes .count) list)
 
-    takes : (r : Reading Parts) → Judge.readRecord bytes 0 ≡ r → judgedOf r .fault ≡ 0 → said ≡ Judge.outcome r → {a l : List ℕ} → Put (judgedOf r) a l → Left 0 a l
+    takes : (r : Reading Parts) → Judge.readRecord bytes 0 ≡ r → judgedOf r .refusal ≡ 0 → said ≡ Judge.outcome r → {a l : List ℕ} → Put (judgedOf r) a l
+        → Left 0 a l
     unfolding answerLeft listLeft _over_ listedIn revokeBytes
     takes (refused n place) q e o w = absurd (not-0 o e)
     takes (found p at) q e o w =
@@ -142,5 +141,5 @@ module _ (bytes : List ℕ) (answer list : List ℕ) where
           listed = rw (o, n) (w .1 ∙ ap (λ (x : List ℕ). x ++ drop (length (revokesOf p)) list) (rw n at back));
         }
 
-    pub judge-accepts : j .fault ≡ 0 → {a l : List ℕ} → Put j a l → Left (j .fault) a l
+    pub judge-accepts : j .refusal ≡ 0 → {a l : List ℕ} → Put j a l → Left (j .refusal) a l
     judge-accepts e {a} {l} w = rw e (takes (Judge.readRecord bytes 0) refl (rw ej at e) said-is (subst (λ (x : Judged). Put x a l) ej w))

@@ -1,29 +1,30 @@
 -- The record from its first bit to the end of its calls: what each section's success tells, and the whole from its parts. Assumes nothing.
-use Prim.Native.Nat.{ℕ, zero, suc, _≤_, _<_, _+_, _-_, _*_, _/_, _%_}
+use Prim.Native.Nat.{ℕ, zero, suc, _≤_, _<_, _+_, _-_, _*_}
 use native.Mathlib.Nat.{mul-zero, mul-suc}
 use native.Mathlib.Omega.{arith}
 use mathlib.Core.Path.{_≡_, refl, sym, ap, _∙_, subst}
-use mathlib.Core.Bool.{Bool, true, false, not}
-use mathlib.Core.List.{List, [], _∷_}
+use mathlib.Core.Bool.{not}
+use mathlib.Core.List.{List}
 use borrow.Author.Tests.{eqb-true, not-false}
 use lib.Dec.{eqb}
 use lib.ListN.{length}
-use Rattle.laws.specs.Refusals.{noSuchBoard, notThirteen}
-use Rattle.laws.specs.Cards.{noSeat, shortSeat}
-use Rattle.laws.specs.Reading.{Reading, Reading.refused, Reading.found, onward, numberAt, readRow}
+use Rattle.laws.specs.Refusals.{noBoardOrTable, notThirteen}
+use Rattle.laws.specs.Cards.{noSeat, seatWithoutThirteen}
+use Rattle.laws.specs.Reading.{Reading, Reading.refused, Reading.found, onward, readRow}
 use Rattle.laws.specs.Law2.{dealer}
 use Rattle.laws.specs.Judge as Judge
 use Rattle.laws.specs.Record.{Parts}
-use Rattle.laws.proofs.Tests.{not-both}
+use Rattle.laws.proofs.Numbered.{Fair, not-0, fair-heading, fair-deal, fair-calls}
 use Rattle.laws.proofs.Readings.{first-of, first-read, first-test}
+use Rattle.deal.specs.Hands.{wordsOf}
 use Rattle.deal.proofs.Thirteen.{thirteen-each}
 use Rattle.auction.specs.Position as Calls
 use Rattle.judge.specs.declared.reading.Heading.{Heading}
-use Rattle.judge.specs.declared.reading.Dealt.{Dealt}
-use Rattle.judge.specs.declared.reading.Called.{Called}
+use Rattle.judge.specs.declared.reading.Deal.{Deal}
+use Rattle.judge.specs.declared.reading.Calls.{Calls}
 use Rattle.judge.specs.declared.whole.Judged.{Judged}
-use Rattle.judge.specs.Sections.{headingOf, dealtOf, calledOf}
-use Rattle.judge.specs.Whole.{Good, CallsTold, afterCards, afterCalls, afterDeal, noJudgement, judgedOf}
+use Rattle.judge.specs.Sections.{headingOf, dealOf, callsOf}
+use Rattle.judge.specs.Whole.{ThirteenEach, OfCalls, afterCards, afterCalls, afterDeal, noJudgement, judgedOf}
 use Rattle.judge.proofs.Composing.{found-same, calls-next}
 
 -- ---- what a section that was read tells
@@ -32,8 +33,8 @@ unfolding Judge.readHeading
 heading-end bytes q =
     let a = first-read 7 bytes 0 _ q in
     let b = first-read 9 bytes (0 + 7) _ (a .1) in
-    let c = first-test noSuchBoard 0 _ bytes (0 + 7 + 9) _ (b .1) in
-    let d = first-test noSuchBoard 1 _ bytes (0 + 7 + 9) _ (c .1) in
+    let c = first-test noBoardOrTable 0 _ bytes (0 + 7 + 9) _ (b .1) in
+    let d = first-test noBoardOrTable 1 _ bytes (0 + 7 + 9) _ (c .1) in
     omega (arith, found-same (d .1) .1)
 
 row-found : (w n : ℕ) (bytes : List ℕ) (at : ℕ) {l : List ℕ} {e : ℕ} → readRow w n bytes at ≡ found l e → (length l ≡ n) × (e ≡ at + w * n)
@@ -48,14 +49,14 @@ row-found w (suc n) bytes at q =
     let s = found-same (b .3) in
     (ap length (sym (s .0)) ∙ ap suc (f .0), omega (arith, s .1, f .1, mul-suc w n))
 
-pub deal-found : (bytes : List ℕ) (at : ℕ) {deal : List ℕ} {e : ℕ} → Judge.readDeal bytes at ≡ found deal e → Good deal × (e ≡ at + 104)
+pub deal-found : (bytes : List ℕ) (at : ℕ) {deal : List ℕ} {e : ℕ} → Judge.readDeal bytes at ≡ found deal e → ThirteenEach deal × (e ≡ at + 104)
 unfolding Judge.readDeal
 deal-found bytes at {deal} q =
     let r = first-of (readRow 2 52 bytes at) _ q in
-    let t = first-test notThirteen (shortSeat (r .0)) (not (eqb (shortSeat (r .0)) noSeat)) bytes (r .1) _ (r .3) in
+    let t = first-test notThirteen (seatWithoutThirteen (r .0)) (not (eqb (seatWithoutThirteen (r .0)) noSeat)) bytes (r .1) _ (r .3) in
     let f = row-found 2 52 bytes at (r .2) in
     let s = found-same (t .1) in
-    let none : shortSeat deal ≡ noSeat = ap shortSeat (sym (s .0)) ∙ eqb-true (shortSeat (r .0)) noSeat (not-false _ (t .0)) in
+    let none : seatWithoutThirteen deal ≡ noSeat = ap seatWithoutThirteen (sym (s .0)) ∙ eqb-true (seatWithoutThirteen (r .0)) noSeat (not-false _ (t .0)) in
     (record { places = ap length (sym (s .0)) ∙ f .0; thirteen = thirteen-each deal none }, omega (arith, s .1, f .1))
 
 -- ---- from the heading on
@@ -67,41 +68,42 @@ module _ (bytes : List ℕ) (t : Heading) (et : t ≡ headingOf (Judge.readHeadi
   unfolding Judge.readRecord afterDeal afterCalls afterCards
   by-parts = refl
 
-  heading-stops : (q : Reading Judge.Heading) → headingOf q .ok ≡ false → noJudgement (headingOf q .fault) ≡ judgedOf (onward q rest)
+  heading-stops : (q : Reading Judge.Heading) → (headingOf q .refusal ≡ 0 → ⊥) → noJudgement (headingOf q .refusal) ≡ judgedOf (onward q rest)
   heading-stops (refused n place) e = refl
-  heading-stops (found top at) e = not-both true refl e
+  heading-stops (found top at) e = absurd (e refl)
 
-  pub heading-refused : t .ok ≡ false → noJudgement (t .fault) ≡ judgedOf (Judge.readRecord bytes 0)
+  pub heading-refused : (t .refusal ≡ 0 → ⊥) → noJudgement (t .refusal) ≡ judgedOf (Judge.readRecord bytes 0)
   heading-refused e = rw (by-parts, et) (heading-stops (Judge.readHeading bytes 0) (rw et at e))
 
   abbrev dealRest : Heading → Reading (List ℕ) → Reading Parts
   dealRest top r = onward r (λ deal behind. afterDeal (top .board) (top .table) deal bytes behind)
 
-  heading-goes : (q : Reading Judge.Heading) → Judge.readHeading bytes 0 ≡ q → headingOf q .ok ≡ true → onward q rest ≡ dealRest (headingOf q) (Judge.readDeal bytes 16)
-  heading-goes (refused n place) q e = not-both false e refl
+  heading-goes : (q : Reading Judge.Heading) → Judge.readHeading bytes 0 ≡ q → headingOf q .refusal ≡ 0 → onward q rest
+      ≡ dealRest (headingOf q) (Judge.readDeal bytes 16)
+  heading-goes (refused n place) q e = absurd (not-0 (subst Fair q (fair-heading bytes 0)) e)
   heading-goes (found top at) q e = ap (rest top) (heading-end bytes q)
 
-  module _ (ot : t .ok ≡ true) (d : Dealt) (ed : d ≡ dealtOf (Judge.readDeal bytes 16)) where
+  module _ (ot : t .refusal ≡ 0) (d : Deal) (ed : d ≡ dealOf (Judge.readDeal bytes 16)) where
     heading-read : Judge.readRecord bytes 0 ≡ dealRest t (Judge.readDeal bytes 16)
     heading-read = by-parts ∙ heading-goes (Judge.readHeading bytes 0) refl (rw et at ot) ∙ ap (λ (x : Heading). dealRest x (Judge.readDeal bytes 16)) (sym et)
 
-    deal-stops : (q : Reading (List ℕ)) → dealtOf q .ok ≡ false → noJudgement (dealtOf q .fault) ≡ judgedOf (dealRest t q)
+    deal-stops : (q : Reading (List ℕ)) → (dealOf q .refusal ≡ 0 → ⊥) → noJudgement (dealOf q .refusal) ≡ judgedOf (dealRest t q)
     deal-stops (refused n place) e = refl
-    deal-stops (found deal at) e = not-both true refl e
+    deal-stops (found deal at) e = absurd (e refl)
 
-    pub deal-refused : d .ok ≡ false → noJudgement (d .fault) ≡ judgedOf (Judge.readRecord bytes 0)
+    pub deal-refused : (d .refusal ≡ 0 → ⊥) → noJudgement (d .refusal) ≡ judgedOf (Judge.readRecord bytes 0)
     deal-refused e = rw (heading-read, ed) (deal-stops (Judge.readDeal bytes 16) (rw ed at e))
 
-    deal-goes : (q : Reading (List ℕ)) → Judge.readDeal bytes 16 ≡ q → dealtOf q .ok ≡ true
-        → Good (dealtOf q .holders) × (dealRest t q ≡ afterDeal (t .board) (t .table) (dealtOf q .holders) bytes 120)
-    deal-goes (refused n place) q e = not-both false e refl
+    deal-goes : (q : Reading (List ℕ)) → Judge.readDeal bytes 16 ≡ q → dealOf q .refusal ≡ 0
+        → ThirteenEach (dealOf q .holders) × (dealRest t q ≡ afterDeal (t .board) (t .table) (dealOf q .holders) bytes 120)
+    deal-goes (refused n place) q e = absurd (not-0 (subst Fair q (fair-deal bytes 16)) e)
     deal-goes (found deal at) q e =
         let f = deal-found bytes 16 q in
         let s : at ≡ 120 = omega (arith, f .1) in
         (f .0, ap (afterDeal (t .board) (t .table) deal bytes) s)
 
-    module _ (od : d .ok ≡ true) (seat : ℕ) (es : seat ≡ dealer (t .board)) (c : Called) (ec : c ≡ calledOf seat (Judge.readCalls seat bytes 120)) where
-      deal-read : Good (d .holders) × (dealRest t (Judge.readDeal bytes 16) ≡ afterDeal (t .board) (t .table) (d .holders) bytes 120)
+    module _ (od : d .refusal ≡ 0) (seat : ℕ) (es : seat ≡ dealer (t .board)) (c : Calls) (ec : c ≡ callsOf seat (Judge.readCalls seat bytes 120)) where
+      deal-read : ThirteenEach (d .holders) × (dealRest t (Judge.readDeal bytes 16) ≡ afterDeal (t .board) (t .table) (d .holders) bytes 120)
       deal-read = rw ed (deal-goes (Judge.readDeal bytes 16) refl (rw ed at od))
 
       abbrev callRest : Reading (List ℕ) → Reading Parts
@@ -111,28 +113,36 @@ module _ (bytes : List ℕ) (t : Heading) (et : t ≡ headingOf (Judge.readHeadi
       unfolding afterDeal
       from-calls = heading-read ∙ deal-read .1 ∙ ap (λ (s : ℕ). callRest (Judge.readCalls s bytes 120)) (sym es)
 
-      calls-stop : (q : Reading (List ℕ)) → calledOf seat q .ok ≡ false → noJudgement (calledOf seat q .fault) ≡ judgedOf (callRest q)
+      calls-stop : (q : Reading (List ℕ)) → (callsOf seat q .refusal ≡ 0 → ⊥) → noJudgement (callsOf seat q .refusal) ≡ judgedOf (callRest q)
       calls-stop (refused n place) e = refl
-      calls-stop (found h at) e = not-both true refl e
+      calls-stop (found h at) e = absurd (e refl)
 
-      pub calls-refused : c .ok ≡ false → noJudgement (c .fault) ≡ judgedOf (Judge.readRecord bytes 0)
+      pub calls-refused : (c .refusal ≡ 0 → ⊥) → noJudgement (c .refusal) ≡ judgedOf (Judge.readRecord bytes 0)
       calls-refused e = rw (from-calls, ec) (calls-stop (Judge.readCalls seat bytes 120) (rw ec at e))
 
-      calls-end : (q : Reading (List ℕ)) → Judge.readCalls seat bytes 120 ≡ q → calledOf seat q .ok ≡ true → calledOf seat q .next < 16384
-      calls-end (refused n place) q e = not-both false e refl
-      calls-end (found h at) q e = omega (arith, calls-next seat bytes 120 q)
+      calls-end : (q : Reading (List ℕ)) → Judge.readCalls seat bytes 120 ≡ q → callsOf seat q .refusal ≡ 0 → (8 ≤ callsOf seat q .next)
+          × (callsOf seat q .next < 16384)
+      calls-end (refused n place) q e = absurd (not-0 (subst Fair q (fair-calls seat bytes 120)) e)
+      calls-end (found h at) q e = let n = calls-next seat bytes 120 q in (omega arith, omega arith)
 
-      pub calls-bound : c .ok ≡ true → c .next < 16384
-      calls-bound e = rw ec (calls-end (Judge.readCalls seat bytes 120) refl (rw ec at e))
+      hands-go : (q : Reading (List ℕ)) → Judge.readDeal bytes 16 ≡ q → dealOf q .refusal ≡ 0 → dealOf q .hands ≡ wordsOf (dealOf q .holders)
+      hands-go (refused n place) q e = absurd (not-0 (subst Fair q (fair-deal bytes 16)) e)
+      hands-go (found deal at) q e = refl
+
+      pub calls-bound : c .refusal ≡ 0 → (8 ≤ c .next) × (c .next < 16384) × (d .hands ≡ wordsOf (d .holders))
+      calls-bound e =
+          let n = rw (← ec) at (calls-end (Judge.readCalls seat bytes 120) refl (rw ec at e)) in
+          (n .0, n .1, rw ed (hands-go (Judge.readDeal bytes 16) refl (rw ed at od)))
 
       module _ (r : Judged) where
         -- the answer, given any calls that this position is of
-        abbrev Tells : Called → Type 0
-        Tells x = (h : List ℕ) → CallsTold (t .board) (x .after) (d .holders) h → r ≡ judgedOf (afterCalls (t .board) (t .table) (d .holders) h bytes (x .next))
+        abbrev Tells : Calls → Type 0
+        Tells x = (h : List ℕ) → OfCalls (t .board) (x .after) (d .holders) h → r ≡ judgedOf (afterCalls (t .board) (t .table) (d .holders) h bytes (x .next))
 
-        calls-go : (q : Reading (List ℕ)) → calledOf seat q .ok ≡ true → Tells (calledOf seat q) → r ≡ judgedOf (callRest q)
-        calls-go (refused n place) e f = not-both false e refl
-        calls-go (found h at) e f = f h (record { good = deal-read .0; position = ap (λ (s : ℕ). Calls.positionOf s h) es })
+        calls-go : (q : Reading (List ℕ)) → Judge.readCalls seat bytes 120 ≡ q → callsOf seat q .refusal ≡ 0 → Tells (callsOf seat q) → r
+            ≡ judgedOf (callRest q)
+        calls-go (refused n place) q e f = absurd (not-0 (subst Fair q (fair-calls seat bytes 120)) e)
+        calls-go (found h at) q e f = f h (record { deal-of = deal-read .0; position = ap (λ (s : ℕ). Calls.positionOf s h) es })
 
-        pub calls-read : c .ok ≡ true → Tells c → r ≡ judgedOf (Judge.readRecord bytes 0)
-        calls-read e f = rw from-calls (calls-go (Judge.readCalls seat bytes 120) (rw ec at e) (subst (λ (x : Called). Tells x) ec f))
+        pub calls-read : c .refusal ≡ 0 → Tells c → r ≡ judgedOf (Judge.readRecord bytes 0)
+        calls-read e f = rw from-calls (calls-go (Judge.readCalls seat bytes 120) refl (rw ec at e) (subst (λ (x : Calls). Tells x) ec f))

@@ -1,8 +1,7 @@
 -- The loop over the calls: the auction's position is that of the history, and its refusal is the Law's. Assumes nothing.
-use Prim.Native.Nat.{ℕ, _≤_, _<_, _+_, _*_}
+use Prim.Native.Nat.{ℕ, _≤_, _<_, _+_}
 use mathlib.Core.Path.{_≡_, refl, sym, ap, _∙_}
-use mathlib.Core.Bool.{true}
-use mathlib.Core.List.{List, [], _∷_}
+use mathlib.Core.List.{List, []}
 use lib.ListN.{length}
 use Rattle.laws.specs.Auction.{callPlace}
 use Rattle.laws.specs.CallRefusal.{callRefusal}
@@ -11,8 +10,7 @@ use Rattle.auction.specs.declared.Auction.{Auction}
 use Rattle.auction.specs.Position.{positionOf, afterCall}
 use Rattle.auction.specs.Asked.{refusalOf}
 use Rattle.auction.proofs.Laws.{refusal-is}
-use Rattle.judge.specs.declared.reading.Called.{Called}
-use Rattle.judge.specs.Sections.{faultOf, noCalls, calledOf}
+use Rattle.judge.specs.Sections.{noCalls, callsOf}
 use Rattle.judge.proofs.Turns.{Reached, begins, ends, short, stops, goes}
 
 placed : (h : List ℕ) → callPlace h ≡ length h
@@ -29,21 +27,21 @@ module _ (bytes : List ℕ) (d at n : ℕ) where
   pub call-begins : {a : Auction} → a ≡ positionOf d [] → CallsAt a at 0
   call-begins e = begins 6 callPlace (callRefusal d) placed bytes at n (positionOf d) e
 
-  pub call-ends : {a : Auction} {here i : ℕ} → CallsAt a here i → n ≤ i → record { ok = true; fault = 0; next = here; after = a } ≡ calledOf d calls
+  pub call-ends : {a : Auction} {here i : ℕ} → CallsAt a here i → n ≤ i → record { refusal = 0; next = here; after = a } ≡ callsOf d calls
   call-ends {a} {here} r t =
-      ap (λ (x : Auction). record { ok = true; fault = 0; next = here; after = x }) (r .position)
-      ∙ sym (ap (calledOf d) (ends 6 callPlace (callRefusal d) placed bytes at n (positionOf d) r t))
+      ap (λ (x : Auction). record { refusal = 0; next = here; after = x }) (r .position)
+      ∙ sym (ap (callsOf d) (ends 6 callPlace (callRefusal d) placed bytes at n (positionOf d) r t))
 
   module _ {a : Auction} {here i : ℕ} (r : CallsAt a here i) (t : i < n) where
-    pub call-short : read 6 bytes here ≡ refused 2 0 → noCalls 2048 ≡ calledOf d calls
-    call-short q = sym (ap (calledOf d) (short 6 callPlace (callRefusal d) placed bytes at n (positionOf d) r t q))
+    pub call-short : read 6 bytes here ≡ refused 2 0 → noCalls 2 0 ≡ callsOf d calls
+    call-short q = sym (ap (callsOf d) (short 6 callPlace (callRefusal d) placed bytes at n (positionOf d) r t q))
 
     module _ {c f : ℕ} (q : read 6 bytes here ≡ found c (here + 6)) (e : f ≡ refusalOf a c) where
       law : f ≡ callRefusal d (r .history) c
       law = e ∙ ap (λ (x : Auction). refusalOf x c) (r .position) ∙ refusal-is d (r .history) c
 
-      pub call-stops : (f ≡ 0 → ⊥) → noCalls (faultOf f i) ≡ calledOf d calls
-      call-stops z = sym (ap (calledOf d) (stops 6 callPlace (callRefusal d) placed bytes at n (positionOf d) r t q law z))
+      pub call-stops : (f ≡ 0 → ⊥) → noCalls f i ≡ callsOf d calls
+      call-stops z = sym (ap (callsOf d) (stops 6 callPlace (callRefusal d) placed bytes at n (positionOf d) r t q law z))
 
       pub call-goes : f ≡ 0 → {b : Auction} → b ≡ afterCall a c → CallsAt b (here + 6) (i + 1)
       unfolding positionOf

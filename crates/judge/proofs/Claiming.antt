@@ -1,14 +1,13 @@
 -- The claim in the code is the Laws' section: a law for each way out, over what was read. Assumes nothing.
-use Prim.Native.Nat.{ℕ, _≤_, _<_, _+_, _-_, _*_, _/_, _%_}
+use Prim.Native.Nat.{ℕ, _≤_, _<_, _+_, _-_, _/_, _%_}
 use mathlib.Core.Path.{_≡_, refl}
 use mathlib.Core.Bool.{Bool, true, false, not, _&&_, _||_}
 use mathlib.Core.List.{List, []}
 use borrow.Author.Tests.{eq-eqb, ne-eqb, le-leb, lt-leb, leb-true}
 use lib.Dec.{eqb, leb}
-use Rattle.laws.specs.Law68.{Claim, none, agreed}
-use Rattle.laws.specs.Reading.{Reading, Reading.refused, Reading.found, read, refuse}
+use Rattle.laws.specs.Reading.{Reading.refused, Reading.found, read, refuse}
 use Rattle.laws.proofs.Tests.{and-right}
-use Rattle.judge.specs.declared.claim.Claimed.{Claimed}
+use Rattle.judge.specs.declared.claim.Claim.{Claim as Read}
 use Rattle.judge.specs.Sections.{noClaim, claimOf, pointAt, mayClaim, noClaimBy, markedBy, claimBy}
 
 none-left : (b : Bool) → (not b && false) ≡ false
@@ -21,10 +20,10 @@ no-point false point = refl
 
 -- ---- no claim
 module _ (out : Bool) (played : ℕ) (bytes : List ℕ) (at : ℕ) where
-  abbrev unclaimed : Claimed
-  unclaimed = record { ok = true; fault = 0; next = at; marked = false; tricks = 0 }
+  abbrev unclaimed : Read
+  unclaimed = record { refusal = 0; next = at; marked = false; tricks = 0 }
 
-  pub unfinished : out ≡ false → (played ≡ 52 → ⊥) → noClaim (13312 + played) ≡ claimOf (noClaimBy out played bytes at)
+  pub unfinished : out ≡ false → (played ≡ 52 → ⊥) → noClaim 13 played ≡ claimOf (noClaimBy out played bytes at)
   unfolding noClaimBy refuse
   unfinished e n = rw (e, ne-eqb played 52 n)
 
@@ -37,26 +36,27 @@ module _ (out : Bool) (played : ℕ) (bytes : List ℕ) (at : ℕ) where
   passed e = rw e
 
   -- ---- a marked claim
-  pub claim-elsewhere : mayClaim out played ≡ false → noClaim (14336 + played) ≡ claimOf (markedBy out played bytes at)
+  pub claim-elsewhere : mayClaim out played ≡ false → noClaim 14 played ≡ claimOf (markedBy out played bytes at)
   unfolding markedBy refuse mayClaim
   claim-elsewhere p = rw (no-point out (pointAt played), p)
 
   module _ (p : mayClaim out played ≡ true) where
-    pub claim-short : read 4 bytes at ≡ refused 2 0 → noClaim 2048 ≡ claimOf (markedBy out played bytes at)
+    pub claim-short : read 4 bytes at ≡ refused 2 0 → noClaim 2 0 ≡ claimOf (markedBy out played bytes at)
     unfolding markedBy refuse mayClaim
     claim-short q = rw (no-point out (pointAt played), p, q)
 
     module _ (tricks : ℕ) (q : read 4 bytes at ≡ found tricks (at + 4)) where
-      pub claim-too-many : 13 - played / 4 < tricks → noClaim (15360 + tricks) ≡ claimOf (markedBy out played bytes at)
+      pub claim-too-many : 13 - played / 4 < tricks → noClaim 15 tricks ≡ claimOf (markedBy out played bytes at)
       unfolding markedBy refuse mayClaim
       claim-too-many h = rw (no-point out (pointAt played), p, q, lt-leb tricks (13 - played / 4) h)
 
-      pub claim-agreed : tricks ≤ 13 - played / 4 → record { ok = true; fault = 0; next = at + 4; marked = true; tricks = tricks } ≡ claimOf (markedBy out played bytes at)
+      pub claim-agreed : tricks ≤ 13 - played / 4 → record { refusal = 0; next = at + 4; marked = true; tricks = tricks }
+          ≡ claimOf (markedBy out played bytes at)
       unfolding markedBy refuse mayClaim
       claim-agreed h = rw (no-point out (pointAt played), p, q, le-leb tricks (13 - played / 4) h)
 
   -- ---- the mark
-  pub mark-short : read 1 bytes at ≡ refused 2 0 → noClaim 2048 ≡ claimOf (claimBy out played bytes at)
+  pub mark-short : read 1 bytes at ≡ refused 2 0 → noClaim 2 0 ≡ claimOf (claimBy out played bytes at)
   unfolding claimBy
   mark-short q = rw q
 

@@ -1,42 +1,39 @@
 -- The sections one after the other: what a reading that succeeds tells, and the whole from its parts. Assumes nothing.
-use Prim.Native.Nat.{ℕ, zero, suc, _≤_, _<_, _+_, _-_, _*_, _/_, _%_}
+use Prim.Native.Nat.{ℕ, zero, suc, _≤_, _<_, _+_, _-_, _*_}
 use native.Mathlib.Nat.{mul-zero, mul-suc}
 use native.Mathlib.Omega.{arith}
 use mathlib.Core.Path.{_≡_, refl, sym, ap, ap₂, _∙_, subst}
-use mathlib.Core.Bool.{Bool, true, false, not, _&&_, _||_}
+use mathlib.Core.Bool.{Bool, not, _&&_, _||_}
 use mathlib.Core.List.{List, [], _∷_}
-use borrow.Author.Tests.{eqb-true, not-false, not-true}
+use borrow.Author.Tests.{eqb-true, not-false}
 use lib.Dec.{eqb, ltb}
 use lib.ListN.{length}
-use Rattle.laws.specs.Choice.{if_then_else_}
-use Rattle.laws.specs.Reading.{Reading, Reading.refused, Reading.found, onward, numberAt, read, refuse, readEach}
+use Rattle.laws.specs.Reading.{Reading, Reading.refused, Reading.found, onward, numberAt, readEach}
 use Rattle.laws.specs.Law44.{cardsPlayed}
-use Rattle.laws.specs.Refusals.{auctionUnfinished, playCount}
+use Rattle.laws.specs.Refusals.{auctionUnfinished, tooManyCards}
 use Rattle.laws.specs.CallRefusal.{callRefusal}
 use Rattle.laws.specs.CardRefusal.{cardRefusal}
 use Rattle.laws.specs.Law2.{dealer}
 use Rattle.laws.specs.Auction as Law
 use Rattle.laws.specs.Judge as Judge
-use Rattle.laws.proofs.Tests.{by-test, not-both}
 use Rattle.laws.proofs.Bits.{number-lt}
-use Rattle.laws.proofs.Readings.{refused-found, first-of, first-read, first-test}
+use Rattle.laws.proofs.CardRefusals.{refusal-le}
+use Rattle.laws.proofs.Numbered.{Fair, not-0, fair-read, fair-test, fair-each}
+use Rattle.laws.proofs.Readings.{first-of, first-read, first-test}
 use Rattle.laws.specs.Cards.{clockwise}
-use Rattle.laws.specs.Law44.{tricksComplete}
 use Rattle.laws.specs.Record.{Parts}
 use Rattle.auction.specs.declared.Auction.{Auction}
 use Rattle.auction.specs.declared.Contract.{Contract}
 use Rattle.auction.specs.Asked.{passedOutOf, contractOf, asLaw}
 use Rattle.auction.proofs.History.{passed-out-is}
 use Rattle.auction.proofs.Laws.{contract-is}
-use Rattle.play.specs.History.{AllPlayed, positionOf, trickOf, tricksOf}
-use Rattle.play.proofs.Cards.{fewer-than-four}
-use Rattle.play.proofs.Holders.{trick-law}
+use Rattle.play.specs.History.{AllPlayed, positionOf}
+use Rattle.play.proofs.Stands.{stands}
 use Rattle.play.proofs.Thirteen.{at-most-52}
-use Rattle.play.proofs.Complete.{tricks-law}
-use Rattle.judge.specs.declared.cards.Carded.{Carded}
+use Rattle.judge.specs.declared.cards.Cards.{Cards}
 use Rattle.judge.specs.declared.whole.Judged.{Judged}
-use Rattle.judge.specs.Sections.{cardsBy, cardedOf}
-use Rattle.judge.specs.Whole.{Good, CardsTold, CallsTold, afterCards, afterCalls, afterDeal, noJudgement, judgedOf}
+use Rattle.judge.specs.Sections.{cardsBy, cardsOf}
+use Rattle.judge.specs.Whole.{OfCards, OfCalls, afterCards, afterCalls, noJudgement, judgedOf}
 use Rattle.judge.proofs.Turns.{Clean}
 use Rattle.judge.proofs.CardTurns.{all-played}
 
@@ -58,7 +55,7 @@ each-found w place rule bytes (suc n) h at q c =
     (f .0, omega (arith, f .1, mul-suc w n))
 
 -- ---- the calls that were read end soon enough
-pub calls-next : (d : ℕ) (bytes : List ℕ) (at : ℕ) {h : List ℕ} {e : ℕ} → Judge.readCalls d bytes at ≡ found h e → e ≤ at + 3075
+pub calls-next : (d : ℕ) (bytes : List ℕ) (at : ℕ) {h : List ℕ} {e : ℕ} → Judge.readCalls d bytes at ≡ found h e → (at ≤ e) × (e ≤ at + 3075)
 unfolding Judge.readCalls Clean
 calls-next d bytes at q =
     let r = first-read 9 bytes at _ q in
@@ -67,57 +64,60 @@ calls-next d bytes at q =
     let t = first-test auctionUnfinished count (not (Law.isOver (s .0))) bytes (s .1) _ (s .3) in
     let f = each-found 6 Law.callPlace (callRefusal d) bytes count [] (at + 9) (s .2) tt in
     let z = found-same (t .1) in
-    omega (arith, f .1, z .1, number-lt bytes at 9)
+    (omega (arith, f .1, z .1), omega (arith, f .1, z .1, number-lt bytes at 9))
 
 -- ---- the cards that were read: none was refused, and they end soon enough
-pub record Cards (trump opening : ℕ) (deal g : List ℕ) (at e : ℕ) : Type 0 where
+pub record Allowed (trump opening : ℕ) (deal g : List ℕ) (at e : ℕ) : Type 0 where
   pub played : AllPlayed deal trump opening g
   pub next : e ≤ at + 384
 
 pub cards-found : (out : Bool) (trump opening : ℕ) (deal bytes : List ℕ) (at : ℕ) {g : List ℕ} {e : ℕ} → cardsBy out trump opening deal bytes at ≡ found g e
-    → Cards trump opening deal g at e
+    → Allowed trump opening deal g at e
 unfolding cardsBy Clean
 cards-found out trump opening deal bytes at {g} {e} q =
     let r = first-read 6 bytes at _ q in
     let count = numberAt bytes at 6 in
-    let t = first-test playCount count (ltb 52 count || (out && ltb 0 count)) bytes (at + 6) _ (r .1) in
+    let t = first-test tooManyCards count (ltb 52 count || (out && ltb 0 count)) bytes (at + 6) _ (r .1) in
     let f = each-found 6 cardsPlayed (cardRefusal trump opening deal) bytes count [] (at + 6) (t .1) tt in
     record { played = all-played deal trump opening g (f .0); next = omega (arith, f .1, number-lt bytes at 6) }
+
+-- a refusal of the cards is not 0
+fair-by : (out : Bool) (trump opening : ℕ) (deal bytes : List ℕ) (at : ℕ) → Fair (cardsBy out trump opening deal bytes at)
+unfolding cardsBy cardsPlayed
+fair-by out trump opening deal bytes at =
+    fair-read 6 bytes at _ (λ n ln.
+    fair-test tooManyCards n (ltb 52 n || (out && ltb 0 n)) bytes (at + 6) _ (λ t. omega arith)
+    (fair-each 6 cardsPlayed (cardRefusal trump opening deal) (λ g. refl) (λ g c. omega (arith, refusal-le trump opening deal g c)) n [] bytes (at + 6)
+    (omega arith)))
 
 -- ---- the cards in the code: bounds on the position, whatever the calls were
 module _ (out : Bool) (trump opening : ℕ) (deal bytes : List ℕ) (at : ℕ) (all : length deal ≡ 52) where
   abbrev cards : Reading (List ℕ)
   cards = cardsBy out trump opening deal bytes at
 
-  record Bounded (k : Carded) : Type 0 where
-    count : k .after .tricks .count ≤ 13
-    few : k .after .trick .cards ≤ 3
+  record Bounded (k : Cards) : Type 0 where
+    played : k .after .played ≤ 52
     next : k .next ≤ at + 384
 
-  bounded : (r : Reading (List ℕ)) → cards ≡ r → cardedOf deal trump opening r .ok ≡ true → Bounded (cardedOf deal trump opening r)
-  unfolding tricksOf trickOf tricksComplete
-  bounded (refused n place) q e = not-both false e refl
+  bounded : (r : Reading (List ℕ)) → cards ≡ r → cardsOf deal trump opening r .refusal ≡ 0 → Bounded (cardsOf deal trump opening r)
+  bounded (refused n place) q e = absurd (not-0 (subst Fair q (fair-by out trump opening deal bytes at)) e)
   bounded (found g next) q e =
       let f = cards-found out trump opening deal bytes at q in
-      let n = at-most-52 deal trump opening all g (f .played) in
-      record {
-        count = rw (tricks-law deal trump opening all g (f .played)) (omega arith);
-        few = rw (trick-law deal trump opening all g (f .played)) (omega (arith, fewer-than-four g));
-        next = f .next;
-      }
+      record { played = rw (stands deal trump opening all g (f .played) .played) (at-most-52 deal trump opening all g (f .played)); next = f .next }
 
-  pub card-bounds : (k : Carded) → k ≡ cardedOf deal trump opening cards → k .ok ≡ true → at < 16384
-      → (k .after .tricks .count ≤ 13) × (k .after .trick .cards ≤ 3) × (k .next < 32768)
+  pub card-bounds : (k : Cards) → k ≡ cardsOf deal trump opening cards → k .refusal ≡ 0 → at < 16384
+      → (k .after .played ≤ 52) × (k .next < 32768)
   card-bounds k ek e h =
-      let b = subst (λ (x : Carded). Bounded x) (sym ek) (bounded cards refl (rw ek at e)) in
-      (b .count, b .few, omega (arith, b .next))
+      let b = subst (λ (x : Cards). Bounded x) (sym ek) (bounded cards refl (rw ek at e)) in
+      (b .played, omega (arith, b .next))
 
 -- ---- from the calls on
-pub section-cards : (d : ℕ) (deal h bytes : List ℕ) (at : ℕ) → cardsBy (Law.passedOut h) (Law.trumpAfter h) (Law.openingAfter d h) deal bytes at ≡ Judge.readCards d deal h bytes at
+pub section-cards : (d : ℕ) (deal h bytes : List ℕ) (at : ℕ) → cardsBy (Law.passedOut h) (Law.trumpAfter h) (Law.openingAfter d h) deal bytes at
+    ≡ Judge.readCards d deal h bytes at
 unfolding cardsBy Judge.readCards
 section-cards d deal h bytes at = refl
 
-module _ (board table : ℕ) (a : Auction) (deal h : List ℕ) (told : CallsTold board a deal h) (bytes : List ℕ) (at : ℕ)
+module _ (board table : ℕ) (a : Auction) (deal h : List ℕ) (told : OfCalls board a deal h) (bytes : List ℕ) (at : ℕ)
     (out : Bool) (eo : out ≡ passedOutOf a) (k : Contract) (ek : k ≡ contractOf a) (opening : ℕ) (ep : opening ≡ clockwise (k .declarer) 1) where
   passed : out ≡ Law.passedOut h
   passed = eo ∙ ap passedOutOf (told .position) ∙ passed-out-is (dealer board) h
@@ -143,33 +143,35 @@ module _ (board table : ℕ) (a : Auction) (deal h : List ℕ) (told : CallsTold
   unfolding afterCalls
   whole = rw cards-law
 
-  module _ (c : Carded) (ec : c ≡ cardedOf deal (k .strain) opening (cardsBy out (k .strain) opening deal bytes at)) where
-    stopped : (r : Reading (List ℕ)) → cardedOf deal (k .strain) opening r .ok ≡ false → noJudgement (cardedOf deal (k .strain) opening r .fault) ≡ judgedOf (rest r)
+  module _ (c : Cards) (ec : c ≡ cardsOf deal (k .strain) opening (cardsBy out (k .strain) opening deal bytes at)) where
+    stopped : (r : Reading (List ℕ)) → (cardsOf deal (k .strain) opening r .refusal ≡ 0 → ⊥) → noJudgement (cardsOf deal (k .strain) opening r .refusal)
+        ≡ judgedOf (rest r)
     stopped (refused n place) e = refl
-    stopped (found g next) e = not-both true refl e
+    stopped (found g next) e = absurd (e refl)
 
-    pub cards-refused : c .ok ≡ false → noJudgement (c .fault) ≡ judgedOf (afterCalls board table deal h bytes at)
+    pub cards-refused : (c .refusal ≡ 0 → ⊥) → noJudgement (c .refusal) ≡ judgedOf (afterCalls board table deal h bytes at)
     cards-refused e = rw (whole, ec) (stopped (cardsBy out (k .strain) opening deal bytes at) (rw ec at e))
 
     module _ (r : Judged) where
       -- the answer, given any histories that these positions are of
-      abbrev Tells : Carded → Type 0
-      Tells x = (dealt calls cards : List ℕ) → CardsTold board out k dealt calls cards (x .after) → r ≡ judgedOf (afterCards board table dealt calls cards bytes (x .next))
+      abbrev Tells : Cards → Type 0
+      Tells x = (dealt calls cards : List ℕ) → OfCards board out k dealt calls cards (x .after) → r
+          ≡ judgedOf (afterCards board table dealt calls cards bytes (x .next))
 
-      goes-on : (q : Reading (List ℕ)) → cardsBy out (k .strain) opening deal bytes at ≡ q → cardedOf deal (k .strain) opening q .ok ≡ true
-          → Tells (cardedOf deal (k .strain) opening q)
+      goes-on : (q : Reading (List ℕ)) → cardsBy out (k .strain) opening deal bytes at ≡ q → cardsOf deal (k .strain) opening q .refusal ≡ 0
+          → Tells (cardsOf deal (k .strain) opening q)
           → r ≡ judgedOf (rest q)
-      goes-on (refused n place) e o f = not-both false o refl
+      goes-on (refused n place) e o f = absurd (not-0 (subst Fair e (fair-by out (k .strain) opening deal bytes at)) o)
       goes-on (found g next) e o f =
           f deal h g (record {
             passed = passed;
             contract = contracted;
-            good = told .good;
+            deal-of = told .deal-of;
             position = ap₂ (λ (t l : ℕ). positionOf deal t l g) trumped led;
             played = rw (sym trumped, sym led) (cards-found out (k .strain) opening deal bytes at e .played);
           })
 
-      pub cards-read : c .ok ≡ true
+      pub cards-read : c .refusal ≡ 0
           → Tells c
           → r ≡ judgedOf (afterCalls board table deal h bytes at)
-      cards-read e f = rw whole (goes-on (cardsBy out (k .strain) opening deal bytes at) refl (rw ec at e) (subst (λ (x : Carded). Tells x) ec f))
+      cards-read e f = rw whole (goes-on (cardsBy out (k .strain) opening deal bytes at) refl (rw ec at e) (subst (λ (x : Cards). Tells x) ec f))

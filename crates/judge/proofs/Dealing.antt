@@ -1,21 +1,22 @@
 -- The deal in the code is the Laws' section: two bits of a byte, the row of 52, and the seat without thirteen. Assumes nothing.
 use Prim.Native.Nat.{ℕ, zero, suc, _≤_, _<_, _+_, _-_, _*_, _/_, _%_, _^_}
-use native.Mathlib.Nat.{zero-add, add-zero, add-assoc, mul-zero, mul-suc}
-use native.Mathlib.Numerals.{add-one}
+use native.Mathlib.Nat.{zero-add, add-zero, mul-zero, mul-suc}
 use native.Mathlib.Omega.{arith}
-use mathlib.Core.Path.{_≡_, refl, sym, ap, ap₂, _∙_}
-use mathlib.Core.Bool.{Bool, true, false, not}
+use mathlib.Core.Path.{_≡_, refl, sym, ap, _∙_}
+use mathlib.Core.Bool.{true, false}
 use mathlib.Core.List.{List, [], _∷_, _++_}
 use borrow.Author.Tests.{eq-eqb, ne-eqb, leb-true, leb-false, ltb-true, ltb-false}
-use lib.Dec.{eqb, leb, ltb}
-use lib.ListN.{length, getD, take, replicate}
-use Rattle.laws.specs.Cards.{noSeat, shortSeat}
-use Rattle.laws.specs.Reading.{Reading, Reading.refused, Reading.found, bitAt, numberAt, read, refuse, readRow}
+use lib.Dec.{leb, ltb}
+use lib.ListN.{length, getD, length-append, List·getD-append}
+use lib.Seq.{getD-at}
+use Rattle.laws.specs.Cards.{seatWithoutThirteen}
+use Rattle.laws.specs.Reading.{Reading.refused, Reading.found, bitAt, numberAt, refuse, readRow}
 use Rattle.laws.specs.Judge.{readDeal}
 use Rattle.laws.proofs.Tests.{by-test}
 use Rattle.laws.proofs.Readings.{read-is, read-short}
-use Rattle.judge.specs.declared.reading.Dealt.{Dealt}
-use Rattle.judge.specs.Sections.{rowAt, noDeal, dealtOf}
+use Rattle.deal.specs.Hands.{wordsOf, notThirteenFrom}
+use Rattle.deal.proofs.Thirteen.{by-hands}
+use Rattle.judge.specs.Sections.{rowAt, foursOf, noDeal, dealOf}
 
 -- ---- a holder: two bits of its byte
 two-bits : (b m : ℕ) → m < 4 → b / 2 ^ (7 - 2 * m) % 2 * 2 + b / 2 ^ (6 - 2 * m) % 2 ≡ b / 2 ^ (6 - 2 * m) % 4
@@ -33,6 +34,21 @@ holder-is bytes i =
     let s : (16 + 2 * i + 1) / 8 ≡ 2 + i / 4 = omega arith in
     let t : 7 - (16 + 2 * i + 1) % 8 ≡ 6 - 2 * (i % 4) = omega arith in
     rw (q, r, s, t, zero-add) (sym (two-bits (getD bytes (2 + i / 4) 0) (i % 4) (omega arith)))
+
+pub fours-many : (bytes : List ℕ) (n : ℕ) → length (foursOf bytes n) ≡ n
+unfolding foursOf
+fours-many bytes zero = refl
+fours-many bytes (suc n) = length-append (foursOf bytes n) _ ∙ omega (arith, fours-many bytes n)
+
+-- the byte of a card
+pub four-at : (bytes : List ℕ) (n i : ℕ) → i < n → getD (foursOf bytes n) i 0 ≡ getD bytes (2 + i / 4) 0
+unfolding foursOf
+four-at bytes zero i h = absurd (omega arith)
+four-at bytes (suc n) i h =
+    let long = fours-many bytes n in
+    by-test (ltb i n)
+    (λ (q : ltb i n ≡ true). let l = ltb-true i n q in List·getD-append (foursOf bytes n) _ 0 i (omega arith) ∙ four-at bytes n i l)
+    (λ (q : ltb i n ≡ false). let e : i ≡ n = omega (arith, ltb-false i n q) in rw e (getD-at (foursOf bytes n) _ [] 0 n long))
 
 -- ---- the row, a field at a time
 pub row-last : (bytes : List ℕ) (w n at : ℕ) → rowAt bytes at w (suc n) ≡ rowAt bytes at w n ++ (numberAt bytes (at + w * n) w ∷ [])
@@ -72,15 +88,19 @@ module _ (bytes : List ℕ) where
       (λ (q : ltb (length bytes) 2 ≡ true). none-there (ltb-true (length bytes) 2 q))
       (λ (q : ltb (length bytes) 2 ≡ false). row-short bytes 2 52 16 (omega (arith, ltb-false (length bytes) 2 q)) (omega arith))
 
-  pub deal-short : length bytes < 15 → noDeal 2048 ≡ dealtOf (readDeal bytes 16)
+  pub deal-short : length bytes < 15 → noDeal 2 0 ≡ dealOf (readDeal bytes 16)
   unfolding readDeal
   deal-short h = rw (row-missing h)
 
-  module _ (h : 15 ≤ length bytes) (row : List ℕ) (er : row ≡ rowAt bytes 16 2 52) (seat : ℕ) (es : seat ≡ shortSeat row) where
-    pub deal-uneven : (seat ≡ 4 → ⊥) → noDeal (4096 + seat) ≡ dealtOf (readDeal bytes 16)
+  module _ (h : 15 ≤ length bytes) (row hands : List ℕ) (er : row ≡ rowAt bytes 16 2 52) (eh : hands ≡ wordsOf row) (seat : ℕ)
+      (eq : seat ≡ notThirteenFrom 0 hands) where
+    es : seat ≡ seatWithoutThirteen row
+    es = eq ∙ ap (notThirteenFrom 0) eh ∙ by-hands row
+
+    pub deal-uneven : (seat ≡ 4 → ⊥) → noDeal 4 seat ≡ dealOf (readDeal bytes 16)
     unfolding readDeal refuse
     deal-uneven n = rw (row-reads bytes 2 52 16 (omega arith), ← er, ← es, ne-eqb seat 4 n)
 
-    pub deal-read : seat ≡ 4 → record { ok = true; fault = 0; holders = row } ≡ dealtOf (readDeal bytes 16)
+    pub deal-read : seat ≡ 4 → record { refusal = 0; holders = row; hands = hands } ≡ dealOf (readDeal bytes 16)
     unfolding readDeal refuse
-    deal-read e = rw (row-reads bytes 2 52 16 (omega arith), ← er, ← es, eq-eqb seat 4 e)
+    deal-read e = rw (row-reads bytes 2 52 16 (omega arith), ← er, ← es, eq-eqb seat 4 e, ← eh)

@@ -1,41 +1,43 @@
 -- The judgement that the positions give is the Laws' on the record's parts. Assumes nothing.
-use Prim.Native.Nat.{ℕ, zero, suc, _≤_, _<_, _+_, _-_, _*_, _/_, _%_}
+use Prim.Native.Nat.{ℕ, _-_, _/_}
 use native.Mathlib.Omega.{arith}
-use mathlib.Core.Path.{_≡_, refl, sym, ap, ap₂, _∙_, fun-ext}
+use mathlib.Core.Path.{_≡_, refl, sym, ap, _∙_, fun-ext}
 use mathlib.Core.Bool.{Bool, true, false}
-use mathlib.Core.List.{List, [], _∷_, map, reverse, reverse-reverse}
+use mathlib.Core.List.{List, [], _∷_, reverse, reverse-reverse}
 use borrow.Author.Tests.{eqb-true, eqb-false, eq-eqb}
 use lib.Dec.{eqb}
-use lib.IntN.{ℤ}
-use lib.ListN.{length, getD}
+use lib.ListN.{getD, length-map}
 use Rattle.laws.specs.Choice.{if_then_else_}
-use Rattle.laws.specs.Cards.{sideOf, partnerOf}
+use Rattle.laws.specs.Cards.{sideOf}
 use Rattle.laws.specs.Law2.{dealer, vulnerable}
 use Rattle.laws.specs.Auction as Law
 use Rattle.laws.specs.Reading.{Reading, Reading.refused, Reading.found, onward, refuse, ending, overfull}
 use Rattle.laws.specs.Judge.{readClaim, readNoClaim, readMarkedClaim}
 use Rattle.laws.specs.Law44.{cardsPlayed, allPlayed, tricksComplete, tricksLeft, cardsInTrick, winners, tricksWon}
-use Rattle.laws.specs.Law61.{Revoke, revokes}
-use Rattle.laws.specs.Law64.{transferredTricks, tricksAfter}
+use Rattle.laws.specs.Law61.{revokes}
 use Rattle.laws.specs.Law68.{Claim, none, agreed, claimedTricks, atClaimPoint, claimable}
 use Rattle.laws.specs.Law77.{declarerScore, nsScore}
 use Rattle.laws.specs.Record.{Parts, Field, field, number}
-use Rattle.laws.specs.Judgement.{callsOf, cardsOf, contractOf, winnersOf, revokesOf, claimedOf, wonOf, transferredOf, afterOf, stakeOf, scoreOf, playedFields, answerFields, twosComplement, revokeBytes}
-use Rattle.laws.proofs.Tests.{by-test, not-both}
+use Rattle.laws.specs.Judgement.{cardsOf, contractOf, winnersOf, revokesOf, claimedOf, wonOf, transferredOf, afterOf, stakeOf, scoreOf, playedFields}
+use Rattle.laws.specs.Judgement.{answerFields, twosComplement, revokeByte, revokeBytes}
+use Rattle.laws.proofs.Numbered.{Fair, not-0, fair-claim}
+use Rattle.laws.proofs.Tests.{by-test}
 use Rattle.auction.specs.declared.Contract.{Contract}
 use Rattle.auction.specs.Asked.{asLaw}
 use Rattle.play.specs.declared.Play.{Play}
 use Rattle.play.specs.declared.Tricks.{Tricks}
 use Rattle.play.specs.declared.Revokes.{Revokes}
-use Rattle.play.specs.History.{positionOf, AllPlayed, trickOf, tricksOf, revokesOf as Play·revokesOf}
-use Rattle.play.proofs.Holders.{trick-law}
+use Rattle.play.specs.Told.{tricksIn, revokesIn}
+use Rattle.play.specs.History.{tricksOf, revokesOf as Play·revokesOf}
+use Rattle.play.proofs.Thirteen.{at-most-52}
+use Rattle.play.proofs.Stands.{stands}
 use Rattle.play.proofs.Complete.{tricks-law}
 use Rattle.play.proofs.Listed.{revokes-law}
-use Rattle.transfer.specs.Inputs.{revokesIn, claimedBy, transferredIn}
+use Rattle.transfer.specs.Inputs.{claimedBy, transferredIn}
 use Rattle.transfer.proofs.History.{revokes-back, transferred-law, plain-bytes}
-use Rattle.judge.specs.Settled.{headFields, playFields, wonIn, afterIn, stakeIn, settledFields}
-use Rattle.judge.specs.Whole.{Good, CardsTold, listedIn, afterCards, noJudgement, judgedOf, boardFields}
-use Rattle.judge.specs.declared.claim.Claimed.{Claimed}
+use Rattle.judge.specs.Settled.{headFields, wonIn, afterIn, stakeIn, settledFields}
+use Rattle.judge.specs.Whole.{OfCards, listedIn, afterCards, noJudgement, judgedOf, boardFields}
+use Rattle.judge.specs.declared.claim.Claim.{Claim as Read}
 use Rattle.judge.specs.declared.whole.Judged.{Judged}
 use Rattle.judge.specs.Sections.{claimOf, pointAt, noClaimBy, markedBy, claimBy}
 
@@ -75,7 +77,7 @@ own-claim : (declarer c l : ℕ) → claimedBy declarer c l (sideOf declarer) �
 unfolding claimedBy claimedTricks
 own-claim declarer c l = rw (eq-eqb (sideOf declarer) (sideOf declarer) refl)
 
-module _ (board table : ℕ) (out : Bool) (k : Contract) (deal h g : List ℕ) (p : Play) (t : CardsTold board out k deal h g p) (claim : Claim) where
+module _ (board table : ℕ) (out : Bool) (k : Contract) (deal h g : List ℕ) (p : Play) (t : OfCards board out k deal h g p) (claim : Claim) where
   abbrev q : Parts
   q = partsOf board table deal h g claim
 
@@ -97,54 +99,67 @@ module _ (board table : ℕ) (out : Bool) (k : Contract) (deal h g : List ℕ) (
   unfolding revokesOf
   revokes-is = rw (reverse-reverse h, reverse-reverse g)
 
-  tricks-is : p .tricks ≡ tricksOf trump opening g
-  tricks-is = ap (λ (x : Play). x .tricks) (t .position) ∙ tricks-law deal trump opening (t .good .places) g (t .played)
+  tricks-is : tricksIn p ≡ tricksOf trump opening g
+  tricks-is = ap tricksIn (t .position) ∙ tricks-law deal trump opening (t .deal-of .places) g (t .played)
 
-  listed-is : p .revokes ≡ Play·revokesOf deal trump opening g
-  listed-is = ap (λ (x : Play). x .revokes) (t .position) ∙ revokes-law deal trump opening (t .good .places) (t .good .thirteen) g (t .played)
+  listed-is : revokesIn p ≡ Play·revokesOf deal trump opening g
+  listed-is = ap revokesIn (t .position) ∙ revokes-law deal trump opening (t .deal-of .places) (t .deal-of .thirteen) g (t .played)
 
   declarer-is : k .declarer ≡ contractOf q .declarer
   declarer-is = ap (λ (x : Law.Contract). x .declarer) contract-is
 
-  pub list-is : p .revokes ≡ listedIn q
+  pub list-is : revokesIn p ≡ listedIn q
   unfolding listedIn revokeBytes Play·revokesOf
-  list-is = listed-is ∙ rw (revokes-is, plain-bytes deal trump opening (t .good .places) (t .good .thirteen) g (t .played))
+  list-is = listed-is ∙ rw (
+    revokes-is,
+    plain-bytes deal trump opening (t .deal-of .places) (t .deal-of .thirteen) g (t .played),
+    length-map
+        (revokes trump opening deal g) revokeByte,
+  )
 
   -- ---- with the two numbers of the claim
   module _ (c l : ℕ) (sides : claimedBy (k .declarer) c l ≡ claimedOf q) (own : c ≡ claimedOf q (sideOf (k .declarer))) where
-    won-is : wonIn (p .tricks) (k .declarer) c ≡ wonOf q
+    won-is : wonIn (tricksIn p) (k .declarer) c ≡ wonOf q
     unfolding wonIn wonOf tricksOf
     won-is = rw (tricks-is, side-won (k .declarer) (winners trump opening g), own, sym declarer-is, winners-is)
 
-    moved-is : transferredIn (p .revokes) (p .tricks) (k .declarer) c l ≡ transferredOf q
+    moved-is : transferredIn (revokesIn p) (tricksIn p) (k .declarer) c l ≡ transferredOf q
     unfolding transferredOf
     moved-is =
-        ap₂ (λ (x : Revokes) (y : Tricks). transferredIn x y (k .declarer) c l) (ap (λ (x : Play). x .revokes) (t .position)) (ap (λ (x : Play). x .tricks) (t .position))
-        ∙ transferred-law deal trump opening (t .good .places) (t .good .thirteen) g (t .played) (k .declarer) c l
-        ∙ rw (sides, sym winners-is, sym revokes-is, declarer-is)
+        rw (listed-is, tricks-is) (transferred-law deal trump opening (t .deal-of .places) (t .deal-of .thirteen) g (t .played) (k .declarer) c l
+        ∙ rw (sides, sym winners-is, sym revokes-is, declarer-is))
 
-    after-is : afterIn k (p .tricks) (p .revokes) c l ≡ afterOf q
+    after-is : afterIn k (tricksIn p) (revokesIn p) c l ≡ afterOf q
     unfolding afterIn afterOf
     after-is =
-        rw
-        (won-is, moved-is, t .position, revokes-back deal trump opening (t .good .places) (t .good .thirteen) g (t .played), sym revokes-is, sym declarer-is)
+        rw (
+          won-is,
+          moved-is,
+          listed-is,
+          revokes-back deal trump opening (t .deal-of .places) (t .deal-of .thirteen) g
+              (t .played),
+          sym revokes-is,
+          sym declarer-is,
+        )
 
     stake-is : stakeIn board k ≡ stakeOf q
     unfolding stakeOf
     stake-is =
-        ap (λ (x : Law.Contract). record { level = x .level; strain = x .strain; doubling = x .doubling; vulnerable = vulnerable board (x .declarer) }) contract-is
+        ap (λ (x : Law.Contract). record { level = x .level; strain = x .strain; doubling = x .doubling; vulnerable = vulnerable board (x .declarer) })
+        contract-is
 
-    score-is : Law.passedOut h ≡ false → nsScore (k .declarer) (declarerScore (stakeIn board k) (afterIn k (p .tricks) (p .revokes) c l)) ≡ scoreOf q
+    score-is : Law.passedOut h ≡ false → nsScore (k .declarer) (declarerScore (stakeIn board k) (afterIn k (tricksIn p) (revokesIn p) c l)) ≡ scoreOf q
     unfolding scoreOf
     score-is e = rw (reverse-reverse h, e, stake-is, after-is, declarer-is)
 
     -- with a contract, the answer's fields are the Laws'
-    pub fields-is : Law.passedOut h ≡ false → settledFields board table k (p .tricks) (p .revokes) c l ≡ answerFields q
+    pub fields-is : Law.passedOut h ≡ false → settledFields board table k (tricksIn p) (revokesIn p) c l ≡ answerFields q
     unfolding settledFields answerFields playedFields listedIn
     fields-is e =
         rw (reverse-reverse h, e)
         (ap (λ (fs : List Field). field 7 board ∷ field 9 table ∷ fs)
-        (eight (ap (λ (x : Law.Contract). x .level) contract-is) (ap (λ (x : Law.Contract). x .strain) contract-is) (ap (λ (x : Law.Contract). x .doubling) contract-is) declarer-is
+        (eight (ap (λ (x : Law.Contract). x .level) contract-is) (ap (λ (x : Law.Contract). x .strain) contract-is)
+        (ap (λ (x : Law.Contract). x .doubling) contract-is) declarer-is
         won-is after-is (ap (λ (x : Revokes). x .count) list-is) (ap twosComplement (score-is e))))
 
   -- passed out, the answer has board and table alone
@@ -153,24 +168,17 @@ module _ (board table : ℕ) (out : Bool) (k : Contract) (deal h g : List ℕ) (
   passed-is e = rw (reverse-reverse h, e)
 
 -- ---- the claim and the padding, behind the cards
-played-is : (g : List ℕ) → tricksComplete g * 4 + cardsInTrick g ≡ cardsPlayed g
-unfolding tricksComplete cardsInTrick
-played-is g = omega arith
-
 -- the Laws' section, by the number of cards played
 section-is : (h g bytes : List ℕ) (at : ℕ) → claimBy (Law.passedOut h) (cardsPlayed g) bytes at ≡ readClaim h g bytes at
 unfolding claimBy noClaimBy markedBy pointAt readClaim readNoClaim readMarkedClaim atClaimPoint allPlayed claimable tricksLeft tricksComplete cardsInTrick
 section-is h g bytes at = refl
 
-module _ (board table : ℕ) (out : Bool) (k : Contract) (deal h g : List ℕ) (p : Play) (t : CardsTold board out k deal h g p) (bytes : List ℕ) (at : ℕ) where
-  pub count-is : p .tricks .count * 4 + p .trick .cards ≡ cardsPlayed g
-  unfolding tricksOf trickOf
-  count-is =
-      rw
-      (tricks-is board table out k deal h g p t none, ap (λ (x : Play). x .trick) (t .position) ∙ trick-law deal (Law.trumpAfter h) (Law.openingAfter (dealer board) h) (t .good .places) g (t .played))
-      (played-is g)
+module _ (board table : ℕ) (out : Bool) (k : Contract) (deal h g : List ℕ) (p : Play) (t : OfCards board out k deal h g p) (bytes : List ℕ) (at : ℕ) where
+  pub count-is : p .played ≡ cardsPlayed g
+  count-is = ap (λ (x : Play). x .played) (t .position)
+      ∙ stands deal (Law.trumpAfter h) (Law.openingAfter (dealer board) h) (t .deal-of .places) g (t .played) .played
 
-  module _ (played : ℕ) (ep : played ≡ p .tricks .count * 4 + p .trick .cards) (claimed : Claimed) (ec : claimed ≡ claimOf (claimBy out played bytes at)) where
+  module _ (played : ℕ) (ep : played ≡ p .played) (claimed : Read) (ec : claimed ≡ claimOf (claimBy out played bytes at)) where
     claim-is : claimed ≡ claimOf (readClaim h g bytes at)
     claim-is = ec ∙ rw (t .passed, ep, count-is) (ap claimOf (section-is h g bytes at))
 
@@ -181,22 +189,27 @@ module _ (board table : ℕ) (out : Bool) (k : Contract) (deal h g : List ℕ) (
     unfolding afterCards
     whole = refl
 
-    stopped : (r : Reading Claim) → claimOf r .ok ≡ false → noJudgement (claimOf r .fault) ≡ judgedOf (rest r)
+    stopped : (r : Reading Claim) → (claimOf r .refusal ≡ 0 → ⊥) → noJudgement (claimOf r .refusal) ≡ judgedOf (rest r)
     stopped (refused n place) e = refl
-    stopped (found none next) e = not-both true refl e
-    stopped (found (agreed tricks) next) e = not-both true refl e
+    stopped (found none next) e = absurd (e refl)
+    stopped (found (agreed tricks) next) e = absurd (e refl)
 
-    pub claim-refused : claimed .ok ≡ false → noJudgement (claimed .fault) ≡ judgedOf (afterCards board table deal h g bytes at)
+    pub claim-refused : (claimed .refusal ≡ 0 → ⊥) → noJudgement (claimed .refusal) ≡ judgedOf (afterCards board table deal h g bytes at)
     claim-refused e = rw (claim-is, whole) (stopped (readClaim h g bytes at) (rw claim-is at e))
 
-    unpadded : (r : Reading Claim) → claimOf r .ok ≡ true → overfull bytes (claimOf r .next) ≡ true → noJudgement 16384 ≡ judgedOf (rest r)
-    unfolding ending refuse
-    unpadded (refused n place) e o = not-both false e refl
-    unpadded (found none next) e o = rw o
-    unpadded (found (agreed tricks) next) e o = rw o
+    -- a refusal of the claim is not 0
+    fair : Fair (readClaim h g bytes at)
+    unfolding cardsPlayed
+    fair = fair-claim h g bytes at (at-most-52 deal (Law.trumpAfter h) (Law.openingAfter (dealer board) h) (t .deal-of .places) g (t .played))
 
-    pub not-padded : claimed .ok ≡ true → overfull bytes (claimed .next) ≡ true → noJudgement 16384 ≡ judgedOf (afterCards board table deal h g bytes at)
-    not-padded e o = rw whole (unpadded (readClaim h g bytes at) (rw claim-is at e) (rw claim-is at o))
+    unpadded : (r : Reading Claim) → Fair r → claimOf r .refusal ≡ 0 → overfull bytes (claimOf r .next) ≡ true → noJudgement 16384 ≡ judgedOf (rest r)
+    unfolding ending refuse
+    unpadded (refused n place) f e o = absurd (not-0 f e)
+    unpadded (found none next) f e o = rw o
+    unpadded (found (agreed tricks) next) f e o = rw o
+
+    pub not-padded : claimed .refusal ≡ 0 → overfull bytes (claimed .next) ≡ true → noJudgement 16384 ≡ judgedOf (afterCards board table deal h g bytes at)
+    not-padded e o = rw whole (unpadded (readClaim h g bytes at) fair (rw claim-is at e) (rw claim-is at o))
 
     -- ---- accepted: the bits and the list are the Laws' on the parts
     module _ (left : ℕ) (el : left ≡ 13 - played / 4) where
@@ -208,36 +221,39 @@ module _ (board table : ℕ) (out : Bool) (k : Contract) (deal h g : List ℕ) (
       unfolding claimedOf
       sides-none =
           claim-none (k .declarer) (tricksLeft (reverse (reverse g)))
-          ∙ ap {B = ℕ → ℕ} (λ (d side : ℕ). claimedTricks none (tricksLeft (reverse (reverse g))) (eqb side (sideOf d))) (declarer-is board table out k deal h g p t none)
+          ∙ ap {B = ℕ → ℕ} (λ (d side : ℕ). claimedTricks none (tricksLeft (reverse (reverse g))) (eqb side (sideOf d)))
+          (declarer-is board table out k deal h g p t none)
 
       sides-some : (tricks : ℕ) → claimedBy (k .declarer) tricks left ≡ claimedOf (partsOf board table deal h g (agreed tricks))
       unfolding claimedOf
       sides-some tricks =
           rw (left-is (agreed tricks)) (claim-some (k .declarer) (tricksLeft (reverse (reverse g))) tricks
-          ∙ ap {B = ℕ → ℕ} (λ (d side : ℕ). claimedTricks (agreed tricks) (tricksLeft (reverse (reverse g))) (eqb side (sideOf d))) (declarer-is board table out k deal h g p t (agreed tricks)))
+          ∙ ap {B = ℕ → ℕ} (λ (d side : ℕ). claimedTricks (agreed tricks) (tricksLeft (reverse (reverse g))) (eqb side (sideOf d)))
+          (declarer-is board table out k deal h g p t (agreed tricks)))
 
-      pack-is : (claim : Claim) (c l : ℕ) → claimedBy (k .declarer) c l ≡ claimedOf (partsOf board table deal h g claim)
-          → (if out then headFields board table else settledFields board table k (p .tricks) (p .revokes) c l) ≡ answerFields (partsOf board table deal h g claim)
-      pack-is claim c l sides =
+      bits-is : (claim : Claim) (c l : ℕ) → claimedBy (k .declarer) c l ≡ claimedOf (partsOf board table deal h g claim)
+          → (if out then headFields board table else settledFields board table k (tricksIn p) (revokesIn p) c l)
+          ≡ answerFields (partsOf board table deal h g claim)
+      bits-is claim c l sides =
           by-test out
           (λ (q : out ≡ true). rw q (passed-is board table out k deal h g p t claim (sym (t .passed) ∙ q)))
           (λ (q : out ≡ false).
-          rw q (fields-is board table out k deal h g p t claim c l sides (sym (own-claim (k .declarer) c l) ∙ ap (λ (f : ℕ → ℕ). f (sideOf (k .declarer))) sides) (sym (t .passed) ∙ q)))
+          rw q (fields-is board table out k deal h g p t claim c l sides
+          (sym (own-claim (k .declarer) c l) ∙ ap (λ (f : ℕ → ℕ). f (sideOf (k .declarer))) sides) (sym (t .passed) ∙ q)))
 
-      abbrev given : ℕ → Judged
-      given pack = record { fault = 0; pack = pack; revokes = p .revokes }
+      abbrev given : ℕ → Revokes → Judged
+      given bits rs = record { refusal = 0; bits = bits; revokes = rs }
 
-      agreed-on : (r : Reading Claim) → claimOf r .ok ≡ true → overfull bytes (claimOf r .next) ≡ false
-          → given (number (boardFields board table out k (p .tricks) (p .revokes) (claimOf r) left)) ≡ judgedOf (rest r)
+      agreed-on : (r : Reading Claim) → Fair r → claimOf r .refusal ≡ 0 → overfull bytes (claimOf r .next) ≡ false
+          → given (number (boardFields board table out k (tricksIn p) (revokesIn p) (claimOf r) left)) (revokesIn p) ≡ judgedOf (rest r)
       unfolding ending refuse boardFields
-      agreed-on (refused n place) e o = not-both false e refl
-      agreed-on (found none next) e o =
-          rw (o, pack-is none 0 0 sides-none) (ap (λ (x : Revokes). record { fault = 0; pack = number (answerFields (partsOf board table deal h g none)); revokes = x }) (list-is board table out k deal h g p t none))
-      agreed-on (found (agreed tricks) next) e o =
-          rw (o, pack-is (agreed tricks) tricks left (sides-some tricks))
-          (ap (λ (x : Revokes). record { fault = 0; pack = number (answerFields (partsOf board table deal h g (agreed tricks))); revokes = x }) (list-is board table out k deal h g p t (agreed tricks)))
+      agreed-on (refused n place) f e o = absurd (not-0 f e)
+      agreed-on (found none next) f e o = rw (o, bits-is none 0 0 sides-none) (ap (given _) (list-is board table out k deal h g p t none))
+      agreed-on (found (agreed tricks) next) f e o =
+          rw (o, bits-is (agreed tricks) tricks left (sides-some tricks)) (ap (given _) (list-is board table out k deal h g p t (agreed tricks)))
 
-      pub claim-accepted : (pack : ℕ) → claimed .ok ≡ true → overfull bytes (claimed .next) ≡ false
-          → pack ≡ number (boardFields board table out k (p .tricks) (p .revokes) claimed left) → given pack ≡ judgedOf (afterCards board table deal h g bytes at)
-      claim-accepted pack e o ek =
-          rw (whole, ek, claim-is) (agreed-on (readClaim h g bytes at) (rw claim-is at e) (rw claim-is at o))
+      pub claim-accepted : (ts : Tricks) (rs : Revokes) → ts ≡ tricksIn p → rs ≡ revokesIn p → (bits : ℕ) → claimed .refusal ≡ 0
+          → overfull bytes (claimed .next) ≡ false → bits ≡ number (boardFields board table out k ts rs claimed left)
+          → given bits rs ≡ judgedOf (afterCards board table deal h g bytes at)
+      claim-accepted ts rs et er bits e o ek =
+          rw (whole, ek, et, er, claim-is) (agreed-on (readClaim h g bytes at) fair (rw claim-is at e) (rw claim-is at o))

@@ -10,3 +10,4 @@ pub mod Judging
 pub mod Beginning
 pub mod Composing
 pub mod Answering
+pub mod SixBits

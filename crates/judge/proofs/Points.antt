@@ -2,13 +2,15 @@
 use Prim.Native.Nat.{ℕ, zero, suc, _≤_, _<_, _+_, _-_, _*_}
 use native.Mathlib.Nat.{mul-le-mul}
 use native.Mathlib.Omega.{arith}
-use mathlib.Core.Path.{_≡_, ap, _∙_}
+use mathlib.Core.Path.{_≡_, ap}
 use mathlib.Core.Bool.{Bool, true, false}
 use borrow.Author.Tests.{le-leb, lt-leb}
 use lib.Dec.{eqb, ltb, leb}
-use lib.IntN.{ℤ, pos, negℤ}
+use lib.IntN.{pos, negℤ}
 use Rattle.laws.specs.Choice.{if_then_else_}
-use Rattle.laws.specs.Law77.{Stake, byVulnerability, byDoubling, trickValue, firstTrickValue, trickPoints, overtrickValue, doubledUndertrick, undertrickValue, undertricks, isGame, partScorePoints, gamePoints, slamPoints, doublingPoints, isMade, overtrickPoints, undertrickPoints, declarerScore}
+use Rattle.laws.specs.Law77.{Stake, byVulnerability, byDoubling, trickValue, firstTrickValue, trickPoints, overtrickValue, doubledUndertrick, undertrickValue}
+use Rattle.laws.specs.Law77.{undertricks, isGame, partScorePoints, gamePoints, slamPoints, doublingPoints, isMade, overtrickPoints, undertrickPoints}
+use Rattle.laws.specs.Law77.{declarerScore}
 use Rattle.judge.specs.Scoring.{madePoints}
 
 -- either of two numbers is at most what both are
@@ -46,7 +48,8 @@ points-le s h =
 pub overtrick-le : (s : Stake) → overtrickValue s ≤ 400
 unfolding overtrickValue
 overtrick-le s =
-    doubling-le s _ _ _ 400 (omega (arith, value-le (s .strain))) (vulnerability-le s 100 200 400 (omega arith) (omega arith)) (vulnerability-le s 200 400 400 (omega arith) (omega arith))
+    doubling-le s _ _ _ 400 (omega (arith, value-le (s .strain))) (vulnerability-le s 100 200 400 (omega arith) (omega arith))
+    (vulnerability-le s 200 400 400 (omega arith) (omega arith))
 
 pub doubled-le : (s : Stake) (k : ℕ) → doubledUndertrick s k ≤ 300
 unfolding doubledUndertrick

@@ -4,8 +4,8 @@ use mathlib.Core.Path.{_≡_, refl, sym, ap, _∙_}
 use mathlib.Core.Bool.{Bool, true, false, not, _&&_, _||_}
 use mathlib.Core.List.{List, []}
 use native.Mathlib.Omega.{arith}
-use borrow.Author.Tests.{eq-eqb, ne-eqb, lt-ltb, le-ltb, le-leb, lt-leb, ltb-true, eqb-true, eqb-false}
-use lib.Dec.{eqb, ltb, leb}
+use borrow.Author.Tests.{eq-eqb, ne-eqb, lt-ltb, le-ltb, le-leb, lt-leb, ltb-true}
+use lib.Dec.{eqb, ltb}
 use lib.ListN.{length}
 use Rattle.laws.specs.Choice.{if_then_else_}
 use Rattle.laws.specs.Refusals.{auctionUnfinished}
@@ -15,40 +15,41 @@ use Rattle.laws.specs.Law44.{cardsPlayed}
 use Rattle.laws.specs.CardRefusal.{cardRefusal}
 use Rattle.laws.specs.Reading.{Reading, Reading.refused, Reading.found, onward, numberAt, read, refuse, readEach, overfull}
 use Rattle.laws.specs.Judge as Law
-use Rattle.laws.proofs.Tests.{by-test, not-both}
+use Rattle.laws.proofs.CallRefusals.{refusal-le}
+use Rattle.laws.proofs.Numbered.{Fair, not-0, fair-each}
+use Rattle.laws.proofs.Tests.{by-test}
 use Rattle.auction.specs.Asked.{overOf}
 use Rattle.auction.proofs.History.{over-is}
-use Rattle.judge.specs.declared.reading.Heading.{Heading}
-use Rattle.judge.specs.declared.reading.Called.{Called}
-use Rattle.judge.specs.Sections.{noHeading, headingOf, noCalls, calledOf, noCards, cardedOf, cardsBy}
+use Rattle.judge.specs.declared.reading.Calls.{Calls}
+use Rattle.judge.specs.Sections.{noHeading, headingOf, noCalls, callsOf, noCards, cardsOf, cardsBy}
 
 -- ---- board and table
 module _ (bytes : List ℕ) where
-  pub heading-short : read 7 bytes 0 ≡ refused 2 0 → noHeading 2048 ≡ headingOf (Law.readHeading bytes 0)
+  pub heading-short : read 7 bytes 0 ≡ refused 2 0 → noHeading 2 0 ≡ headingOf (Law.readHeading bytes 0)
   unfolding Law.readHeading
   heading-short e = rw e
 
   module _ (board : ℕ) (eb : read 7 bytes 0 ≡ found board 7) where
-    pub table-short : read 9 bytes 7 ≡ refused 2 0 → noHeading 2048 ≡ headingOf (Law.readHeading bytes 0)
+    pub table-short : read 9 bytes 7 ≡ refused 2 0 → noHeading 2 0 ≡ headingOf (Law.readHeading bytes 0)
     unfolding Law.readHeading
     table-short e = rw (eb, e)
 
     module _ (table : ℕ) (et : read 9 bytes 7 ≡ found table 16) where
-      pub no-board : board ≡ 0 → noHeading 3072 ≡ headingOf (Law.readHeading bytes 0)
+      pub no-board : board ≡ 0 → noHeading 3 0 ≡ headingOf (Law.readHeading bytes 0)
       unfolding Law.readHeading refuse
       no-board z = rw (eb, et, eq-eqb board 0 z)
 
-      pub no-table : (board ≡ 0 → ⊥) → table ≡ 0 → noHeading 3073 ≡ headingOf (Law.readHeading bytes 0)
+      pub no-table : (board ≡ 0 → ⊥) → table ≡ 0 → noHeading 3 1 ≡ headingOf (Law.readHeading bytes 0)
       unfolding Law.readHeading refuse
       no-table n z = rw (eb, et, ne-eqb board 0 n, eq-eqb table 0 z)
 
-      pub heading-read : (board ≡ 0 → ⊥) → (table ≡ 0 → ⊥) → record { ok = true; fault = 0; board = board; table = table } ≡ headingOf (Law.readHeading bytes 0)
+      pub heading-read : (board ≡ 0 → ⊥) → (table ≡ 0 → ⊥) → record { refusal = 0; board = board; table = table } ≡ headingOf (Law.readHeading bytes 0)
       unfolding Law.readHeading refuse
       heading-read n m = rw (eb, et, ne-eqb board 0 n, ne-eqb table 0 m)
 
 -- ---- calls: the count, each call, and the end of the auction
 module _ (d : ℕ) (bytes : List ℕ) (at : ℕ) where
-  pub calls-short : read 9 bytes at ≡ refused 2 0 → noCalls 2048 ≡ calledOf d (Law.readCalls d bytes at)
+  pub calls-short : read 9 bytes at ≡ refused 2 0 → noCalls 2 0 ≡ callsOf d (Law.readCalls d bytes at)
   unfolding Law.readCalls
   calls-short e = rw e
 
@@ -64,29 +65,34 @@ module _ (d : ℕ) (bytes : List ℕ) (at : ℕ) where
     unfolding Law.readCalls
     whole = rw ec
 
-    stopped : (r : Reading (List ℕ)) → calledOf d r .ok ≡ false → calledOf d r ≡ calledOf d (ended r)
+    stopped : (r : Reading (List ℕ)) → (callsOf d r .refusal ≡ 0 → ⊥) → callsOf d r ≡ callsOf d (ended r)
     stopped (refused n place) e = refl
-    stopped (found h next) e = not-both true refl e
+    stopped (found h next) e = absurd (e refl)
 
-    open-end : (r : Reading (List ℕ)) → calledOf d r .ok ≡ true → overOf (calledOf d r .after) ≡ false → noCalls (9216 + count) ≡ calledOf d (ended r)
+    open-end : (r : Reading (List ℕ)) → Fair r → callsOf d r .refusal ≡ 0 → overOf (callsOf d r .after) ≡ false → noCalls 9 count ≡ callsOf d (ended r)
     unfolding refuse
-    open-end (refused n place) e o = not-both false e refl
-    open-end (found h next) e o = rw (sym (over-is d h) ∙ o)
+    open-end (refused n place) f e o = absurd (not-0 f e)
+    open-end (found h next) f e o = rw (sym (over-is d h) ∙ o)
 
-    at-end : (r : Reading (List ℕ)) → calledOf d r .ok ≡ true → overOf (calledOf d r .after) ≡ true → calledOf d r ≡ calledOf d (ended r)
+    at-end : (r : Reading (List ℕ)) → Fair r → callsOf d r .refusal ≡ 0 → overOf (callsOf d r .after) ≡ true → callsOf d r ≡ callsOf d (ended r)
     unfolding refuse
-    at-end (refused n place) e o = not-both false e refl
-    at-end (found h next) e o = rw (sym (over-is d h) ∙ o)
+    at-end (refused n place) f e o = absurd (not-0 f e)
+    at-end (found h next) f e o = rw (sym (over-is d h) ∙ o)
 
-    module _ (k : Called) (ek : k ≡ calledOf d each) where
-      pub calls-stopped : k .ok ≡ false → k ≡ calledOf d (Law.readCalls d bytes at)
-      calls-stopped e = ek ∙ stopped each (rw ek at e) ∙ ap (calledOf d) (sym whole)
+    module _ (k : Calls) (ek : k ≡ callsOf d each) where
+      pub calls-stopped : (k .refusal ≡ 0 → ⊥) → k ≡ callsOf d (Law.readCalls d bytes at)
+      calls-stopped e = ek ∙ stopped each (rw ek at e) ∙ ap (callsOf d) (sym whole)
 
-      pub calls-open : k .ok ≡ true → overOf (k .after) ≡ false → noCalls (9216 + count) ≡ calledOf d (Law.readCalls d bytes at)
-      calls-open e o = open-end each (rw ek at e) (rw ek at o) ∙ ap (calledOf d) (sym whole)
+      module _ (few : count < 512) (e : k .refusal ≡ 0) where
+        fair : Fair each
+        unfolding callPlace
+        fair = fair-each 6 callPlace (callRefusal d) (λ h. refl) (λ h c. omega (arith, refusal-le d h c)) count [] bytes (at + 9) (omega arith)
 
-      pub calls-over : k .ok ≡ true → overOf (k .after) ≡ true → k ≡ calledOf d (Law.readCalls d bytes at)
-      calls-over e o = ek ∙ at-end each (rw ek at e) (rw ek at o) ∙ ap (calledOf d) (sym whole)
+        pub calls-open : overOf (k .after) ≡ false → noCalls 9 count ≡ callsOf d (Law.readCalls d bytes at)
+        calls-open o = open-end each fair (rw ek at e) (rw ek at o) ∙ ap (callsOf d) (sym whole)
+
+        pub calls-over : overOf (k .after) ≡ true → k ≡ callsOf d (Law.readCalls d bytes at)
+        calls-over o = ek ∙ at-end each fair (rw ek at e) (rw ek at o) ∙ ap (callsOf d) (sym whole)
 
 -- more cards than may be played, as one test
 over-most : (out : Bool) (count : ℕ) → (ltb 52 count || (out && ltb 0 count)) ≡ ltb (if out then 0 else 52) count
@@ -99,17 +105,18 @@ over-most false count =
 
 -- ---- cards: the count, then each card
 module _ (out : Bool) (trump opening : ℕ) (deal bytes : List ℕ) (at : ℕ) where
-  pub cards-short : read 6 bytes at ≡ refused 2 0 → noCards 2048 ≡ cardedOf deal trump opening (cardsBy out trump opening deal bytes at)
+  pub cards-short : read 6 bytes at ≡ refused 2 0 → noCards 2 0 ≡ cardsOf deal trump opening (cardsBy out trump opening deal bytes at)
   unfolding cardsBy
   cards-short e = rw e
 
   module _ (count : ℕ) (ec : read 6 bytes at ≡ found count (at + 6)) where
-    pub too-many-cards : (if out then 0 else 52) < count → noCards (10240 + count) ≡ cardedOf deal trump opening (cardsBy out trump opening deal bytes at)
+    pub too-many-cards : (if out then 0 else 52) < count → noCards 10 count ≡ cardsOf deal trump opening (cardsBy out trump opening deal bytes at)
     unfolding cardsBy refuse
     too-many-cards h = rw (ec, over-most out count ∙ lt-ltb (if out then 0 else 52) count h)
 
-    pub cards-read : count ≤ (if out then 0 else 52) → cardedOf deal trump opening (readEach 6 cardsPlayed (cardRefusal trump opening deal) count [] bytes (at + 6))
-        ≡ cardedOf deal trump opening (cardsBy out trump opening deal bytes at)
+    pub cards-read : count ≤ (if out then 0 else 52)
+        → cardsOf deal trump opening (readEach 6 cardsPlayed (cardRefusal trump opening deal) count [] bytes (at + 6))
+        ≡ cardsOf deal trump opening (cardsBy out trump opening deal bytes at)
     unfolding cardsBy refuse
     cards-read h = rw (ec, over-most out count ∙ le-ltb (if out then 0 else 52) count h)
 

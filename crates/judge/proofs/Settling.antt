@@ -1,17 +1,16 @@
 -- The answer's 56 bits as one number, and a score as 16 bits. Assumes nothing.
-use Prim.Native.Nat.{ℕ, zero, suc, _≤_, _<_, _+_, _-_, _*_, _%_}
+use Prim.Native.Nat.{ℕ, _≤_, _<_, _+_, _-_, _*_, _%_}
 use native.Mathlib.Omega.{arith}
-use mathlib.Core.Path.{_≡_, refl, sym, ap, _∙_}
+use mathlib.Core.Path.{_≡_, refl, sym}
 use mathlib.Core.Bool.{Bool, true, false}
-use mathlib.Core.List.{List, [], _∷_}
+use mathlib.Core.List.{List, _∷_}
 use borrow.Author.Tests.{le-leb}
 use lib.Dec.{T}
 use lib.IntN.{ℤ, pos, negsuc, negℤ, natAbs}
 use lib.Signed.{leZ, nonNeg}
-use Rattle.laws.specs.Choice.{if_then_else_}
 use Rattle.laws.specs.Law64.{sideRevoked, tricksAfter}
 use Rattle.laws.specs.Law61.{Revoke}
-use Rattle.laws.specs.Record.{Field, field, bits, number}
+use Rattle.laws.specs.Record.{field, bits, number}
 use Rattle.laws.specs.Judgement.{twosComplement}
 use Rattle.laws.proofs.Tests.{by-test, not-both}
 use Rattle.auction.specs.declared.Contract.{Contract}
@@ -32,14 +31,16 @@ unfolding number bits
 head-number board table = omega arith
 
 pub play-number : (k : Contract) (won after revokes word : ℕ)
-    → k .level * 137438953472 + k .strain * 17179869184 + k .doubling * 4294967296 + k .declarer * 1073741824 + (won * 67108864 + after * 4194304) + revokes * 65536 + word
+    → k .level * 137438953472 + k .strain * 17179869184 + k .doubling * 4294967296 + k .declarer * 1073741824 +
+    (won * 67108864 + after * 4194304) + revokes * 65536 + word
     ≡ number (playFields k won after revokes word)
 unfolding number bits
 play-number k won after revokes word = omega arith
 
 -- board and table before any 40 bits
 pub join-number : (board table : ℕ) (k : Contract) (won after revokes word : ℕ)
-    → number (headFields board table) + number (playFields k won after revokes word) ≡ number (field 7 board ∷ field 9 table ∷ playFields k won after revokes word)
+    → number (headFields board table) + number (playFields k won after revokes word)
+    ≡ number (field 7 board ∷ field 9 table ∷ playFields k won after revokes word)
 unfolding number bits
 join-number board table k won after revokes word = omega arith
 

@@ -1,14 +1,12 @@
 -- A loop that reads codes, each refused by a rule on the history before it: one kit for calls and cards.
 -- What the reading comes to from a turn on is what it comes to in all. Assumes nothing.
-use Prim.Native.Nat.{ℕ, zero, suc, _≤_, _<_, _+_, _-_, _*_}
+use Prim.Native.Nat.{ℕ, suc, _≤_, _<_, _+_, _-_, _*_}
 use native.Mathlib.Nat.{mul-zero, add-zero, mul-suc}
 use native.Mathlib.Numerals.{add-one}
 use native.Mathlib.Omega.{arith}
 use mathlib.Core.Path.{_≡_, refl, sym, ap, _∙_}
-use mathlib.Core.Bool.{Bool, true, false, not}
 use mathlib.Core.List.{List, [], _∷_}
 use borrow.Author.Tests.{eq-eqb, ne-eqb}
-use lib.Dec.{eqb}
 use lib.ListN.{length}
 use Rattle.laws.specs.Reading.{Reading, Reading.refused, Reading.found, read, refuse, readEach}
 
@@ -18,7 +16,8 @@ Clean rule [] = Unit {0}
 Clean rule (c ∷ h) = (rule h c ≡ 0) × Clean rule h
 
 -- after i of n codes, at the bit `here`: a is the state of their history
-pub record Reached (w : ℕ) (place : List ℕ → ℕ) (rule : List ℕ → ℕ → ℕ) (bytes : List ℕ) (at n : ℕ) {A : Type 0} (state : List ℕ → A) (a : A) (here i : ℕ) : Type 0 where
+pub record Reached (w : ℕ) (place : List ℕ → ℕ) (rule : List ℕ → ℕ → ℕ) (bytes : List ℕ) (at n : ℕ) {A : Type 0} (state : List ℕ → A) (a : A)
+    (here i : ℕ) : Type 0 where
   pub history : List ℕ
   pub position : a ≡ state history
   pub many : length history ≡ i
@@ -27,7 +26,8 @@ pub record Reached (w : ℕ) (place : List ℕ → ℕ) (rule : List ℕ → ℕ
   pub along : here ≡ at + w * i
   pub same : readEach w place rule (n - i) history bytes here ≡ readEach w place rule n [] bytes at
 
-module _ (w : ℕ) (place : List ℕ → ℕ) (rule : List ℕ → ℕ → ℕ) (placed : (h : List ℕ) → place h ≡ length h) (bytes : List ℕ) (at n : ℕ) {A : Type 0} (state : List ℕ → A) where
+module _ (w : ℕ) (place : List ℕ → ℕ) (rule : List ℕ → ℕ → ℕ) (placed : (h : List ℕ) → place h ≡ length h) (bytes : List ℕ) (at n : ℕ) {A : Type 0}
+    (state : List ℕ → A) where
   abbrev whole : Reading (List ℕ)
   whole = readEach w place rule n [] bytes at
 

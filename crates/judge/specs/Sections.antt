@@ -1,44 +1,42 @@
--- What the structs of the code say of a section's reading: a refusal as number × 1024 + place, or what was read, with positions for histories.
+-- What the structs of the code say of a section's reading: a refusal by its number, or 0 and what was read, with positions for histories.
 -- Assumes nothing.
 use Prim.Native.Nat.{ℕ, zero, suc, _+_, _-_, _*_, _/_, _%_}
 use mathlib.Core.Bool.{Bool, true, false, not, _&&_, _||_}
-use mathlib.Core.List.{List, [], _∷_}
+use mathlib.Core.List.{List, [], _∷_, _++_}
 use lib.Dec.{eqb, ltb, leb}
-use lib.ListN.{replicate}
+use lib.ListN.{getD, replicate}
 use Rattle.laws.specs.Choice.{if_then_else_}
-use Rattle.laws.specs.Refusals.{playCount, playUnfinished, noClaimPoint, claimTooMany}
+use Rattle.laws.specs.Refusals.{refusalNumber, tooManyCards, playUnfinished, noClaimPoint, claimTooMany}
 use Rattle.laws.specs.Law44.{cardsPlayed}
 use Rattle.laws.specs.CardRefusal.{cardRefusal}
 use Rattle.laws.specs.Law68.{Claim, none, agreed}
 use Rattle.laws.specs.Reading.{Reading, Reading.refused, Reading.found, Reader, onward, _>>=_, _>>_, give, numberAt, read, refuse, readEach}
 use Rattle.laws.specs.Judge as Law
 use Rattle.auction.specs.Position.{positionOf}
+use Rattle.deal.specs.Hands.{wordsOf}
+use Rattle.play.specs.Position.{startOf}
 use Rattle.play.specs.History as Play
 use Rattle.judge.specs.declared.reading.Heading.{Heading}
-use Rattle.judge.specs.declared.reading.Called.{Called}
-use Rattle.judge.specs.declared.reading.Dealt.{Dealt}
-use Rattle.judge.specs.declared.cards.Carded.{Carded}
-use Rattle.judge.specs.declared.claim.Claimed.{Claimed}
-
--- a refusal's number and place as one number
-abbrev pub faultOf : ℕ → ℕ → ℕ
-faultOf n place = n * 1024 + place
+use Rattle.judge.specs.declared.reading.Calls.{Calls}
+use Rattle.judge.specs.declared.reading.Deal.{Deal}
+use Rattle.judge.specs.declared.cards.Cards.{Cards}
+use Rattle.judge.specs.declared.claim.Claim.{Claim as Read}
 
 -- ---- board and table
-abbrev pub noHeading : ℕ → Heading
-noHeading fault = record { ok = false; fault = fault; board = 0; table = 0 }
+abbrev pub noHeading : ℕ → ℕ → Heading
+noHeading n place = record { refusal = refusalNumber n place; board = 0; table = 0 }
 
 abbrev pub headingOf : Reading Law.Heading → Heading
-headingOf (refused n place) = noHeading (faultOf n place)
-headingOf (found top at) = record { ok = true; fault = 0; board = top .board; table = top .table }
+headingOf (refused n place) = noHeading n place
+headingOf (found top at) = record { refusal = 0; board = top .board; table = top .table }
 
 -- ---- calls
-abbrev pub noCalls : ℕ → Called
-noCalls fault = record { ok = false; fault = fault; next = 0; after = positionOf 0 [] }
+abbrev pub noCalls : ℕ → ℕ → Calls
+noCalls n place = record { refusal = refusalNumber n place; next = 0; after = positionOf 0 [] }
 
-abbrev pub calledOf : ℕ → Reading (List ℕ) → Called
-calledOf dealer (refused n place) = noCalls (faultOf n place)
-calledOf dealer (found h at) = record { ok = true; fault = 0; next = at; after = positionOf dealer h }
+abbrev pub callsOf : ℕ → Reading (List ℕ) → Calls
+callsOf dealer (refused n place) = noCalls n place
+callsOf dealer (found h at) = record { refusal = 0; next = at; after = positionOf dealer h }
 
 -- ---- deal
 -- n fields of w bits from a bit on
@@ -46,36 +44,41 @@ unfoldable pub rowAt : List ℕ → ℕ → ℕ → ℕ → List ℕ
 rowAt bytes at w zero = []
 rowAt bytes at w (suc n) = numberAt bytes at w ∷ rowAt bytes (at + w) w n
 
-abbrev pub noDeal : ℕ → Dealt
-noDeal fault = record { ok = false; fault = fault; holders = replicate 52 0 }
+-- for each of n cards, the byte that has its holder: four to a byte, from the third on
+unfoldable pub foursOf : List ℕ → ℕ → List ℕ
+foursOf bytes zero = []
+foursOf bytes (suc n) = foursOf bytes n ++ (getD bytes (2 + n / 4) 0 ∷ [])
 
-abbrev pub dealtOf : Reading (List ℕ) → Dealt
-dealtOf (refused n place) = noDeal (faultOf n place)
-dealtOf (found deal at) = record { ok = true; fault = 0; holders = deal }
+abbrev pub noDeal : ℕ → ℕ → Deal
+noDeal n place = record { refusal = refusalNumber n place; holders = replicate 52 0; hands = replicate 4 0 }
+
+abbrev pub dealOf : Reading (List ℕ) → Deal
+dealOf (refused n place) = noDeal n place
+dealOf (found deal at) = record { refusal = 0; holders = deal; hands = wordsOf deal }
 
 -- ---- cards
-abbrev pub noCards : ℕ → Carded
-noCards fault = record { ok = false; fault = fault; next = 0; after = Play.positionOf (replicate 52 0) 0 0 [] }
+abbrev pub noCards : ℕ → ℕ → Cards
+noCards n place = record { refusal = refusalNumber n place; next = 0; after = startOf (replicate 52 0) (replicate 4 0) 0 0 }
 
-abbrev pub cardedOf : List ℕ → ℕ → ℕ → Reading (List ℕ) → Carded
-cardedOf deal trump opening (refused n place) = noCards (faultOf n place)
-cardedOf deal trump opening (found g at) = record { ok = true; fault = 0; next = at; after = Play.positionOf deal trump opening g }
+abbrev pub cardsOf : List ℕ → ℕ → ℕ → Reading (List ℕ) → Cards
+cardsOf deal trump opening (refused n place) = noCards n place
+cardsOf deal trump opening (found g at) = record { refusal = 0; next = at; after = Play.positionOf deal trump opening g }
 
 -- the Laws' section by what it takes of the calls: whether they passed the board out, the trump and the opening leader
 unfoldable pub cardsBy : Bool → ℕ → ℕ → List ℕ → Reader (List ℕ)
 cardsBy out trump opening deal = do
   count ← read 6
-  refuse playCount count (ltb 52 count || (out && ltb 0 count))
+  refuse tooManyCards count (ltb 52 count || (out && ltb 0 count))
   readEach 6 cardsPlayed (cardRefusal trump opening deal) count []
 
 -- ---- claim
-abbrev pub noClaim : ℕ → Claimed
-noClaim fault = record { ok = false; fault = fault; next = 0; marked = false; tricks = 0 }
+abbrev pub noClaim : ℕ → ℕ → Read
+noClaim n place = record { refusal = refusalNumber n place; next = 0; marked = false; tricks = 0 }
 
-abbrev pub claimOf : Reading Claim → Claimed
-claimOf (refused n place) = noClaim (faultOf n place)
-claimOf (found none at) = record { ok = true; fault = 0; next = at; marked = false; tricks = 0 }
-claimOf (found (agreed tricks) at) = record { ok = true; fault = 0; next = at; marked = true; tricks = tricks }
+abbrev pub claimOf : Reading Claim → Read
+claimOf (refused n place) = noClaim n place
+claimOf (found none at) = record { refusal = 0; next = at; marked = false; tricks = 0 }
+claimOf (found (agreed tricks) at) = record { refusal = 0; next = at; marked = true; tricks = tricks }
 
 -- the Laws' section, here and below, by whether the board was passed out and the number of cards played
 -- so many cards are the end of a trick, the first to the twelfth

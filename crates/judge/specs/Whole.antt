@@ -7,6 +7,7 @@ use mathlib.Core.List.{List, [], _∷_, map, reverse}
 use lib.ListN.{length, replicate}
 use Rattle.laws.specs.Choice.{if_then_else_}
 use Rattle.laws.specs.Padded.{padded}
+use Rattle.laws.specs.Refusals.{refusalNumber}
 use Rattle.laws.specs.Cards.{cardsDealt}
 use Rattle.laws.specs.Law2.{dealer}
 use Rattle.laws.specs.Auction as Law
@@ -22,9 +23,8 @@ use Rattle.play.specs.declared.Play.{Play}
 use Rattle.play.specs.declared.Tricks.{Tricks}
 use Rattle.play.specs.declared.Revokes.{Revokes}
 use Rattle.play.specs.History.{positionOf, AllPlayed}
-use Rattle.judge.specs.declared.claim.Claimed.{Claimed}
+use Rattle.judge.specs.declared.claim.Claim.{Claim}
 use Rattle.judge.specs.declared.whole.Judged.{Judged}
-use Rattle.judge.specs.Sections.{faultOf}
 use Rattle.judge.specs.Settled.{headFields, settledFields}
 
 -- ---- what follows the cards, the calls and the deal
@@ -46,37 +46,37 @@ afterDeal board table deal = do
 
 -- ---- the code's answer
 abbrev pub noJudgement : ℕ → Judged
-noJudgement fault = record { fault = fault; pack = 0; revokes = record { count = 0; list = replicate 36 0 } }
+noJudgement refusal = record { refusal = refusal; bits = 0; revokes = record { count = 0; list = replicate 36 0 } }
 
 -- the revokes of accepted parts, a byte each, in 36 places
 unfoldable pub listedIn : Parts → Revokes
 listedIn p = record { count = length (revokesOf p); list = padded 0 36 (revokeBytes p) }
 
 abbrev pub judgedOf : Reading Parts → Judged
-judgedOf (refused n place) = noJudgement (faultOf n place)
-judgedOf (found p at) = record { fault = 0; pack = number (answerFields p); revokes = listedIn p }
+judgedOf (refused n place) = noJudgement (refusalNumber n place)
+judgedOf (found p at) = record { refusal = 0; bits = number (answerFields p); revokes = listedIn p }
 
 -- the answer's fields, passed out or with a contract, with a claim or without one
-unfoldable pub boardFields : ℕ → ℕ → Bool → Contract → Tricks → Revokes → Claimed → ℕ → List Field
+unfoldable pub boardFields : ℕ → ℕ → Bool → Contract → Tricks → Revokes → Claim → ℕ → List Field
 boardFields board table out k ts rs claimed left =
     if out then headFields board table
     else settledFields board table k ts rs (if claimed .marked then claimed .tricks else 0) (if claimed .marked then left else 0)
 
 -- ---- what the positions stand for
 -- thirteen cards each
-pub record Good (deal : List ℕ) : Type 0 where
+pub record ThirteenEach (deal : List ℕ) : Type 0 where
   pub places : length deal ≡ 52
   pub thirteen : (seat : ℕ) → seat < 4 → cardsDealt seat deal ≡ 13
 
 -- the contract and the play are those of the calls h and the cards g
-pub record CardsTold (board : ℕ) (out : Bool) (k : Contract) (deal h g : List ℕ) (p : Play) : Type 0 where
+pub record OfCards (board : ℕ) (out : Bool) (k : Contract) (deal h g : List ℕ) (p : Play) : Type 0 where
   pub passed : out ≡ Law.passedOut h
   pub contract : asLaw k ≡ Law.contract (dealer board) h
-  pub good : Good deal
+  pub deal-of : ThirteenEach deal
   pub position : p ≡ positionOf deal (Law.trumpAfter h) (Law.openingAfter (dealer board) h) g
   pub played : AllPlayed deal (Law.trumpAfter h) (Law.openingAfter (dealer board) h) g
 
 -- the auction is that of the calls h
-pub record CallsTold (board : ℕ) (a : Auction) (deal h : List ℕ) : Type 0 where
-  pub good : Good deal
+pub record OfCalls (board : ℕ) (a : Auction) (deal h : List ℕ) : Type 0 where
+  pub deal-of : ThirteenEach deal
   pub position : a ≡ Calls.positionOf (dealer board) h

@@ -1,96 +1,74 @@
 // The cards, read in order and judged each on those before it, as the Laws' section of that name is.
+use crate::codes::code_ending;
+use crate::codes::whole_codes;
 use crate::reading::narrow;
 use field::Field;
+use laws::RECORD_ENDS;
+use laws::TOO_MANY_CARDS;
+use laws::refusal_number;
 use play::Play;
 ghost use mathlib.Core.Path.{_≡_};
 ghost use mathlib.Core.List.{[]};
-ghost use Prim.Native.Nat.{_<_};
+ghost use Prim.Native.Nat.{_<_, _≤_};
 ghost use Rattle.laws.specs.Choice.{if_then_else_};
 ghost use Rattle.laws.specs.Law44.{cardsPlayed};
 ghost use Rattle.laws.specs.CardRefusal.{cardRefusal};
 ghost use Rattle.laws.specs.Reading.{readEach};
-ghost use Rattle.judge.specs.Sections.{noCards, cardedOf, cardsBy};
+ghost use Rattle.deal.specs.Hands.{wordsOf};
+ghost use Rattle.judge.specs.Sections.{noCards, cardsOf, cardsBy};
 
-// The position after the cards and the bit behind them, or why they are refused.
-pub struct Carded {
-    pub ok: bool,
-    pub fault: u32,
+// The position after the cards and the bit behind them; or the number of their refusal, 0 where there is none.
+pub struct Cards {
+    pub refusal: u32,
     pub next: usize,
     pub after: Play,
 }
 
-fn no_cards(fault: u32) -> Carded
-    ensures { λ r. ⌜ r ≡ noCards fault ⌝ }
+fn no_cards(refusal: u8, place: u16) -> Cards
+    ensures { λ r. ⌜ r ≡ noCards refusal place ⌝ }
 {
-    let after = Play::new([0u8; 52], 0, 0);
-    Carded {
-        ok: false,
-        fault,
+    let after = Play::new([0u8; 52], [0u64; 4], 0, 0);
+    Cards {
+        refusal: refusal_number(refusal, place),
         next: 0,
         after,
     }
 }
 
-// So many cards from a bit on, each judged on those before it. The position is kept in its four parts, each of which steps for itself; the hands, by which a
-// revoke is told, stand beside the holders.
+// So many cards from a bit on, each judged on those before it; `hands` are those of the deal.
 fn read_each_card(
     bytes: &[u8],
     deal: [u8; 52],
+    hands: [u64; 4],
     trump: u8,
     opening: u8,
     at: usize,
     count: u8,
-) -> Carded
-    requires { ⌜ (at < 65536) × (count < 64) ⌝ }
-    ensures { λ r. ⌜ r ≡ cardedOf deal trump opening (readEach 6 cardsPlayed (cardRefusal trump opening deal) count [] (now (bytes .entry)) at) ⌝ }
+) -> Cards
+    requires { ⌜ (8 ≤ at) × (at < 65536) × (count < 64) × (hands ≡ wordsOf deal) ⌝ }
+    ensures { λ r. ⌜ r ≡ cardsOf deal trump opening (readEach 6 cardsPlayed (cardRefusal trump opening deal) count [] (now (bytes .entry)) at) ⌝ }
 {
-    let start = Play::new(deal, trump, opening);
-    let mut holders = start.holders;
-    let mut hands = deal::hands(holders);
-    let mut trick = start.trick;
-    let mut tricks = start.tricks;
-    let mut revokes = start.revokes;
+    let whole = whole_codes(bytes, at, count as u16);
+    let mut p = Play::new(deal, hands, trump, opening);
     let mut here = at;
-    let mut i: u8 = 0;
-    while i < count {
-        let Field::Value(code) = field::read(bytes, here, 6) else {
-            return no_cards(2048);
-        };
-        let c = narrow(code);
-        if 52 <= c {
-            return no_cards(11264 + i as u32);
+    let mut i: u64 = 0;
+    while i < whole {
+        let c = code_ending(bytes, here + 5);
+        let f = p.refusal(c);
+        if f != 0 {
+            return no_cards(f, i as u16);
         }
-        let place = c as usize;
-        let seat = trick.turn();
-        if holders[place] != seat {
-            return no_cards(12288 + i as u32);
-        }
-        let own = seat as usize;
-        let hand = hands[own];
-        if play::is_revoke(hand, trick, c) {
-            revokes = revokes.with_revoke(play::next_byte(tricks, trick));
-        }
-        hands[own] = deal::without(hand, c);
-        holders = play::with_played(holders, c, seat);
-        let next = trick.with_card(c);
-        if 3 <= trick.cards {
-            tricks = tricks.with_trick(next.leader);
-        }
-        trick = next;
+        p = p.play(c);
         here += 6;
         i += 1;
     }
-    let after = Play {
-        holders,
-        trick,
-        tricks,
-        revokes,
-    };
-    Carded {
-        ok: true,
-        fault: 0,
+    if whole < count as u64 {
+        return no_cards(RECORD_ENDS, 0);
+    }
+    Cards {
+        refusal: 0,
         next: here,
-        after,
+        after: p,
     }
 }
 
@@ -105,20 +83,21 @@ fn most_cards(out: bool) -> u8
 pub(crate) fn read_cards(
     bytes: &[u8],
     deal: [u8; 52],
+    hands: [u64; 4],
     out: bool,
     trump: u8,
     opening: u8,
     at: usize,
-) -> Carded
-    requires { ⌜ at < 32768 ⌝ }
-    ensures { λ r. ⌜ r ≡ cardedOf deal trump opening (cardsBy out trump opening deal (now (bytes .entry)) at) ⌝ }
+) -> Cards
+    requires { ⌜ (8 ≤ at) × (at < 32768) × (hands ≡ wordsOf deal) ⌝ }
+    ensures { λ r. ⌜ r ≡ cardsOf deal trump opening (cardsBy out trump opening deal (now (bytes .entry)) at) ⌝ }
 {
     let Field::Value(count) = field::read(bytes, at, 6) else {
-        return no_cards(2048);
+        return no_cards(RECORD_ENDS, 0);
     };
     let n = narrow(count);
     if most_cards(out) < n {
-        return no_cards(10240 + n as u32);
+        return no_cards(TOO_MANY_CARDS, n as u16);
     }
-    read_each_card(bytes, deal, trump, opening, at + 6, n)
+    read_each_card(bytes, deal, hands, trump, opening, at + 6, n)
 }

@@ -1,6 +1,11 @@
 // The claim and the padding, read in order as the Laws' sections of these names are.
 use crate::reading::narrow;
 use field::Field;
+use laws::CLAIM_TOO_MANY;
+use laws::NO_CLAIM_POINT;
+use laws::PLAY_UNFINISHED;
+use laws::RECORD_ENDS;
+use laws::refusal_number;
 ghost use mathlib.Core.Path.{_≡_};
 ghost use mathlib.Core.Bool.{not};
 ghost use mathlib.Core.List.{[]};
@@ -8,21 +13,19 @@ ghost use Prim.Native.Nat.{_<_};
 ghost use Rattle.laws.specs.Reading.{overfull};
 ghost use Rattle.judge.specs.Sections.{noClaim, claimOf, mayClaim, noClaimBy, markedBy, claimBy};
 
-// The claim and the bit behind it, or why it is refused.
-pub struct Claimed {
-    pub ok: bool,
-    pub fault: u32,
+// The claim and the bit behind it; or the number of its refusal, 0 where there is none.
+pub struct Claim {
+    pub refusal: u32,
     pub next: usize,
     pub marked: bool,
     pub tricks: u8,
 }
 
-fn no_claim(fault: u32) -> Claimed
-    ensures { λ r. ⌜ r ≡ noClaim fault ⌝ }
+fn no_claim(refusal: u8, place: u16) -> Claim
+    ensures { λ r. ⌜ r ≡ noClaim refusal place ⌝ }
 {
-    Claimed {
-        ok: false,
-        fault,
+    Claim {
+        refusal: refusal_number(refusal, place),
         next: 0,
         marked: false,
         tricks: 0,
@@ -30,17 +33,16 @@ fn no_claim(fault: u32) -> Claimed
 }
 
 // Where no claim is marked.
-fn read_no_claim(out: bool, played: u8, at: usize) -> Claimed
+fn read_no_claim(out: bool, played: u8, at: usize) -> Claim
     ensures { λ r. ⌜ r ≡ claimOf (noClaimBy out played [] at) ⌝ }
 {
     if !out {
         if played != 52 {
-            return no_claim(13312 + played as u32);
+            return no_claim(PLAY_UNFINISHED, played as u16);
         }
     }
-    Claimed {
-        ok: true,
-        fault: 0,
+    Claim {
+        refusal: 0,
         next: at,
         marked: false,
         tricks: 0,
@@ -64,24 +66,23 @@ fn may_claim(out: bool, played: u8) -> bool
 }
 
 // The tricks of a marked claim.
-fn read_marked_claim(bytes: &[u8], out: bool, played: u8, at: usize) -> Claimed
+fn read_marked_claim(bytes: &[u8], out: bool, played: u8, at: usize) -> Claim
     requires { ⌜ at < 65536 ⌝ }
     ensures { λ r. ⌜ r ≡ claimOf (markedBy out played (now (bytes .entry)) at) ⌝ }
 {
     if !may_claim(out, played) {
-        return no_claim(14336 + played as u32);
+        return no_claim(NO_CLAIM_POINT, played as u16);
     }
     let Field::Value(tricks) = field::read(bytes, at, 4) else {
-        return no_claim(2048);
+        return no_claim(RECORD_ENDS, 0);
     };
     let left = 13 - played / 4;
     let t = narrow(tricks);
     if left < t {
-        return no_claim(15360 + t as u32);
+        return no_claim(CLAIM_TOO_MANY, tricks);
     }
-    Claimed {
-        ok: true,
-        fault: 0,
+    Claim {
+        refusal: 0,
         next: at + 4,
         marked: true,
         tricks: t,
@@ -89,12 +90,12 @@ fn read_marked_claim(bytes: &[u8], out: bool, played: u8, at: usize) -> Claimed
 }
 
 // The claim's mark, and the claim.
-pub(crate) fn read_claim(bytes: &[u8], out: bool, played: u8, at: usize) -> Claimed
+pub(crate) fn read_claim(bytes: &[u8], out: bool, played: u8, at: usize) -> Claim
     requires { ⌜ at < 32768 ⌝ }
     ensures { λ r. ⌜ r ≡ claimOf (claimBy out played (now (bytes .entry)) at) ⌝ }
 {
     let Field::Value(mark) = field::read(bytes, at, 1) else {
-        return no_claim(2048);
+        return no_claim(RECORD_ENDS, 0);
     };
     if mark == 0 {
         return read_no_claim(out, played, at + 1);

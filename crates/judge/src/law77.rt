@@ -57,8 +57,8 @@ fn first_trick_value(strain: u8) -> u32
 fn trick_points(s: Stake) -> u32
     ensures { λ r. ⌜ r ≡ Law77.trickPoints (stakeOf s) ⌝ }
 {
-    let bid = first_trick_value(s.strain) + less(s.level, 1) * trick_value(s.strain);
-    bid * by_doubling(s, 1, 2, 4)
+    let odd_tricks = first_trick_value(s.strain) + less(s.level, 1) * trick_value(s.strain);
+    odd_tricks * by_doubling(s, 1, 2, 4)
 }
 
 fn overtrick_value(s: Stake) -> u32

@@ -1,12 +1,15 @@
 // The judge of table records: the record read in order, scored by Law 77, the answer written.
 mod cards;
 mod claim;
+mod codes;
 mod law77;
 mod reading;
 mod settle;
 mod whole;
 
 use crate::whole::judge;
+use laws::SHORT_BUFFER;
+use laws::refusal_number;
 ghost use mathlib.Core.Path.{_≡_};
 ghost use mathlib.Core.List.{_++_};
 ghost use Prim.Native.Nat.{_<_, _≤_};
@@ -53,25 +56,27 @@ fn put_list(list: &mut [u8], revokes: [u8; 36], count: usize)
 #[no_mangle]
 pub extern "C" fn judge_record(bytes: &[u8], answer: &mut [u8], list: &mut [u8]) -> u32
     ensures number { λ r. ⌜ r ≡ numberOf (judgeOf (now (bytes .entry)) (length (now (answer .entry))) (length (now (list .entry)))) ⌝ }
-    ensures answered { λ r. ⌜ now (answer .exit) ≡ answerLeft (judgeOf (now (bytes .entry)) (length (now (answer .entry))) (length (now (list .entry)))) (now (answer .entry)) ⌝ }
-    ensures listed { λ r. ⌜ now (list .exit) ≡ listLeft (judgeOf (now (bytes .entry)) (length (now (answer .entry))) (length (now (list .entry)))) (now (list .entry)) ⌝ }
+    ensures answered { λ r. ⌜ now (answer .exit)
+        ≡ answerLeft (judgeOf (now (bytes .entry)) (length (now (answer .entry))) (length (now (list .entry)))) (now (answer .entry)) ⌝ }
+    ensures listed { λ r. ⌜ now (list .exit)
+        ≡ listLeft (judgeOf (now (bytes .entry)) (length (now (answer .entry))) (length (now (list .entry)))) (now (list .entry)) ⌝ }
 {
     if answer.len() < 7 {
-        return 1024;
+        return refusal_number(SHORT_BUFFER, 0);
     }
     if list.len() < 36 {
-        return 1025;
+        return refusal_number(SHORT_BUFFER, 1);
     }
     let judged = judge(bytes);
-    let fault = judged.fault;
-    if fault != 0 {
-        return fault;
+    let refusal = judged.refusal;
+    if refusal != 0 {
+        return refusal;
     }
-    let pack = judged.pack;
+    let bits = judged.bits;
     let revokes = judged.revokes;
     let listed = revokes.list;
     let count = revokes.count as usize;
-    put7(answer, pack);
+    put7(answer, bits);
     put_list(list, listed, count);
-    fault
+    refusal
 }

@@ -39,14 +39,14 @@ fn score_word(score: i64) -> u64
 }
 
 // Board and table at the head of the answer.
-fn head_pack(board: u8, table: u16) -> u64
+fn heading_bits(board: u8, table: u16) -> u64
     ensures { λ r. ⌜ (r ≡ number (headFields board table)) × (r < 2 ^ 60) ⌝ }
 {
     board as u64 * 562949953421312 + table as u64 * 1099511627776
 }
 
 // What follows them where there is a contract.
-fn play_pack(k: Contract, won: u16, after: u32, revokes: u8, word: u64) -> u64
+fn contract_bits(k: Contract, won: u16, after: u32, revokes: u8, word: u64) -> u64
     requires { ⌜ (after < 131072) × (word < 10000000000000) ⌝ }
     ensures { λ r. ⌜ (r ≡ number (playFields k won after revokes word)) × (r < 2 ^ 60) ⌝ }
 {
@@ -76,7 +76,7 @@ fn won(ts: Tricks, declarer: u8, claim: u8) -> u16
 pub(crate) fn settle_passed_out(board: u8, table: u16) -> u64
     ensures { λ r. ⌜ r ≡ number (headFields board table) ⌝ }
 {
-    let head = head_pack(board, table);
+    let head = heading_bits(board, table);
     head
 }
 
@@ -104,5 +104,5 @@ pub(crate) fn settle(
     };
     let score = ns_score(declarer_score(stake, after), declarer);
     let word = score_word(score);
-    head_pack(board, table) + play_pack(k, taken, after, rs.count, word)
+    heading_bits(board, table) + contract_bits(k, taken, after, rs.count, word)
 }

@@ -1,6 +1,6 @@
 // The whole record judged: its sections in order, then the answer's bits and the revokes.
 use crate::cards::read_cards;
-use crate::claim::Claimed;
+use crate::claim::Claim;
 use crate::claim::is_padding;
 use crate::claim::read_claim;
 use crate::reading::read_calls;
@@ -10,6 +10,8 @@ use crate::settle::settle;
 use crate::settle::settle_passed_out;
 use auction::Auction;
 use auction::Contract;
+use laws::NOT_PADDING;
+use laws::refusal_number;
 use play::Play;
 use play::Revokes;
 use play::Tricks;
@@ -20,25 +22,26 @@ ghost use lib.ListN.{length};
 ghost use Rattle.laws.specs.Cards.{clockwise};
 ghost use Rattle.laws.specs.Record.{number};
 ghost use Rattle.laws.specs.Judge.{readRecord};
-ghost use Rattle.judge.specs.Whole.{noJudgement, judgedOf, boardFields, CardsTold, CallsTold, afterCards, afterCalls, afterDeal};
+ghost use Rattle.deal.specs.Hands.{wordsOf};
+ghost use Rattle.judge.specs.Whole.{noJudgement, judgedOf, boardFields, OfCards, OfCalls, afterCards, afterCalls, afterDeal};
 
-// The answer's bits and the revokes; or why the record is refused, which is 0 where it is accepted.
+// The answer's bits and the revokes; or the number of the refusal, 0 where the record is accepted.
 pub struct Judged {
-    pub fault: u32,
-    pub pack: u64,
+    pub refusal: u32,
+    pub bits: u64,
     pub revokes: Revokes,
 }
 
-fn refused(fault: u32) -> Judged
-    ensures { λ r. ⌜ r ≡ noJudgement fault ⌝ }
+fn refused(refusal: u32) -> Judged
+    ensures { λ r. ⌜ r ≡ noJudgement refusal ⌝ }
 {
     let revokes = Revokes {
         count: 0,
         list: [0u8; 36],
     };
     Judged {
-        fault,
-        pack: 0,
+        refusal,
+        bits: 0,
         revokes,
     }
 }
@@ -62,7 +65,7 @@ fn settle_board(
     k: Contract,
     ts: Tricks,
     rs: Revokes,
-    claimed: Claimed,
+    claimed: Claim,
     left: u8,
 ) -> u64
     ensures { λ r. ⌜ r ≡ number (boardFields board table out k ts rs claimed left) ⌝ }
@@ -76,6 +79,13 @@ fn settle_board(
     settle(board, table, k, ts, rs, 0, 0)
 }
 
+fn count(played: u64) -> u8
+    requires { ⌜ played ≤ 52 ⌝ }
+    ensures { λ r. ⌜ r ≡ played ⌝ }
+{
+    played as u8
+}
+
 // The claim and the padding, and then the judgement.
 fn judge_claim(
     bytes: &[u8],
@@ -86,24 +96,23 @@ fn judge_claim(
     p: Play,
     at: usize,
 ) -> Judged
-    requires { ⌜ (p .tricks .count ≤ 13) × (p .trick .cards ≤ 3) × (at < 32768) ⌝ }
-    ensures { λ r. ⌜ ((deal h g : List ℕ) → CardsTold board out k deal h g p → r ≡ judgedOf (afterCards board table deal h g (now (bytes .entry)) at)) ⌝ }
+    requires { ⌜ (p .played ≤ 52) × (at < 32768) ⌝ }
+    ensures { λ r. ⌜ ((deal h g : List ℕ) → OfCards board out k deal h g p → r ≡ judgedOf (afterCards board table deal h g (now (bytes .entry)) at)) ⌝ }
 {
-    let ts = p.tricks;
-    let t = p.trick;
-    let rs = p.revokes;
-    let played = ts.count * 4 + t.cards;
+    let played = count(p.played);
     let claimed = read_claim(bytes, out, played, at);
-    if !claimed.ok {
-        return refused(claimed.fault);
+    if claimed.refusal != 0 {
+        return refused(claimed.refusal);
     }
     if !is_padding(bytes, claimed.next) {
-        return refused(16384);
+        return refused(refusal_number(NOT_PADDING, 0));
     }
-    let pack = settle_board(board, table, out, k, ts, rs, claimed, tricks_left(played));
+    let ts = p.tricks();
+    let rs = p.revokes();
+    let bits = settle_board(board, table, out, k, ts, rs, claimed, tricks_left(played));
     Judged {
-        fault: 0,
-        pack,
+        refusal: 0,
+        bits,
         revokes: rs,
     }
 }
@@ -121,27 +130,29 @@ fn judge_play(
     board: u8,
     table: u16,
     holders: [u8; 52],
+    hands: [u64; 4],
     a: Auction,
     at: usize,
 ) -> Judged
-    requires { ⌜ at < 16384 ⌝ }
-    ensures { λ r. ⌜ ((h : List ℕ) → CallsTold board a holders h → r ≡ judgedOf (afterCalls board table holders h (now (bytes .entry)) at)) ⌝ }
+    requires { ⌜ (8 ≤ at) × (at < 16384) × (hands ≡ wordsOf holders) ⌝ }
+    ensures { λ r. ⌜ ((h : List ℕ) → OfCalls board a holders h → r ≡ judgedOf (afterCalls board table holders h (now (bytes .entry)) at)) ⌝ }
 {
     let out = a.is_passed_out();
     let k = a.contract();
-    let carded = read_cards(
+    let cards = read_cards(
         bytes,
         holders,
+        hands,
         out,
         k.strain,
         opening_leader(k.declarer),
         at,
     );
-    if !carded.ok {
-        return refused(carded.fault);
+    if cards.refusal != 0 {
+        return refused(cards.refusal);
     }
-    let p = carded.after;
-    judge_claim(bytes, board, table, out, k, p, carded.next)
+    let p = cards.after;
+    judge_claim(bytes, board, table, out, k, p, cards.next)
 }
 
 // The whole record.
@@ -149,18 +160,19 @@ pub(crate) fn judge(bytes: &[u8]) -> Judged
     ensures { λ r. ⌜ r ≡ judgedOf (readRecord (now (bytes .entry)) 0) ⌝ }
 {
     let top = read_heading(bytes);
-    if !top.ok {
-        return refused(top.fault);
+    if top.refusal != 0 {
+        return refused(top.refusal);
     }
     let dealt = read_deal(bytes);
-    if !dealt.ok {
-        return refused(dealt.fault);
+    if dealt.refusal != 0 {
+        return refused(dealt.refusal);
     }
     let called = read_calls(bytes, deal::dealer(top.board), 120);
-    if !called.ok {
-        return refused(called.fault);
+    if called.refusal != 0 {
+        return refused(called.refusal);
     }
     let holders = dealt.holders;
+    let hands = dealt.hands;
     let a = called.after;
-    judge_play(bytes, top.board, top.table, holders, a, called.next)
+    judge_play(bytes, top.board, top.table, holders, hands, a, called.next)
 }

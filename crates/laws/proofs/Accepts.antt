@@ -94,7 +94,7 @@ module _ (bytes : List ℕ) where
       (rw (← staged (headingOf p) (p .deal) h g (p .claim)) (subst (λ (r : Parts). Stands bytes 0 (layout r) end) (sym (as-read p)) s)) z
       ∙ ap (λ (r : Parts). found r end) (as-read p)
 
--- with buffers of 01's sizes the record decides
+-- with buffers of at least 7 and 36 bytes the record decides
 module _ (answer list : ℕ) (ha : 7 ≤ answer) (hl : 36 ≤ list) where
   lent-is : (bytes : List ℕ) → judgeOf bytes answer list ≡ outcome (readRecord bytes 0)
   unfolding judgeOf readLent

@@ -1,4 +1,4 @@
--- How long a lawful record is: an auction that is over has at least four calls, and the record at least 20 bytes. Assumes nothing.
+-- How long a lawful record is: an auction that is over has at least four calls, and the record at least 20 bytes and at most 296. Assumes nothing.
 use Prim.Native.Nat.{ℕ, _+_, _*_, _≤_, _<_}
 use native.Mathlib.Nat.{mul-zero, mul-suc}
 use native.Mathlib.Omega.{arith}
@@ -11,10 +11,12 @@ use lib.ListN.{length, length-reverse}
 use Rattle.laws.specs.Auction.{pass, lastBid, hasBid, passesInARow, isOver}
 use Rattle.laws.specs.Law68.{Claim, none, agreed}
 use Rattle.laws.specs.Record.{Parts, Field, field, row, bits, claimFields, layout, encode}
+use Rattle.laws.specs.Law2.{dealer}
 use Rattle.laws.specs.Lawful.{Lawful}
 use Rattle.laws.proofs.Tests.{by-test, not-both}
 use Rattle.laws.proofs.Written.{bits-append}
 use Rattle.laws.proofs.Spelled.{length-packed}
+use Rattle.laws.proofs.LongestAuction.{at-most-319-in-order}
 
 passes-le : (h : List ℕ) → passesInARow h ≤ length h
 unfolding passesInARow
@@ -47,10 +49,10 @@ unfolding bits row
 bits-row w [] = sym (mul-zero w)
 bits-row w (v ∷ l) = omega (arith, bits-row w l, mul-suc w (length l))
 
-claim-bits : (claim : Claim) → 1 ≤ bits (claimFields claim)
+claim-bits : (claim : Claim) → (1 ≤ bits (claimFields claim)) × (bits (claimFields claim) ≤ 5)
 unfolding claimFields bits
-claim-bits none = omega arith
-claim-bits (agreed tricks) = omega arith
+claim-bits none = (omega arith, omega arith)
+claim-bits (agreed tricks) = (omega arith, omega arith)
 
 -- the fields of a record, counted in bits
 layout-bits : (p : Parts) → bits (layout p) ≡ 31 + 2 * length (p .deal) + 6 * length (p .calls) + 6 * length (p .cards) + bits (claimFields (p .claim))
@@ -74,4 +76,11 @@ pub at-least-20 : (p : Parts) → Lawful p → 20 ≤ length (encode p)
 unfolding encode
 at-least-20 p ok =
     let four : 4 ≤ length (reverse (p .calls)) = over-four (reverse (p .calls)) (ok .calls .over) in
-    omega (arith, length-packed (layout p), layout-bits p, claim-bits (p .claim), ok .layout .holders, length-reverse (p .calls))
+    omega (arith, length-packed (layout p), layout-bits p, claim-bits (p .claim) .0, ok .layout .holders, length-reverse (p .calls))
+
+-- and at most 296: 31 bits of board, table and counts, 104 of the deal, six for each of at most 319 calls and 52 cards, and the claim's
+pub at-most-296 : (p : Parts) → Lawful p → length (encode p) ≤ 296
+unfolding encode
+at-most-296 p ok =
+    let most : length (p .calls) ≤ 319 = at-most-319-in-order (dealer (p .board)) (p .calls) (ok .calls .each) in
+    omega (arith, length-packed (layout p), layout-bits p, claim-bits (p .claim) .1, ok .layout .holders, ok .layout .cards)

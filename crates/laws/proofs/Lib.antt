@@ -22,5 +22,10 @@ pub mod Claims
 pub mod LawfulParts
 pub mod Accepts
 pub mod Numbered
-pub mod Lengths
 pub mod Comparisons
+pub mod LongestAuction
+pub mod Allotments
+pub mod SideTricks
+pub mod AllotmentPlaces
+pub mod BestTotal
+pub mod Lengths

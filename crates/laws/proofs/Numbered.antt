@@ -8,8 +8,8 @@ use borrow.Author.Tests.{eqb-false, not-true}
 use lib.Dec.{leb, ltb, eqb, lit≤}
 use lib.ListN.{length}
 use Rattle.laws.specs.Choice.{if_then_else_}
-use Rattle.laws.specs.Refusals.{accepted, shortBuffer, recordEnds, noSuchBoard, notThirteen, auctionUnfinished, playCount, playUnfinished, noClaimPoint, claimTooMany, notPadding}
-use Rattle.laws.specs.Cards.{noSeat, hasThirteen, firstShort, shortSeat}
+use Rattle.laws.specs.Refusals.{refusalNumber, accepted, shortBuffer, recordEnds, noBoardOrTable, notThirteen, auctionUnfinished, tooManyCards, playUnfinished, noClaimPoint, claimTooMany, notPadding}
+use Rattle.laws.specs.Cards.{noSeat, hasThirteen, firstWithoutThirteen, seatWithoutThirteen}
 use Rattle.laws.specs.Law2.{dealer}
 use Rattle.laws.specs.Auction.{callPlace, isOver, passedOut, trumpAfter, openingAfter}
 use Rattle.laws.specs.CallRefusal.{callRefusal}
@@ -30,7 +30,7 @@ abbrev pub Numbered : ℕ → ℕ → Type 0
 Numbered n place = (1 ≤ n) × (n ≤ 16) × (place < 1024)
 
 -- a reading that is refused is so numbered
-abbrev Fair : {A : Type 0} → Reading A → Type 0
+abbrev pub Fair : {A : Type 0} → Reading A → Type 0
 Fair (refused n place) = Numbered n place
 Fair (found a at) = Unit {0}
 
@@ -39,7 +39,7 @@ module _ {B : Type 0} where
   fair-on (refused n place) next f g = f
   fair-on (found a m) next f g = g a m refl
 
-  fair-read : (w : ℕ) (bytes : List ℕ) (at : ℕ) (next : ℕ → ℕ → Reading B) → ((v : ℕ) → v < 2 ^ w → Fair (next v (at + w))) → Fair (onward (read w bytes at) next)
+  pub fair-read : (w : ℕ) (bytes : List ℕ) (at : ℕ) (next : ℕ → ℕ → Reading B) → ((v : ℕ) → v < 2 ^ w → Fair (next v (at + w))) → Fair (onward (read w bytes at) next)
   unfolding read
   fair-read w bytes at next g = go (leb (at + w) (8 * length bytes))
     where
@@ -47,11 +47,15 @@ module _ {B : Type 0} where
       go true = g (numberAt bytes at w) (number-lt bytes at w)
       go false = omega arith
 
-  fair-test : (n place : ℕ) (test : Bool) (bytes : List ℕ) (at : ℕ) (next : Unit {0} → ℕ → Reading B) → (test ≡ true → Numbered n place) → Fair (next tt at)
+  pub fair-test : (n place : ℕ) (test : Bool) (bytes : List ℕ) (at : ℕ) (next : Unit {0} → ℕ → Reading B) → (test ≡ true → Numbered n place) → Fair (next tt at)
       → Fair (onward (refuse n place test bytes at) next)
   unfolding refuse
   fair-test n place true bytes at next f g = f refl
   fair-test n place false bytes at next f g = g
+
+-- a refusal so numbered is not 0
+pub not-0 : {n place : ℕ} → Numbered n place → refusalNumber n place ≡ 0 → ⊥
+not-0 f z = omega (arith, f .0)
 
 fair-row : (w n : ℕ) (bytes : List ℕ) (at : ℕ) → Fair (readRow w n bytes at)
 unfolding readRow
@@ -63,7 +67,7 @@ fair-row w (suc n) bytes at =
 some-number : (n place : ℕ) → n ≤ 16 → place < 1024 → not (eqb n accepted) ≡ true → Numbered n place
 some-number n place l k t = let z : n ≡ 0 → ⊥ = eqb-false n 0 (not-true (eqb n 0) t) in omega arith
 
-fair-each : (w : ℕ) (place : List ℕ → ℕ) (rule : List ℕ → ℕ → ℕ) → ((h : List ℕ) → place h ≡ length h) → ((h : List ℕ) (c : ℕ) → rule h c ≤ 16)
+pub fair-each : (w : ℕ) (place : List ℕ → ℕ) (rule : List ℕ → ℕ → ℕ) → ((h : List ℕ) → place h ≡ length h) → ((h : List ℕ) (c : ℕ) → rule h c ≤ 16)
     → (n : ℕ) (h bytes : List ℕ) (at : ℕ) → length h + n < 1024 → Fair (readEach w place rule n h bytes at)
 unfolding readEach
 fair-each w place rule p r zero h bytes at l = tt
@@ -72,36 +76,36 @@ fair-each w place rule p r (suc n) h bytes at l =
     fair-test (rule h c) (place h) (not (eqb (rule h c) accepted)) bytes (at + w) _ (some-number (rule h c) (place h) (r h c) (omega (arith, p h)))
     (fair-each w place rule p r n (c ∷ h) bytes (at + w) (omega arith)))
 
-fair-heading : (bytes : List ℕ) (at : ℕ) → Fair (readHeading bytes at)
+pub fair-heading : (bytes : List ℕ) (at : ℕ) → Fair (readHeading bytes at)
 unfolding readHeading
 fair-heading bytes at =
     fair-read 7 bytes at _ (λ board lb. fair-read 9 bytes (at + 7) _ (λ table lt.
-    fair-test noSuchBoard 0 (eqb board 0) bytes (at + 7 + 9) _ (λ t. omega arith)
-    (fair-test noSuchBoard 1 (eqb table 0) bytes (at + 7 + 9) _ (λ t. omega arith) tt)))
+    fair-test noBoardOrTable 0 (eqb board 0) bytes (at + 7 + 9) _ (λ t. omega arith)
+    (fair-test noBoardOrTable 1 (eqb table 0) bytes (at + 7 + 9) _ (λ t. omega arith) tt)))
 
 -- the first seat without thirteen cards, or nobody, is at most 4
-next-short : (deal : List ℕ) (seat : ℕ) (rest : List ℕ) → seat ≤ 4 → firstShort deal rest ≤ 4 → firstShort deal (seat ∷ rest) ≤ 4
-unfolding firstShort
+next-short : (deal : List ℕ) (seat : ℕ) (rest : List ℕ) → seat ≤ 4 → firstWithoutThirteen deal rest ≤ 4 → firstWithoutThirteen deal (seat ∷ rest) ≤ 4
+unfolding firstWithoutThirteen
 next-short deal seat rest l more =
     by-test (hasThirteen seat deal)
     (λ (q : hasThirteen seat deal ≡ true). rw q more)
     (λ (q : hasThirteen seat deal ≡ false). rw q l)
 
-no-short : (deal : List ℕ) → firstShort deal [] ≤ 4
-unfolding firstShort
+no-short : (deal : List ℕ) → firstWithoutThirteen deal [] ≤ 4
+unfolding firstWithoutThirteen
 no-short deal = lit≤ tt
 
-short-le : (deal : List ℕ) → shortSeat deal ≤ 4
+short-le : (deal : List ℕ) → seatWithoutThirteen deal ≤ 4
 short-le deal =
     next-short deal 0 _ (lit≤ tt) (next-short deal 1 _ (lit≤ tt) (next-short deal 2 _ (lit≤ tt) (next-short deal 3 [] (lit≤ tt) (no-short deal))))
 
-fair-deal : (bytes : List ℕ) (at : ℕ) → Fair (readDeal bytes at)
+pub fair-deal : (bytes : List ℕ) (at : ℕ) → Fair (readDeal bytes at)
 unfolding readDeal
 fair-deal bytes at =
     fair-on (readRow 2 52 bytes at) _ (fair-row 2 52 bytes at) (λ deal m q.
-    fair-test notThirteen (shortSeat deal) (not (eqb (shortSeat deal) noSeat)) bytes m _ (λ t. omega (arith, short-le deal)) tt)
+    fair-test notThirteen (seatWithoutThirteen deal) (not (eqb (seatWithoutThirteen deal) noSeat)) bytes m _ (λ t. omega (arith, short-le deal)) tt)
 
-fair-calls : (d : ℕ) (bytes : List ℕ) (at : ℕ) → Fair (readCalls d bytes at)
+pub fair-calls : (d : ℕ) (bytes : List ℕ) (at : ℕ) → Fair (readCalls d bytes at)
 unfolding readCalls callPlace
 fair-calls d bytes at =
     fair-read 9 bytes at _ (λ n ln.
@@ -109,15 +113,15 @@ fair-calls d bytes at =
     (fair-each 6 callPlace (callRefusal d) (λ h. refl) (λ h c. omega (arith, refusal-le d h c)) n [] bytes (at + 9) (omega arith)) (λ h m q.
     fair-test auctionUnfinished n (not (isOver h)) bytes m _ (λ t. omega arith) tt))
 
-fair-cards : (d : ℕ) (deal h bytes : List ℕ) (at : ℕ) → Fair (readCards d deal h bytes at)
+pub fair-cards : (d : ℕ) (deal h bytes : List ℕ) (at : ℕ) → Fair (readCards d deal h bytes at)
 unfolding readCards cardsPlayed
 fair-cards d deal h bytes at =
     fair-read 6 bytes at _ (λ n ln.
-    fair-test playCount n (ltb 52 n || (passedOut h && ltb 0 n)) bytes (at + 6) _ (λ t. omega arith)
+    fair-test tooManyCards n (ltb 52 n || (passedOut h && ltb 0 n)) bytes (at + 6) _ (λ t. omega arith)
     (fair-each 6 cardsPlayed (cardRefusal (trumpAfter h) (openingAfter d h) deal) (λ g. refl)
     (λ g c. omega (arith, card-refusal-le (trumpAfter h) (openingAfter d h) deal g c)) n [] bytes (at + 6) (omega arith)))
 
-fair-claim : (h g bytes : List ℕ) (at : ℕ) → length g ≤ 52 → Fair (readClaim h g bytes at)
+pub fair-claim : (h g bytes : List ℕ) (at : ℕ) → length g ≤ 52 → Fair (readClaim h g bytes at)
 unfolding readClaim readNoClaim readMarkedClaim cardsPlayed
 fair-claim h g bytes at l = fair-read 1 bytes at _ (λ mark lm. either (eqb mark 0))
   where

@@ -7,8 +7,8 @@ use mathlib.Core.List.{List, [], _∷_, reverse}
 use borrow.Author.Tests.{not-false, eqb-true, eqb-false, eq-eqb, ne-eqb, le-ltb, ltb-false}
 use lib.Dec.{eqb, ltb, lit<}
 use lib.ListN.{length}
-use Rattle.laws.specs.Refusals.{noSuchBoard, notThirteen, auctionUnfinished, playCount}
-use Rattle.laws.specs.Cards.{noSeat, cardsDealt, hasThirteen, firstShort, shortSeat}
+use Rattle.laws.specs.Refusals.{noBoardOrTable, notThirteen, auctionUnfinished, tooManyCards}
+use Rattle.laws.specs.Cards.{noSeat, cardsDealt, hasThirteen, firstWithoutThirteen, seatWithoutThirteen}
 use Rattle.laws.specs.Auction.{callPlace, isOver, passedOut, allowed, trumpAfter, openingAfter}
 use Rattle.laws.specs.CallRefusal.{callRefusal}
 use Rattle.laws.specs.Law44.{cardsPlayed, playable}
@@ -45,8 +45,8 @@ heading-exact =
       reads = λ bytes at x end l q.
           let a = first-read 7 bytes at _ q in
           let b = first-read 9 bytes (at + 7) _ (a .1) in
-          let s = first-test noSuchBoard 0 (eqb (numberAt bytes at 7) 0) bytes (at + 7 + 9) _ (b .1) in
-          let t = first-test noSuchBoard 1 (eqb (numberAt bytes (at + 7) 9) 0) bytes (at + 7 + 9) _ (s .1) in
+          let s = first-test noBoardOrTable 0 (eqb (numberAt bytes at 7) 0) bytes (at + 7 + 9) _ (b .1) in
+          let t = first-test noBoardOrTable 1 (eqb (numberAt bytes (at + 7) 9) 0) bytes (at + 7 + 9) _ (s .1) in
           landed HeadingStands headingFields (t .1) (
             record {
               board-from = from-one (numberAt bytes at 7) (s .0);
@@ -78,14 +78,14 @@ module _ (deal : List ℕ) where
   four a b c d (suc (suc (suc (suc seat)))) h = absurd (omega arith)
 
   -- a seat that is not the first of some that are short has thirteen cards, and the rest goes on
-  next-short : (seat : ℕ) (rest : List ℕ) → seat < 4 → firstShort deal (seat ∷ rest) ≡ noSeat → (cardsDealt seat deal ≡ 13) × (firstShort deal rest ≡ noSeat)
-  unfolding firstShort
+  next-short : (seat : ℕ) (rest : List ℕ) → seat < 4 → firstWithoutThirteen deal (seat ∷ rest) ≡ noSeat → (cardsDealt seat deal ≡ 13) × (firstWithoutThirteen deal rest ≡ noSeat)
+  unfolding firstWithoutThirteen
   next-short seat rest low e =
       by-test (hasThirteen seat deal)
       (λ (q : hasThirteen seat deal ≡ true). (eqb-true (cardsDealt seat deal) 13 q, rw q at e))
       (λ (q : hasThirteen seat deal ≡ false). let z : seat ≡ noSeat = rw q at e in absurd (omega arith))
 
-  none-short : shortSeat deal ≡ noSeat → (seat : ℕ) → seat < 4 → cardsDealt seat deal ≡ 13
+  none-short : seatWithoutThirteen deal ≡ noSeat → (seat : ℕ) → seat < 4 → cardsDealt seat deal ≡ 13
   none-short e =
       let n = next-short 0 _ (lit< tt) e in
       let o = next-short 1 _ (lit< tt) (n .1) in
@@ -93,8 +93,8 @@ module _ (deal : List ℕ) where
       let w = next-short 3 _ (lit< tt) (s .1) in
       four (n .0) (o .0) (s .0) (w .0)
 
-  short-none : ((seat : ℕ) → seat < 4 → cardsDealt seat deal ≡ 13) → shortSeat deal ≡ noSeat
-  unfolding firstShort
+  short-none : ((seat : ℕ) → seat < 4 → cardsDealt seat deal ≡ 13) → seatWithoutThirteen deal ≡ noSeat
+  unfolding firstWithoutThirteen
   short-none f = simp (f 0 (lit< tt), f 1 (lit< tt), f 2 (lit< tt), f 3 (lit< tt))
 
 pub record DealStands (deal : List ℕ) : Type 0 where
@@ -109,20 +109,20 @@ deal-exact =
       reads = λ bytes at x end l q.
           let a = first-of (readRow 2 52 bytes at) _ q in
           let r = row-exact 2 52 .reads bytes at (a .0) (a .1) l (a .2) in
-          let t = first-test notThirteen (shortSeat (a .0)) (not (eqb (shortSeat (a .0)) noSeat)) bytes (a .1) _ (a .3) in
+          let t = first-test notThirteen (seatWithoutThirteen (a .0)) (not (eqb (seatWithoutThirteen (a .0)) noSeat)) bytes (a .1) _ (a .3) in
           landed DealStands (row 2) (t .1) (
-            record { holders = r .0 .0; seats = r .0 .1; thirteen = none-short (a .0) (eqb-true (shortSeat (a .0)) noSeat (not-false _ (t .0))) },
+            record { holders = r .0 .0; seats = r .0 .1; thirteen = none-short (a .0) (eqb-true (seatWithoutThirteen (a .0)) noSeat (not-false _ (t .0))) },
             r .1,
           );
       is = λ bytes at x end ok h.
           simp (
             row-exact 2 52 .is bytes at x end (ok .holders, ok .seats) h,
-            test-is notThirteen (shortSeat x) bytes end (passes x (short-none x (ok .thirteen))),
+            test-is notThirteen (seatWithoutThirteen x) bytes end (passes x (short-none x (ok .thirteen))),
           );
     }
   where
-    passes : (x : List ℕ) → shortSeat x ≡ noSeat → not (eqb (shortSeat x) noSeat) ≡ false
-    passes x e = rw (eq-eqb (shortSeat x) noSeat e)
+    passes : (x : List ℕ) → seatWithoutThirteen x ≡ noSeat → not (eqb (seatWithoutThirteen x) noSeat) ≡ false
+    passes x e = rw (eq-eqb (seatWithoutThirteen x) noSeat e)
 
 -- the calls: d the dealer, h the calls before c
 abbrev pub MayCall : ℕ → List ℕ → ℕ → Type 0
@@ -190,7 +190,7 @@ module _ (d : ℕ) (deal h : List ℕ) (full : length deal ≡ 52) where
         reads = λ bytes at x end l q.
             let n : ℕ = numberAt bytes at 6 in
             let a = first-read 6 bytes at _ q in
-            let t = first-test playCount n _ bytes (at + 6) _ (a .1) in
+            let t = first-test tooManyCards n _ bytes (at + 6) _ (a .1) in
             let r = cards-each n .reads bytes (at + 6) x end (a .0) (t .1) in
             let few : n ≤ 52 = ltb-false 52 n (or-left (ltb 52 n) _ (t .0)) in
             let rest = or-right (ltb 52 n) _ (t .0) in (

@@ -79,10 +79,10 @@ abbrev pub seats : List ℕ
 seats = north ∷ east ∷ south ∷ west ∷ []
 
 -- the first of some seats that has not thirteen cards; nobody where each has
-unfoldable pub firstShort : List ℕ → List ℕ → ℕ
-firstShort deal [] = noSeat
-firstShort deal (seat ∷ rest) = if hasThirteen seat deal then firstShort deal rest else seat
+unfoldable pub firstWithoutThirteen : List ℕ → List ℕ → ℕ
+firstWithoutThirteen deal [] = noSeat
+firstWithoutThirteen deal (seat ∷ rest) = if hasThirteen seat deal then firstWithoutThirteen deal rest else seat
 
 -- the first seat without thirteen cards
-abbrev pub shortSeat : List ℕ → ℕ
-shortSeat deal = firstShort deal seats
+abbrev pub seatWithoutThirteen : List ℕ → ℕ
+seatWithoutThirteen deal = firstWithoutThirteen deal seats

@@ -1,12 +1,12 @@
--- The judge: the order of checks, section by section as document 01's table has them, on the fields read and the histories of calls and cards.
+-- The judge: the order of checks, section by section as docs/RULES.md has them, on the fields read and the histories of calls and cards.
 -- Assumes nothing.
 use Prim.Native.Nat.{ℕ, _+_, _*_}
 use mathlib.Core.Bool.{Bool, not, _&&_, _||_}
 use mathlib.Core.List.{List, [], _∷_, reverse}
 use lib.Dec.{ltb, eqb}
 use Rattle.laws.specs.Choice.{if_then_else_}
-use Rattle.laws.specs.Refusals.{shortBuffer, noSuchBoard, notThirteen, auctionUnfinished, playCount, playUnfinished, noClaimPoint, claimTooMany}
-use Rattle.laws.specs.Cards.{noSeat, shortSeat}
+use Rattle.laws.specs.Refusals.{refusalNumber, shortBuffer, noBoardOrTable, notThirteen, auctionUnfinished, tooManyCards, playUnfinished, noClaimPoint, claimTooMany}
+use Rattle.laws.specs.Cards.{noSeat, seatWithoutThirteen}
 use Rattle.laws.specs.Law2.{dealer}
 use Rattle.laws.specs.Auction.{callPlace, isOver, passedOut, trumpAfter, openingAfter}
 use Rattle.laws.specs.CallRefusal.{callRefusal}
@@ -26,15 +26,15 @@ unfoldable pub readHeading : Reader Heading
 readHeading = do
   board ← read 7
   table ← read 9
-  refuse noSuchBoard 0 (eqb board 0)
-  refuse noSuchBoard 1 (eqb table 0)
+  refuse noBoardOrTable 0 (eqb board 0)
+  refuse noBoardOrTable 1 (eqb table 0)
   give (record { board = board; table = table })
 
 -- the deal
 unfoldable pub readDeal : Reader (List ℕ)
 readDeal = do
   deal ← readRow 2 52
-  refuse notThirteen (shortSeat deal) (not (eqb (shortSeat deal) noSeat))
+  refuse notThirteen (seatWithoutThirteen deal) (not (eqb (seatWithoutThirteen deal) noSeat))
   give deal
 
 -- the calls, latest first; d is the dealer
@@ -49,7 +49,7 @@ readCalls d = do
 unfoldable pub readCards : ℕ → List ℕ → List ℕ → Reader (List ℕ)
 readCards d deal h = do
   count ← read 6
-  refuse playCount count (ltb 52 count || (passedOut h && ltb 0 count))
+  refuse tooManyCards count (ltb 52 count || (passedOut h && ltb 0 count))
   readEach 6 cardsPlayed (cardRefusal (trumpAfter h) (openingAfter d h) deal) count []
 
 -- no claim
@@ -105,5 +105,5 @@ judgeOf bytes answer list = outcome (readLent answer list bytes 0)
 
 -- the number returned: 0, or refusal × 1024 + place
 abbrev pub numberOf : Outcome → ℕ
-numberOf (refused n place) = n * 1024 + place
+numberOf (refused n place) = refusalNumber n place
 numberOf (accepted p) = 0

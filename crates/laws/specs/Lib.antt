@@ -10,6 +10,7 @@ pub mod Law44
 pub mod Law61
 pub mod Law68
 pub mod Law64
+pub mod Allotment
 pub mod Law77
 pub mod Law78
 pub mod CardRefusal
@@ -20,6 +21,7 @@ pub mod Judge
 pub mod Judgement
 pub mod Lent
 pub mod Lawful
+pub mod Lengths
 pub mod Tally
 pub mod Decimal
 pub mod Sheet

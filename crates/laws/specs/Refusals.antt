@@ -1,11 +1,15 @@
 -- The numbers of the refusals, each named once, with the Law that is not met where one is.
 -- Assumes nothing.
-use Prim.Native.Nat.{ℕ}
+use Prim.Native.Nat.{ℕ, _+_, _*_}
 
 -- what is answered to a question: a refusal by its number, or a value
 pub data Answer (A : Type 0) : Type 0 where
   refused : ℕ → Answer A
   answered : A → Answer A
+
+-- a refusal and its place as one number
+abbrev pub refusalNumber : ℕ → ℕ → ℕ
+refusalNumber n place = n * 1024 + place
 
 -- no refusal
 abbrev pub accepted : ℕ
@@ -20,8 +24,8 @@ abbrev pub recordEnds : ℕ
 recordEnds = 2
 
 -- board 0, place 0, or table 0, place 1; a fresh tally of a board outside 1 to 127
-abbrev pub noSuchBoard : ℕ
-noSuchBoard = 3
+abbrev pub noBoardOrTable : ℕ
+noBoardOrTable = 3
 
 -- Law 1: a seat without thirteen cards; its place is the seat
 abbrev pub notThirteen : ℕ
@@ -48,8 +52,8 @@ abbrev pub auctionUnfinished : ℕ
 auctionUnfinished = 9
 
 -- a play count over 52, or over 0 on a board that was passed out
-abbrev pub playCount : ℕ
-playCount = 10
+abbrev pub tooManyCards : ℕ
+tooManyCards = 10
 
 -- a code that is no card
 abbrev pub noCard : ℕ

@@ -1,5 +1,5 @@
 -- The rules for trees of tally calls: the board, the list of scores and the refusals of a tree, with no tally in them.
--- A tree is a fresh tally of a board from 1 to 127, a tree with one score added, valid or not, or two trees merged. (Document 01's term.)
+-- A tree is a fresh tally of a board from 1 to 127, a tree with one score added, valid or not, or two trees merged. (The project's own term.)
 -- Assumes nothing.
 use Prim.Native.Nat.{ℕ, zero, suc, _+_, _≤_}
 use mathlib.Core.Path.{_≡_}
@@ -9,7 +9,7 @@ use lib.Dec.{ltb, leb, eqb}
 use lib.IntN.{ℤ}
 use lib.ListN.{length}
 use Rattle.laws.specs.Choice.{if_then_else_}
-use Rattle.laws.specs.Refusals.{accepted, noSuchBoard, twoBoards, tooManyResults, invalidScore}
+use Rattle.laws.specs.Refusals.{accepted, noBoardOrTable, twoBoards, tooManyResults, invalidScore}
 use Rattle.laws.specs.Law77.{validScore}
 use Rattle.laws.specs.Law78.{occurrences}
 
@@ -19,7 +19,7 @@ capacity = 128
 
 -- a fresh tally of a board outside 1 to 127 is refused
 unfoldable pub freshRefusal : ℕ → ℕ
-freshRefusal board = if eqb board 0 then noSuchBoard else if ltb 127 board then noSuchBoard else accepted
+freshRefusal board = if eqb board 0 then noBoardOrTable else if ltb 127 board then noBoardOrTable else accepted
 
 -- adding a score to a list: 20 if it isn't valid, else 19 if the list has 128
 unfoldable pub addRefusal : List ℤ → ℤ → ℕ

@@ -1,1 +1,76 @@
-// The Laws as definitions: see specs/. The crate has no function.
+// The Laws as definitions: see specs/. Here stand the numbers of the refusals, under the names of specs/Refusals.
+ghost use mathlib.Core.Path.{_≡_};
+ghost use Rattle.laws.specs.Refusals.{refusalNumber};
+
+// No refusal.
+pub const ACCEPTED: u8 = 0;
+
+// A lent buffer is too short.
+pub const SHORT_BUFFER: u8 = 1;
+
+// The record ends before a field is whole.
+pub const RECORD_ENDS: u8 = 2;
+
+// Board 0 or table 0; a fresh tally of a board outside 1 to 127.
+pub const NO_BOARD_OR_TABLE: u8 = 3;
+
+// Law 1: a seat without thirteen cards.
+pub const NOT_THIRTEEN: u8 = 4;
+
+// A code that is no call.
+pub const NO_CALL: u8 = 5;
+
+// Law 27: a bid that is not above the last.
+pub const INSUFFICIENT_BID: u8 = 6;
+
+// Law 36: a double or a redouble that is not allowed.
+pub const INADMISSIBLE_DOUBLE: u8 = 7;
+
+// Law 39: a call after the end of the auction.
+pub const CALL_AFTER_END: u8 = 8;
+
+// Law 22: the calls stop before the end of the auction.
+pub const AUCTION_UNFINISHED: u8 = 9;
+
+// A play count over 52, or over 0 on a board that was passed out.
+pub const TOO_MANY_CARDS: u8 = 10;
+
+// A code that is no card.
+pub const NO_CARD: u8 = 11;
+
+// Law 44: a card that is not in the hand of the seat at turn.
+pub const CARD_NOT_HELD: u8 = 12;
+
+// A contract without a claim, and fewer than 52 cards.
+pub const PLAY_UNFINISHED: u8 = 13;
+
+// Law 68: a claim at another point than the end of a trick, or on a board that was passed out.
+pub const NO_CLAIM_POINT: u8 = 14;
+
+// Law 68: a claim of more tricks than are left.
+pub const CLAIM_TOO_MANY: u8 = 15;
+
+// A padding bit is 1, or a byte follows.
+pub const NOT_PADDING: u8 = 16;
+
+// A tally that is not as described.
+pub const MALFORMED_TALLY: u8 = 17;
+
+// Tallies of two boards merged.
+pub const TWO_BOARDS: u8 = 18;
+
+// More than 128 results.
+pub const TOO_MANY_RESULTS: u8 = 19;
+
+// A score that is not valid.
+pub const INVALID_SCORE: u8 = 20;
+
+// A score that the tally does not have.
+pub const SCORE_NOT_IN_TALLY: u8 = 21;
+
+// A refusal and its place as one number: refusal × 1024 + place.
+pub fn refusal_number(refusal: u8, place: u16) -> u32
+    ensures { λ r. ⌜ r ≡ refusalNumber refusal place ⌝ }
+{
+    refusal as u32 * 1024 + place as u32
+}

@@ -59,7 +59,8 @@ quotient (fin s m e) (inf t) a b v w h = absurd w
 quotient (fin s m e) (fin t n d) a b v w h =
     let pos-y = above (n * up d) b (down d) (w .1) h (down-pos d) in
     rw (ne-eqb n 0 (first-above n (up d) pos-y), v .0, w .0)
-    (round-same binary64 false (m * up e * down d) (n * up d * down e) a b (mul-pos pos-y (down-pos e)) h (cross (m * up e) (n * up d) (down e) (down d) a b (v .1) (w .1)))
+    (round-same binary64 false (m * up e * down d) (n * up d * down e) a b (mul-pos pos-y (down-pos e)) h
+    (cross (m * up e) (n * up d) (down e) (down d) a b (v .1) (w .1)))
 
 module _ (points most : ℕ) (few : 100 * points < 4294967296) (small : most < 4294967296) (some : 0 < most) where
   -- the percentage is the exact fraction rounded to the nearest float

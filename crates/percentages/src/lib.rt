@@ -1,13 +1,11 @@
 // The cells of a page of results: a score of a tally with its percentage as a 64-bit float, and awarded results.
+use laws::INVALID_SCORE;
 use tally::MatchpointAnswer;
 use tally::Tally;
 ghost use mathlib.Core.Path.{_≡_};
 ghost use Prim.Native.Nat.{_+_, _-_, _*_, _/_, _≤_};
 ghost use Rattle.laws.specs.Percentages.{percentage, isAward, award as awardAsked};
 ghost use Rattle.percentages.specs.Cells.{cellAnswer, cellOfTally, cellBy};
-
-// The refusal of an award that is not 60, 50 or 40 per cent.
-const NO_SUCH_AWARD: u8 = 20;
 
 // A played result with the percentage of North-South, an awarded result with its percentage, or a result alone on its board.
 pub enum Cell {
@@ -87,5 +85,5 @@ pub fn award(percent: u32) -> CellAnswer
         let whole = percent as f64;
         return CellAnswer::Is(Cell::Awarded(whole));
     }
-    CellAnswer::Refused(NO_SUCH_AWARD)
+    CellAnswer::Refused(INVALID_SCORE)
 }

@@ -1,18 +1,18 @@
 -- Counting the cards of a history: the trick under way after one card more, and what an allowed card tells. Assumes nothing.
-use Prim.Native.Nat.{ℕ, zero, suc, _≤_, _<_, _+_, _%_}
-use mathlib.Core.Path.{_≡_, refl, sym, ap, _∙_}
-use mathlib.Core.Bool.{Bool, true, false, not, _&&_}
+use Prim.Native.Nat.{ℕ, zero, suc, _≤_, _<_}
+use mathlib.Core.Path.{_≡_, refl}
+use mathlib.Core.Bool.{Bool, true, false, not}
 use mathlib.Core.List.{List, [], _∷_}
 use native.Mathlib.Omega.{arith}
 use borrow.Author.Tests.{leb-false, eqb-true, ne-eqb, not-true}
 use lib.Dec.{eqb, leb}
-use lib.ListN.{length, take, length-take}
-use Rattle.laws.specs.Choice.{if_then_else_, some}
+use lib.ListN.{take, length-take}
+use Rattle.laws.specs.Choice.{some}
 use Rattle.laws.specs.Refusals.{accepted, noCard, cardNotHeld}
 use Rattle.laws.specs.Cards.{dealtTo}
 use Rattle.laws.specs.Law44.{cardsPlayed, tricksComplete, cardsInTrick, leader, trickUnderWay, toPlay, isPlayed, holds, playable}
 use Rattle.laws.specs.CardRefusal.{cardRefusal}
-use Rattle.laws.proofs.Tests.{by-test, not-both, or-left, or-right, and-left, and-right}
+use Rattle.laws.proofs.Tests.{by-test, or-left, or-right, and-left, and-right}
 
 -- ---- the cards of the trick
 pub fewer-than-four : (g : List ℕ) → cardsInTrick g < 4

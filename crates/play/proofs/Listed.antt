@@ -1,32 +1,29 @@
--- The list of revokes, as the position keeps it, is the Laws', and never has more than 36. Assumes nothing.
-use Prim.Native.Nat.{ℕ, zero, suc, _≤_, _<_, _+_, _-_, _*_}
-use mathlib.Core.Path.{_≡_, refl, sym, ap, _∙_}
-use mathlib.Core.Bool.{Bool, true, false, not, _&&_}
+-- The revokes that a position tells are the Laws', in order of play, and never more than 36. Assumes nothing.
+use Prim.Native.Nat.{ℕ, zero, suc, _≤_, _<_, _+_, _-_, _*_, _/_, _%_}
+use mathlib.Core.Path.{_≡_, refl, ap, _∙_}
+use mathlib.Core.Bool.{Bool, true, false, not}
 use mathlib.Core.List.{List, [], _∷_, _++_, map, append-nil}
 use native.Mathlib.Omega.{arith}
-use native.Mathlib.Numerals.{add-one}
-use borrow.Author.Tests.{eqb-false, not-true, ltb-true, ltb-false, lt-ltb, lt-leb}
-use lib.Dec.{eqb, ltb, leb}
-use lib.ListN.{length, set, length-append, length-map}
-use Rattle.laws.specs.Choice.{if_then_else_}
-use Rattle.laws.specs.Padded.{padded}
+use borrow.Author.Tests.{eqb-false, not-true, ltb-true, ltb-false, le-ltb}
+use lib.Dec.{eqb, ltb}
+use lib.ListN.{length, drop, length-append, length-map}
 use Rattle.laws.specs.Cards.{cardsDealt}
-use Rattle.laws.specs.Law44.{cardsPlayed, tricksComplete, cardsInTrick, trickUnderWay, suitLed, toPlay, isOf}
+use Rattle.laws.specs.Law44.{cardsPlayed, tricksComplete, cardsInTrick}
 use Rattle.laws.specs.Law61.{Revoke, isRevoke, revokeAt, revokes}
 use Rattle.laws.proofs.Tests.{by-test, and-left}
-use Rattle.laws.proofs.Padded.{padded-none, padded-more}
-use Rattle.play.specs.declared.Play.{Play}
-use Rattle.play.specs.declared.Revokes.{Revokes}
-use Rattle.play.specs.Trick.{turnOf}
-use Rattle.play.specs.Position.{oneMore, revokeByte, withRevoke, noRevokes, startOf, revokesWith, byteNext, step}
-use Rattle.play.specs.History.{positionOf, AllPlayed, trickOf, tricksOf, revokesOf, byteOf}
-use Rattle.play.proofs.Cards.{Fair, fair, fewer-than-four, tricks-same, tricks-more, in-trick-more, in-trick-last}
-use Rattle.play.proofs.Holders.{trick-law, turn-is, revoke-law}
+use Rattle.play.specs.Words.{bitOf}
+use Rattle.play.specs.Told as Told
+use Rattle.play.specs.Told.{bytesIn, revokedIn, revokesIn}
+use Rattle.play.specs.History.{positionOf, AllPlayed, revokedOf, revokesOf, byteOf}
+use Rattle.play.proofs.Cards.{fewer-than-four, tricks-same, tricks-more, in-trick-more, in-trick-last}
 use Rattle.play.proofs.Thirteen.{at-most-52, none-on-thirteen}
-use Rattle.play.proofs.Complete.{tricks-law, few}
+use Rattle.play.proofs.Filling.{none-in}
+use Rattle.play.proofs.Stands.{stands}
+use Rattle.play.proofs.Entries.{allEntries, all-entries, byte-is}
 
 module _ (trump opening : ℕ) (deal : List ℕ) where
-  list-more : (c : ℕ) (g : List ℕ) → isRevoke trump opening deal g c ≡ true → revokes trump opening deal (c ∷ g) ≡ revokes trump opening deal g ++ (revokeAt trump opening g ∷ [])
+  list-more : (c : ℕ) (g : List ℕ) → isRevoke trump opening deal g c ≡ true → revokes trump opening deal (c ∷ g)
+      ≡ revokes trump opening deal g ++ (revokeAt trump opening g ∷ [])
   unfolding revokes
   list-more c g r = rw r
 
@@ -62,29 +59,6 @@ most-more c g =
     let four = fewer-than-four g in
     (omega arith, λ h. omega arith))
 
--- ---- one revoke more in the list
-abbrev kept : List Revoke → Revokes
-kept rs = record { count = length rs; list = padded 0 36 (map byteOf rs) }
-
-map-last : (rs : List Revoke) (r : Revoke) → map byteOf (rs ++ (r ∷ [])) ≡ map byteOf rs ++ (byteOf r ∷ [])
-map-last [] r = refl
-map-last (x ∷ rs) r = ap (λ (l : List ℕ). byteOf x ∷ l) (map-last rs r)
-
-one-revoke : (rs : List Revoke) (r : Revoke) → length rs < 36 → withRevoke (kept rs) (byteOf r) ≡ kept (rs ++ (r ∷ []))
-unfolding withRevoke
-one-revoke rs r h =
-    let n = length-map rs byteOf in
-    rw
-    (lt-ltb (length rs) 36 h, map-last rs r, length-append rs (r ∷ []), sym (padded-more 0 36 (map byteOf rs) (byteOf r) (omega arith)), n)
-
-step-revokes : (p : Play) (c : ℕ) → c < 52 → step p c .revokes ≡ (if revokesWith p c then withRevoke (p .revokes) (byteNext (p .tricks) (p .trick)) else p .revokes)
-unfolding step
-step-revokes p c h = rw (lt-leb 52 c h)
-
-none-yet : (trump opening : ℕ) (deal : List ℕ) → noRevokes ≡ revokesOf deal trump opening []
-unfolding revokesOf revokes padded
-none-yet trump opening deal = refl
-
 module _ (deal : List ℕ) (trump opening : ℕ) (all : length deal ≡ 52) (dealt : (seat : ℕ) → seat < 4 → cardsDealt seat deal ≡ 13) where
   record Few (g : List ℕ) : Type 0 where
     by-tricks : length (revokes trump opening deal g) ≤ most g
@@ -112,30 +86,60 @@ module _ (deal : List ℕ) (trump opening : ℕ) (all : length deal ≡ 52) (dea
   pub at-most-36 : (g : List ℕ) → AllPlayed deal trump opening g → length (revokes trump opening deal g) ≤ 36
   at-most-36 g w = few-revokes g w .by-all
 
-  -- the byte that a revoke at the next card gets is that of the Laws' revoke
-  byte-law : (c : ℕ) (g : List ℕ) → AllPlayed deal trump opening (c ∷ g) → byteNext (positionOf deal trump opening g .tricks) (positionOf deal trump opening g .trick) ≡ byteOf (revokeAt trump opening g)
-  unfolding AllPlayed trickOf tricksOf revokeAt
-  byte-law c g w =
-      rw (
-        turn-is deal trump opening all g (w .1),
-        tricks-law deal trump opening all g (w .1),
-        trick-law deal trump opening all g (w .1),
-        lt-ltb (tricksComplete g) 13 (few c g (at-most-52 deal trump opening all (c ∷ g) w)),
-      )
+-- ---- the list, from the last card to the first
+map-last : (rs : List Revoke) (r : Revoke) → map byteOf (rs ++ (r ∷ [])) ≡ map byteOf rs ++ (byteOf r ∷ [])
+map-last [] r = refl
+map-last (x ∷ rs) r = ap (λ (l : List ℕ). byteOf x ∷ l) (map-last rs r)
 
+bits-half : (w : ℕ) (b : Bool) → (w * 2 + bitOf b) / 2 ≡ w
+bits-half w true = omega arith
+bits-half w false = omega arith
+
+bits-low : (w : ℕ) (b : Bool) → (w * 2 + bitOf b) % 2 ≡ bitOf b
+bits-low w true = omega arith
+bits-low w false = omega arith
+
+-- what is left of a history without its k latest cards
+drop-next : (k : ℕ) (full g : List ℕ) (c : ℕ) → c ∷ g ≡ drop k full → g ≡ drop (suc k) full
+drop-next zero [] g c e = absurd (let z : _≡_ {A = ℕ} 0 1 = cc in omega arith)
+drop-next zero (d ∷ full) g c e = cc
+drop-next (suc k) [] g c e = absurd (let z : _≡_ {A = ℕ} 0 1 = cc in omega arith)
+drop-next (suc k) (d ∷ full) g c e = drop-next k full g c e
+
+module _ (deal : List ℕ) (trump opening : ℕ) (full : List ℕ) (most : cardsPlayed full ≤ 52) where
+  bytes-law : (k : ℕ) (g : List ℕ) → g ≡ drop k full → k + cardsPlayed g ≤ 52
+      → bytesIn (allEntries trump opening full) (cardsPlayed full) (64 - k) (revokedOf deal trump opening g) k ≡ map byteOf (revokes trump opening deal g)
+  unfolding bytesIn revokedOf revokes cardsPlayed
+  bytes-law k [] e h = none-in (allEntries trump opening full) (cardsPlayed full) (64 - k) k
+  bytes-law k (c ∷ g) e h =
+      let fuel : 64 - k ≡ suc (64 - suc k) = omega arith in
+      let b = isRevoke trump opening deal g c in
+      let w = revokedOf deal trump opening g in
+      rw (fuel, bits-half w b, bits-low w b, bytes-law (suc k) g (drop-next k full g c e) (omega arith))
+      (by-test b
+      (λ (q : b ≡ true). rw (
+        q,
+        map-last (revokes trump opening deal g) (revokeAt trump opening g),
+        byte-is trump opening full most k c g e
+            (λ z. omega (arith, not-first trump opening deal c g q)),
+      ))
+      (λ (q : b ≡ false). rw (q, append-nil (revokes trump opening deal g)) (append-nil _)))
+
+module _ (deal : List ℕ) (trump opening : ℕ) (all : length deal ≡ 52) (dealt : (seat : ℕ) → seat < 4 → cardsDealt seat deal ≡ 13) where
   -- the theorem: the position's revokes are the Laws' after every history that the verdicts allow
-  pub revokes-law : (g : List ℕ) → AllPlayed deal trump opening g → positionOf deal trump opening g .revokes ≡ revokesOf deal trump opening g
-  unfolding positionOf AllPlayed startOf revokesOf
-  revokes-law [] w = none-yet trump opening deal
-  revokes-law (c ∷ g) w =
-      let f = fair trump opening deal g c (w .0) in
-      let rs = revokes trump opening deal g in
-      step-revokes (positionOf deal trump opening g) c (f .code)
-      ∙ by-test (isRevoke trump opening deal g c)
-      (λ (q : isRevoke trump opening deal g c ≡ true).
-      let more = ap length (list-more trump opening deal c g q) ∙ length-append rs _ in
-      let room : length rs < 36 = omega (arith, more, at-most-36 (c ∷ g) w) in
-      rw (revoke-law deal trump opening all g (w .1) c, q, revokes-law g (w .1), byte-law c g w, list-more trump opening deal c g q)
-      (one-revoke rs (revokeAt trump opening g) room))
-      (λ (q : isRevoke trump opening deal g c ≡ false).
-      rw (revoke-law deal trump opening all g (w .1) c, q, revokes-law g (w .1), list-same trump opening deal c g q))
+  pub revokes-law : (g : List ℕ) → AllPlayed deal trump opening g → revokesIn (positionOf deal trump opening g) ≡ revokesOf deal trump opening g
+  unfolding revokesIn revokedIn revokesOf
+  revokes-law g w =
+      let s = stands deal trump opening all g w in
+      let most = at-most-52 deal trump opening all g w in
+      let few = at-most-36 deal trump opening all dealt g w in
+      let many = length-map (revokes trump opening deal g) byteOf in
+      rw (
+        all-entries deal trump opening all s most,
+        s .played,
+        s .revoked,
+        bytes-law deal trump opening g most 0 g refl (omega arith),
+        many,
+        le-ltb 36
+            (length (revokes trump opening deal g)) few,
+      )

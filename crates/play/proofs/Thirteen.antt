@@ -1,27 +1,23 @@
 -- Each seat holds what it was dealt less the cards it has played, so no more than 52 cards are played, and a seat that has played to twelve tricks
 -- cannot revoke. Assumes nothing.
-use Prim.Native.Nat.{ℕ, zero, suc, _≤_, _<_, _+_, _-_, _/_, _%_}
-use mathlib.Core.Path.{_≡_, refl, sym, ap, _∙_}
+use Prim.Native.Nat.{ℕ, suc, _≤_, _<_, _+_, _-_, _%_}
+use mathlib.Core.Path.{_≡_, _∙_}
 use mathlib.Core.Bool.{Bool, true, false, not, _&&_}
 use mathlib.Core.List.{List, [], _∷_}
 use native.Mathlib.Omega.{arith}
 use borrow.Author.Tests.{eqb-true, eqb-false, eq-eqb, ne-eqb, ltb-true, ltb-false, lt-ltb, le-ltb, not-true}
-use lib.Dec.{eqb, ltb, leb}
-use lib.ListN.{length, getD, set}
+use lib.Dec.{eqb, ltb}
+use lib.ListN.{length, getD}
 use Rattle.laws.specs.Choice.{if_then_else_, howMany, someBelow}
-use Rattle.laws.specs.Cards.{noSeat, clockwise, suitOf, dealtTo, cardsDealt}
-use Rattle.laws.specs.Law44.{cardsPlayed, tricksComplete, cardsInTrick, leader, winner, trickUnderWay, suitLed, isOf, toPlay, holds, playable}
+use Rattle.laws.specs.Cards.{noSeat, clockwise, cardsDealt}
+use Rattle.laws.specs.Law44.{cardsPlayed, tricksComplete, cardsInTrick, leader, trickUnderWay, suitLed, isOf, toPlay, holds}
 use Rattle.laws.specs.Law61.{holdsSuit, isRevoke}
-use Rattle.laws.specs.CardRefusal.{cardRefusal}
 use Rattle.laws.proofs.Tests.{by-test, not-both, and-left, and-right}
 use Rattle.laws.proofs.Counts.{many-le, below-some}
 use Rattle.laws.proofs.Stores.{many-set, two-places}
-use Rattle.play.specs.declared.Play.{Play}
-use Rattle.play.specs.Trick.{turnOf}
-use Rattle.play.specs.Position.{putPlayed, startOf}
-use Rattle.play.specs.History.{positionOf, AllPlayed, playsOf}
-use Rattle.play.proofs.Cards.{Fair, fair, fewer-than-four, tricks-same, tricks-more, leader-same, in-trick-more, in-trick-last}
-use Rattle.play.proofs.Holders.{put, turn-is, turn-seat, holders-52, holds-law}
+use Rattle.play.specs.History.{holdersOf, AllPlayed, playsOf}
+use Rattle.play.proofs.Cards.{fair, fewer-than-four, tricks-same, tricks-more, leader-same, in-trick-more, in-trick-last}
+use Rattle.play.proofs.Holders.{turn-seat, holders-52, holds-law, stood}
 
 -- ---- how many plays a seat has made: one to each complete trick, and one more where its turn in this trick is past
 -- how far clockwise a seat is from the leader
@@ -59,36 +55,28 @@ plays-law trump opening seat (c ∷ g) h =
     (λ (q : ltb (cardsInTrick g) 3 ≡ false).
     let k = ltb-false (cardsInTrick g) 3 q in
     let all = rw (lt-ltb (behind seat (leader trump opening g)) (suc (cardsInTrick g)) (omega arith)) at more in
-    rw (tricks-more c g k, in-trick-last c g k, le-ltb (behind seat (leader trump opening (c ∷ g))) 0 (omega arith)) (omega (arith, plays-law trump opening seat g h)))
+    rw (tricks-more c g k, in-trick-last c g k, le-ltb (behind seat (leader trump opening (c ∷ g))) 0 (omega arith))
+    (omega (arith, plays-law trump opening seat g h)))
 
 -- ---- what the places count after a play: a test that passes for no played card loses the seat that played
 module _ (deal : List ℕ) (trump opening : ℕ) (all : length deal ≡ 52) where
   abbrev holders : List ℕ → List ℕ
-  holders g = positionOf deal trump opening g .holders
-
-  -- the card stood at its place with the seat at turn
-  stood : (c : ℕ) (g : List ℕ) → Fair trump opening deal g c → AllPlayed deal trump opening g → getD (holders g) c noSeat ≡ toPlay trump opening g
-  unfolding holds
-  stood c g f w =
-      let seat = toPlay trump opening g in
-      let yes : holds deal g seat c ≡ true = rw (eq-eqb (dealtTo deal c) seat (f .held), f .unplayed) in
-      eqb-true (getD (holders g) c noSeat) seat (holds-law deal trump opening all g w seat c (turn-seat trump opening g) ∙ yes)
+  holders g = holdersOf deal trump opening g
 
   counted : (test : ℕ → Bool) (c : ℕ) (g : List ℕ) → AllPlayed deal trump opening (c ∷ g) → ((k : ℕ) → 4 ≤ k → test k ≡ false)
       → howMany test (holders (c ∷ g)) + (if test (toPlay trump opening g) then 1 else 0) ≡ howMany test (holders g)
-  unfolding AllPlayed positionOf putPlayed
+  unfolding AllPlayed holdersOf
   counted test c g w none =
       let f = fair trump opening deal g c (w .0) in
-      let p = positionOf deal trump opening g in
-      let v = 4 + turnOf (p .trick) % 4 in
-      let place : c < length (p .holders) = omega (arith, f .code, holders-52 deal trump opening all g (w .1)) in
-      let changed = rw (stood c g f (w .1), none v (omega arith)) at (many-set test noSeat (p .holders) c v place) in
-      omega (arith, changed, ap (howMany test) (put p c (f .code)))
+      let v = 4 + toPlay trump opening g in
+      let place : c < length (holders g) = omega (arith, f .code, holders-52 deal trump opening all g) in
+      let changed = rw (stood deal trump opening all c g f (w .1), none v (omega arith)) at (many-set test noSeat (holders g) c v place) in
+      omega (arith, changed)
 
   -- a seat holds what it was dealt less the cards it has played
   pub thirteen-less : (seat : ℕ) (g : List ℕ) → seat < 4 → AllPlayed deal trump opening g
       → cardsDealt seat (holders g) + playsOf trump opening seat g ≡ cardsDealt seat deal
-  unfolding cardsDealt playsOf positionOf startOf AllPlayed
+  unfolding cardsDealt playsOf holdersOf AllPlayed
   thirteen-less seat [] h w = omega arith
   thirteen-less seat (c ∷ g) h w =
       omega
@@ -96,7 +84,7 @@ module _ (deal : List ℕ) (trump opening : ℕ) (all : length deal ≡ 52) wher
 
   -- so at most 52 cards are played
   left : (g : List ℕ) → AllPlayed deal trump opening g → howMany (λ holder. ltb holder 4) (holders g) + cardsPlayed g ≡ howMany (λ holder. ltb holder 4) deal
-  unfolding cardsPlayed positionOf startOf AllPlayed
+  unfolding cardsPlayed holdersOf AllPlayed
   left [] w = omega arith
   left (c ∷ g) w =
       let more = rw (lt-ltb (toPlay trump opening g) 4 (turn-seat trump opening g)) at (counted (λ holder. ltb holder 4) c g w (λ k n. le-ltb k 4 n)) in
@@ -113,7 +101,8 @@ module _ (deal : List ℕ) (trump opening : ℕ) (all : length deal ≡ 52) wher
     turn-plays g =
         let seat = toPlay trump opening g in
         let k = fewer-than-four g in
-        let past : ltb (behind seat (leader trump opening g)) (cardsInTrick g) ≡ false = le-ltb (behind seat (leader trump opening g)) (cardsInTrick g) (omega arith) in
+        let past : ltb (behind seat (leader trump opening g)) (cardsInTrick g)
+        ≡ false = le-ltb (behind seat (leader trump opening g)) (cardsInTrick g) (omega arith) in
         let all = rw past at (plays-law trump opening seat g (turn-seat trump opening g)) in
         omega arith
 
@@ -126,13 +115,14 @@ module _ (deal : List ℕ) (trump opening : ℕ) (all : length deal ≡ 52) wher
         let rest = and-right (not (eqb (cardsInTrick g) 0)) (not (isOf suit c) && someBelow 52 has) r in
         let other = not-true (isOf suit c) (and-left (not (isOf suit c)) (someBelow 52 has) rest) in
         let d = below-some has 52 (and-right (not (isOf suit c)) (someBelow 52 has) rest) in
-        let n = holders-52 deal trump opening all g (w .1) in
+        let n = holders-52 deal trump opening all g in
         let f = fair trump opening deal g c (w .0) in
         let mine : ℕ → Bool = λ (holder : ℕ). eqb holder seat in
-        let at-c : mine (getD (holders g) c noSeat) ≡ true = eq-eqb (getD (holders g) c noSeat) seat (stood c g f (w .1)) in
+        let at-c : mine (getD (holders g) c noSeat) ≡ true = eq-eqb (getD (holders g) c noSeat) seat (stood deal trump opening all c g f (w .1)) in
         let at-d : mine (getD (holders g) (d .0) noSeat) ≡ true =
         holds-law deal trump opening all g (w .1) seat (d .0) (turn-seat trump opening g) ∙ and-right (isOf suit (d .0)) (holds deal g seat (d .0)) (d .2) in
         let differ : d .0 ≡ c → ⊥ =
         λ e. not-both (isOf suit c) (rw e at (and-left (isOf suit (d .0)) (holds deal g seat (d .0)) (d .2))) other in
-        let two = two-places mine noSeat 4 (ne-eqb 4 seat (λ e. omega (arith, turn-seat trump opening g))) (holders g) c (d .0) (omega (arith, f .code)) (omega (arith, d .1)) differ at-c at-d in
+        let two = two-places mine noSeat 4 (ne-eqb 4 seat (λ e. omega (arith, turn-seat trump opening g))) (holders g) c (d .0) (omega (arith, f .code))
+        (omega (arith, d .1)) differ at-c at-d in
         omega (arith, two, thirteen-less seat g (turn-seat trump opening g) (w .1), turn-plays g, dealt seat (turn-seat trump opening g))

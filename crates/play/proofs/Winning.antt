@@ -1,18 +1,21 @@
 -- Law 44's winning card and winner of a trick, one card at a time: the card that wins so far, and one more card.
 -- A trick is written latest card first. Assumes nothing.
-use Prim.Native.Nat.{ℕ, zero, suc, _≤_, _<_, max}
-use mathlib.Core.Path.{_≡_, refl, sym, ap, _∙_, subst}
-use mathlib.Core.Bool.{Bool, true, false, _||_}
+use Prim.Native.Nat.{ℕ, max}
+use mathlib.Core.Path.{_≡_, refl, sym, _∙_, subst}
+use mathlib.Core.Bool.{Bool, true, false}
+use mathlib.Core.Logic.{_⊎_, inl, inr}
 use mathlib.Core.List.{List, [], _∷_}
 use native.Mathlib.Nat.{max-eq-left, max-eq-right, max-zero, le-of-lt}
-use native.Mathlib.Omega.{arith}
-use borrow.Author.Tests.{leb-true, leb-false, eqb-true, eqb-false, eq-eqb, ne-eqb, lt-ltb, le-ltb, ltb-true, ltb-false}
+use borrow.Author.Tests.{leb-true, leb-false, eqb-true, eqb-false, eq-eqb, ne-eqb, ltb-true, ltb-false}
 use lib.Dec.{eqb, ltb, leb}
 use Rattle.laws.specs.Choice.{if_then_else_, some}
 use Rattle.laws.specs.Cards.{suitOf, clockwise}
 use Rattle.laws.specs.Law44.{cardsPlayed, suitLed, isOf, highest, winningCard, playerOf, winner, isPlayed}
 use Rattle.laws.proofs.Tests.{by-test, not-both, or-left, or-right}
-use Rattle.play.specs.Trick.{beatsOf}
+
+-- a card beats the best one so far: it is higher in the same suit, or a trump on another suit
+unfoldable pub beatsOf : ℕ → ℕ → ℕ → Bool
+beatsOf trump best card = if eqb (suitOf card) (suitOf best) then ltb best card else eqb (suitOf card) trump
 
 -- ---- the highest card of a suit
 pub highest-none : (s : ℕ) (t : List ℕ) → some (isOf s) t ≡ false → highest s t ≡ 0
@@ -96,6 +99,13 @@ module _ (trump d : ℕ) (t : List ℕ) where
       (λ (q : some (isOf trump) (d ∷ t) ≡ true). rw (ruffed q) (highest-among trump (d ∷ t) q .played))
       (λ (q : some (isOf trump) (d ∷ t) ≡ false). rw (plain q) (highest-among (suitLed (d ∷ t)) (d ∷ t) (led-some d t) .played))
 
+  -- the winning card is a trump, or of the suit led
+  pub winning-suit : (suitOf (winningCard trump (d ∷ t)) ≡ trump) ⊎ (suitOf (winningCard trump (d ∷ t)) ≡ suitLed (d ∷ t))
+  winning-suit =
+      by-test (some (isOf trump) (d ∷ t))
+      (λ (q : some (isOf trump) (d ∷ t) ≡ true). inl (rw (ruffed q) (highest-among trump (d ∷ t) q .suit)))
+      (λ (q : some (isOf trump) (d ∷ t) ≡ false). inr (rw (plain q) (highest-among (suitLed (d ∷ t)) (d ∷ t) (led-some d t) .suit)))
+
   module _ (c : ℕ) where
     abbrev now : Bool → ℕ
     now b = if b then c else winningCard trump (d ∷ t)
@@ -115,9 +125,17 @@ module _ (trump d : ℕ) (t : List ℕ) where
         let w = highest-among (suitLed (d ∷ t)) (d ∷ t) (led-some d t) .suit in
         rw e (by-test (isOf trump c)
         (λ (q : isOf trump c ≡ true).
-        rw (q, highest-none trump (d ∷ t) e, max-zero c, other-suit trump c (highest (suitLed (d ∷ t)) (d ∷ t)) (λ h. led-no-trump e (sym w ∙ sym h ∙ eqb-true (suitOf c) trump q)), q))
+        rw (
+          q,
+          highest-none trump (d ∷ t) e,
+          max-zero c,
+          other-suit trump c (highest (suitLed (d ∷ t)) (d ∷ t))
+              (λ h. led-no-trump e (sym w ∙ sym h ∙ eqb-true (suitOf c) trump q)),
+          q,
+        ))
         (λ (q : isOf trump c ≡ false). rw q (by-test (isOf (suitLed (d ∷ t)) c)
-        (λ (r : isOf (suitLed (d ∷ t)) c ≡ true). rw r (same-suit trump c (highest (suitLed (d ∷ t)) (d ∷ t)) (suitLed (d ∷ t)) (eqb-true (suitOf c) (suitLed (d ∷ t)) r) w))
+        (λ (r : isOf (suitLed (d ∷ t)) c ≡ true). rw r
+        (same-suit trump c (highest (suitLed (d ∷ t)) (d ∷ t)) (suitLed (d ∷ t)) (eqb-true (suitOf c) (suitLed (d ∷ t)) r) w))
         (λ (r : isOf (suitLed (d ∷ t)) c ≡ false).
         rw (r, other-suit trump c (highest (suitLed (d ∷ t)) (d ∷ t)) (λ h. eqb-false (suitOf c) (suitLed (d ∷ t)) r (h ∙ w)), q)))))
 

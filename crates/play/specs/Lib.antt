@@ -1,3 +1,4 @@
-pub mod Trick
+pub mod Words
 pub mod Position
+pub mod Told
 pub mod History

@@ -1,32 +1,55 @@
 // The play, a card at a time: a position by value that steps and returns itself.
 // A holder is a seat, 0 to 3, or 4 + the seat that played the card. Numbers from 52 on are no cards and change nothing.
-use deal::holds_suit;
+mod told;
+mod words;
+
+use crate::words::CARDS;
+use crate::words::bit;
+use crate::words::card_bit;
+use crate::words::choose;
+use crate::words::entered;
+use crate::words::greater;
+use crate::words::with_bit;
+use laws::ACCEPTED;
+use laws::CARD_NOT_HELD;
+use laws::NO_CARD;
 ghost use mathlib.Core.Path.{_≡_};
-ghost use Rattle.laws.specs.Choice.{if_then_else_};
-ghost use lib.Dec.{leb};
+ghost use Prim.Native.Nat.{_<_};
+ghost use Rattle.play.specs.Words.{bitOf};
 ghost use Rattle.play.specs.Position.{
   putPlayed,
-  oneMore,
-  withTrick,
-  withRevoke,
-  revokeByte,
   startOf,
-  revokeFrom,
+  turnOf,
+  handOf,
+  couldFollow,
+  worthOf,
+  revokesWith,
   verdictOf,
   verdictNumber,
+  withLead,
+  withCard,
+  withTrick,
   step,
-  byteNext,
 };
-ghost use Rattle.play.specs.Trick.{freshTrick, turnOf, beatsOf, takes, afterCard};
 
-// The trick under way: how many cards it has, the suit led, the card that wins so far and who played it. Between tricks it has no card.
-pub struct Trick {
-    pub trump: u8,
-    pub leader: u8,
-    pub cards: u8,
-    pub led: u8,
-    pub best: u8,
-    pub best_by: u8,
+// What the code keeps of the play. A word of entries has the last entry lowest.
+pub struct Play {
+    // Who holds each card.
+    pub holders: [u8; 52],
+    // The hands as they were dealt, a bit for each card, and the cards that nobody has played.
+    pub dealt: [u64; 4],
+    pub left: u64,
+    pub trump: u64,
+    // How many cards were played; who led to the trick under way, or leads to the next.
+    pub played: u64,
+    pub leader: u64,
+    // Of the trick under way: the suit led, and the greatest worth of a card, 0 before the first.
+    pub led: u64,
+    pub best: u64,
+    // Four bits for each complete trick: its winner 2, and the suit led 2. Above them stands who led first.
+    pub tricks: u64,
+    // A bit for each card played: 1 for a revoke.
+    pub revoked: u64,
 }
 
 // The complete tricks: how many, those of each side, and their winners.
@@ -42,181 +65,11 @@ pub struct Revokes {
     pub list: [u8; 36],
 }
 
-pub struct Play {
-    pub holders: [u8; 52],
-    pub trick: Trick,
-    pub tricks: Tricks,
-    pub revokes: Revokes,
-}
-
 // What is said of a card before it is played.
 pub enum CardVerdict {
     Playable,
     NoCard,
     NotHeld,
-}
-
-fn choose(test: bool, a: u8, b: u8) -> u8
-    ensures { λ r. ⌜ r ≡ (if test then a else b) ⌝ }
-{
-    if test { a } else { b }
-}
-
-// Whether a card beats the best one so far: higher in its suit, or a trump on another suit.
-fn beats(trump: u8, best: u8, card: u8) -> bool
-    ensures { λ r. ⌜ r ≡ beatsOf trump best card ⌝ }
-{
-    if card / 13 == best / 13 {
-        return best < card;
-    }
-    card / 13 == trump
-}
-
-impl Trick {
-    pub fn new(trump: u8, leader: u8) -> Self
-        ensures { λ r. ⌜ r ≡ freshTrick trump leader ⌝ }
-    {
-        Trick {
-            trump,
-            leader,
-            cards: 0,
-            led: 0,
-            best: 0,
-            best_by: leader,
-        }
-    }
-
-    // The seat at turn.
-    pub fn turn(self) -> u8
-        ensures { λ r. ⌜ r ≡ turnOf self ⌝ }
-    {
-        (self.leader % 4 + self.cards % 4) % 4
-    }
-
-    // Whether a card would win so far.
-    fn taken_by(self, card: u8) -> bool
-        ensures { λ r. ⌜ r ≡ takes self card ⌝ }
-    {
-        if self.cards == 0 {
-            return true;
-        }
-        beats(self.trump, self.best, card)
-    }
-
-    // The trick with a card played to it by the seat at turn; after the fourth card, the next trick.
-    pub fn with_card(mut self, card: u8) -> Self
-        ensures { λ r. ⌜ r ≡ afterCard self card ⌝ }
-    {
-        let taken = self.taken_by(card);
-        let by = choose(taken, self.turn(), self.best_by);
-        if 3 <= self.cards {
-            return Trick::new(self.trump, by);
-        }
-        self.led = choose(self.cards == 0, card / 13, self.led);
-        self.best = choose(taken, card, self.best);
-        self.best_by = by;
-        self.cards += 1;
-        self
-    }
-}
-
-// The holders with one place changed: the card was played by the seat.
-pub fn with_played(mut holders: [u8; 52], card: u8, seat: u8) -> [u8; 52]
-    ensures { λ r. ⌜ r ≡ putPlayed holders card seat ⌝ }
-{
-    if 52 <= card {
-        return holders;
-    }
-    let at = card as usize;
-    holders[at] = 4 + seat % 4;
-    holders
-}
-
-// One more trick; there are thirteen.
-fn one_more(n: u8) -> u8
-    ensures { λ r. ⌜ r ≡ oneMore n ⌝ }
-{
-    if n < 13 { n + 1 } else { n }
-}
-
-impl Tricks {
-    // One more trick, with its winner.
-    pub fn with_trick(mut self, seat: u8) -> Self
-        ensures { λ r. ⌜ r ≡ withTrick self seat ⌝ }
-    {
-        if 13 <= self.count {
-            return self;
-        }
-        let at = self.count as usize;
-        let side = (seat % 2) as usize;
-        let won = one_more(self.won[side]);
-        self.won[side] = won;
-        self.winners[at] = seat;
-        self.count += 1;
-        self
-    }
-
-    // The tricks, with one more where a card completed it.
-    fn after(self, complete: bool, seat: u8) -> Self
-        ensures { λ r. ⌜ r ≡ (if complete then withTrick self seat else self) ⌝ }
-    {
-        if complete {
-            return self.with_trick(seat);
-        }
-        self
-    }
-}
-
-// A revoke as a byte: trick 4 bits, seat 2, suit led 2.
-fn revoke_byte(trick: u8, seat: u8, suit: u8) -> u8
-    ensures { λ r. ⌜ r ≡ revokeByte trick seat suit ⌝ }
-{
-    trick % 16 * 16 + seat % 4 * 4 + suit % 4
-}
-
-// The byte of a revoke at the next card.
-pub fn next_byte(tricks: Tricks, t: Trick) -> u8
-    ensures { λ r. ⌜ r ≡ byteNext tricks t ⌝ }
-{
-    revoke_byte(one_more(tricks.count), t.turn(), t.led)
-}
-
-impl Revokes {
-    // One more revoke.
-    pub fn with_revoke(mut self, byte: u8) -> Self
-        ensures { λ r. ⌜ r ≡ withRevoke self byte ⌝ }
-    {
-        if 36 <= self.count {
-            return self;
-        }
-        let at = self.count as usize;
-        self.list[at] = byte;
-        self.count += 1;
-        self
-    }
-
-    // The revokes, with one more where a card was one.
-    fn after(self, revoked: bool, byte: u8) -> Self
-        ensures { λ r. ⌜ r ≡ (if revoked then withRevoke self byte else self) ⌝ }
-    {
-        if revoked {
-            return self.with_revoke(byte);
-        }
-        self
-    }
-}
-
-// Whether a card would be a revoke, by the hand of the seat at turn before the card leaves it.
-pub fn is_revoke(hand: u64, t: Trick, card: u8) -> bool
-    ensures { λ r. ⌜ r ≡ revokeFrom hand t card ⌝ }
-{
-    if t.cards == 0 {
-        return false;
-    }
-    if card / 13 == t.led {
-        return false;
-    }
-    holds_suit(hand, t.led)
 }
 
 impl CardVerdict {
@@ -225,34 +78,67 @@ impl CardVerdict {
         ensures { λ r. ⌜ r ≡ verdictNumber self ⌝ }
     {
         match self {
-            CardVerdict::Playable => 0,
-            CardVerdict::NoCard => 11,
-            CardVerdict::NotHeld => 12,
+            CardVerdict::Playable => ACCEPTED,
+            CardVerdict::NoCard => NO_CARD,
+            CardVerdict::NotHeld => CARD_NOT_HELD,
         }
     }
 }
 
+// The holders with one place changed: who held the card has played it. Every place is compared, and none is stored to apart.
+pub fn with_played(mut holders: [u8; 52], card: u8) -> [u8; 52]
+    ensures { λ r. ⌜ r ≡ putPlayed holders card ⌝ }
+{
+    let cards = CARDS;
+    let mut i: usize = 0;
+    while i < 52 {
+        holders[i] = holders[i] | choose(cards[i] == card, 4, 0);
+        i += 1;
+    }
+    holders
+}
+
 impl Play {
-    // The position before the first card, which `opening` leads.
-    pub fn new(holders: [u8; 52], trump: u8, opening: u8) -> Self
-        ensures { λ r. ⌜ r ≡ startOf holders trump opening ⌝ }
+    // The position before the first card, which `opening` leads; `dealt` has the hands of the holders.
+    pub fn new(holders: [u8; 52], dealt: [u64; 4], trump: u8, opening: u8) -> Self
+        ensures { λ r. ⌜ r ≡ startOf holders dealt trump opening ⌝ }
     {
-        let trick = Trick::new(trump, opening);
-        let tricks = Tricks {
-            count: 0,
-            won: [0u8; 2],
-            winners: [0u8; 13],
-        };
-        let revokes = Revokes {
-            count: 0,
-            list: [0u8; 36],
-        };
+        let first = (opening % 4) as u64;
         Play {
             holders,
-            trick,
-            tricks,
-            revokes,
+            dealt,
+            left: 4503599627370495,
+            trump: trump as u64,
+            played: 0,
+            leader: first,
+            led: 0,
+            best: 0,
+            tricks: first * 4,
+            revoked: 0,
         }
+    }
+
+    // The seat at turn.
+    pub fn turn(self) -> u64
+        ensures { λ r. ⌜ r ≡ turnOf self ⌝ }
+    {
+        (self.leader % 4 + self.played % 4) % 4
+    }
+
+    // The hand of the seat at turn.
+    fn hand(self) -> u64
+        ensures { λ r. ⌜ r ≡ handOf self ⌝ }
+    {
+        let dealt = self.dealt;
+        let own = self.turn() as usize;
+        dealt[own] & self.left
+    }
+
+    // Whether the seat at turn holds a card of the suit led.
+    fn could_follow(self) -> bool
+        ensures { λ r. ⌜ r ≡ couldFollow self ⌝ }
+    {
+        deal::holds_suit(self.hand(), (self.led % 4) as u8)
     }
 
     // Whether a card may be played by the seat at turn.
@@ -263,9 +149,8 @@ impl Play {
             return CardVerdict::NoCard;
         }
         let at = card as usize;
-        let t = self.trick;
-        let seat = t.turn();
-        if self.holders[at] == seat {
+        let seat = self.turn();
+        if self.holders[at] as u64 == seat {
             return CardVerdict::Playable;
         }
         CardVerdict::NotHeld
@@ -278,6 +163,64 @@ impl Play {
         self.verdict(card).number()
     }
 
+    // The position with the suit led, where the card is the first of its trick.
+    fn with_lead(mut self, card: u8) -> Self
+        ensures { λ r. ⌜ r ≡ withLead self card ⌝ }
+    {
+        if self.played % 4 == 0 {
+            self.led = (card / 13) as u64;
+        }
+        self
+    }
+
+    // The worth of a card in the trick: a trump is above the suit led, that above any other, then the higher card; the seat stands lowest.
+    fn worth(self, card: u8) -> u64
+        ensures { λ r. ⌜ r ≡ worthOf self card ⌝ }
+    {
+        let suit = (card / 13) as u64;
+        let trump = bit(suit == self.trump);
+        let on = bit(suit == self.led);
+        trump * 512 + on * 256 + card as u64 * 4 + self.turn()
+    }
+
+    // 1 for a card that is a revoke, else 0.
+    fn revoke_bit(self, card: u8) -> u64
+        ensures { λ r. ⌜ r ≡ bitOf (revokesWith self card) ⌝ }
+    {
+        let off = bit((card / 13) as u64 != self.led);
+        off * bit(self.could_follow())
+    }
+
+    // The position with the card on the table: out of its hand, a revoke or none, the best of the trick or not.
+    fn with_card(mut self, card: u8) -> Self
+        requires { ⌜ card < 52 ⌝ }
+        ensures { λ r. ⌜ r ≡ withCard self card ⌝ }
+    {
+        let worth = self.worth(card);
+        let revoke = self.revoke_bit(card);
+        let held = self.holders;
+        let after = with_played(held, card);
+        self.holders = after;
+        self.left = self.left ^ card_bit(card);
+        self.revoked = with_bit(self.revoked, revoke);
+        self.best = greater(self.best, worth);
+        self.played = self.played % 64 + 1;
+        self
+    }
+
+    // The position with the trick counted, where it is complete: its winner leads to the next.
+    fn with_trick(mut self) -> Self
+        ensures { λ r. ⌜ r ≡ withTrick self ⌝ }
+    {
+        if self.played % 4 == 0 {
+            let winner = self.best % 4;
+            self.leader = winner;
+            self.tricks = entered(self.tricks, winner, self.led);
+            self.best = 0;
+        }
+        self
+    }
+
     // The position with one card more, played by the seat at turn.
     pub fn play(mut self, card: u8) -> Self
         ensures { λ r. ⌜ r ≡ step self card ⌝ }
@@ -285,20 +228,8 @@ impl Play {
         if 52 <= card {
             return self;
         }
-        let t = self.trick;
-        let seat = t.turn();
-        let held = self.holders;
-        let tricks = self.tricks;
-        let revokes = self.revokes;
-        let hand = deal::hand(held, seat);
-        let holders = with_played(held, card, seat);
-        let revokes = revokes.after(is_revoke(hand, t, card), next_byte(tricks, t));
-        let next = t.with_card(card);
-        let tricks = tricks.after(3 <= t.cards, next.leader);
-        self.holders = holders;
-        self.trick = next;
-        self.tricks = tricks;
-        self.revokes = revokes;
-        self
+        self = self.with_lead(card);
+        self = self.with_card(card);
+        self.with_trick()
     }
 }

@@ -86,7 +86,8 @@ fn show_claim(ts: Tricks, rs: Revokes, claim: u8, left: u8) {
 
 // Hearts are trumps and West leads; South is declarer and North dummy.
 fn show(cards: &[u8], claim: u8, left: u8) {
-    let mut p = Play::new(deal(), 2, 3);
+    let holders = deal();
+    let mut p = Play::new(holders, deal::hands(holders), 2, 3);
     let mut i = 0;
     while i < cards.len() {
         let card = cards[i];
@@ -102,8 +103,8 @@ fn show(cards: &[u8], claim: u8, left: u8) {
         p = p.play(card);
         i += 1;
     }
-    let ts = p.tricks;
-    let rs = p.revokes;
+    let ts = p.tricks();
+    let rs = p.revokes();
     show_winners(ts);
     show_revokes(rs);
     show_sides(ts);

@@ -1,4 +1,4 @@
--- The judge accepts exactly the encodings of lawful parts, its number is 0 or a refusal with its place, and document 01's byte examples.
+-- The judge accepts exactly the encodings of lawful parts, its number is 0 or a refusal with its place, and the byte examples of docs/RULES.md.
 -- Assumes nothing.
 use Prim.Native.Nat.{ℕ, _≤_, _<_}
 use native.Mathlib.Omega.{arith}
@@ -51,7 +51,7 @@ module _ (bytes : List ℕ) (answer list : ℕ) where
       clash : {n place : ℕ} {p : Parts} (o : Outcome) → o ≡ refused n place → o ≡ accepted p → _≡_ {A = ℕ} 0 1
       clash o e f = cc
 
-  -- what is accepted was lent buffers of 01's sizes
+  -- what is accepted was lent buffers of at least 7 and 36 bytes
   pub lent-enough : (p : Parts) → judgeOf bytes answer list ≡ accepted p → (7 ≤ answer) × (36 ≤ list)
   lent-enough p q =
       by-test (ltb answer 7)
@@ -62,11 +62,12 @@ module _ (bytes : List ℕ) (answer list : ℕ) where
       (λ (b : ltb list 36 ≡ true). never (short-list enough (ltb-true list 36 b)) q)
       (λ (b : ltb list 36 ≡ false). (enough, ltb-false list 36 b)))
 
+  -- what is accepted is the encoding of lawful parts
+  pub accepted-lawful : Bytes bytes → (p : Parts) → judgeOf bytes answer list ≡ accepted p → Lawful p × (bytes ≡ encode p)
+  accepted-lawful small p q = let lent = lent-enough p q in accepts-parts answer list (lent .0) (lent .1) bytes small p .0 q
+
   accepted-20 : Bytes bytes → (p : Parts) → judgeOf bytes answer list ≡ accepted p → 20 ≤ length bytes
-  accepted-20 small p q =
-      let lent = lent-enough p q in
-      let w = accepts-parts answer list (lent .0) (lent .1) bytes small p .0 q in
-      rw (w .1) (at-least-20 p (w .0))
+  accepted-20 small p q = let w = accepted-lawful small p q in rw (w .1) (at-least-20 p (w .0))
 
   module _ (small : Bytes bytes) (ha : 7 ≤ answer) (hl : 36 ≤ list) where
     accepts : (numberOf (judgeOf bytes answer list) ≡ 0) ↔ ((p : Parts) × Lawful p × (bytes ≡ encode p))
@@ -80,7 +81,7 @@ unfolding encode packed
 bytes-encoded p = bytes-of _ _
 
 -- parts whose encoding the judge accepts as them are lawful
-by-judging : (p : Parts) → judgeOf (encode p) 7 36 ≡ accepted p → Lawful p
+pub by-judging : (p : Parts) → judgeOf (encode p) 7 36 ≡ accepted p → Lawful p
 by-judging p e = accepts-parts 7 36 (lit≤ tt) (lit≤ tt) (encode p) (bytes-encoded p) p .0 e .0
 
 pub demand-2-accepts : Demand2Accepts

@@ -1,4 +1,4 @@
--- Document 01's byte examples, by evaluating the judge's definitions. Assumes nothing.
+-- The byte examples of docs/RULES.md, by evaluating the judge's definitions. Assumes nothing.
 use Prim.Native.Nat.{_+_, _*_}
 use mathlib.Core.Path.{_≡_, refl}
 use mathlib.Core.Bool.{true, false}
@@ -33,7 +33,7 @@ pub record Judged : Type 0 where
 
 pub judged : Judged
 unfolding
-    Choice.howMany Choice.some Cards.clockwise Cards.cardsDealt Cards.firstShort Law2.dealer
+    Choice.howMany Choice.some Cards.clockwise Cards.cardsDealt Cards.firstWithoutThirteen Law2.dealer
     Auction.strainOf Auction.callPlace Auction.toCall Auction.lastBid Auction.lastBidder Auction.beforePasses
     Auction.bidByOpponents Auction.bidByOwnSide Auction.doubledOwnBid Auction.sufficient Auction.mayDouble Auction.mayRedouble
     Auction.passesInARow Auction.hasBid Auction.isOver Auction.passedOut Auction.allowed

@@ -7,7 +7,8 @@ use mathlib.Core.List.{List, [], _∷_, _++_}
 use lib.IntN.{ℤ}
 use lib.ListN.{length, length-append}
 use Rattle.laws.specs.Law78.{occurrences, matchpoints}
-use Rattle.laws.specs.Tally.{addRefusal, mergeRefusal, leaves, Tree, fresh, add, merge, CallOf, last, in-add, in-first, in-second, boardOf, listOf, refusalOf, added, OneBoard, AllValid, SameScores}
+use Rattle.laws.specs.Tally.{addRefusal, mergeRefusal, leaves, Tree, fresh, add, merge, CallOf, last}
+use Rattle.laws.specs.Tally.{in-add, in-first, in-second, boardOf, listOf, refusalOf, added, OneBoard, AllValid, SameScores}
 use Rattle.tally.specs.declared.Tally.{Tally}
 use Rattle.tally.specs.declared.Tallied.{Tallied}
 use Rattle.tally.specs.Tallies.{tallyOf, answerOf, freshOf, addOf, mergeOf}
@@ -42,7 +43,12 @@ sound (merge t u) =
     let m = listOf u in
     left-either (Sound (boardOf t)) (mergeRefusal (boardOf t) l (boardOf u) m) (l ++ m) l v
     (λ (e : mergeRefusal (boardOf t) l (boardOf u) m ≡ 0).
-    record { board = v .board; valid = valid-append l m (v .valid) (sound u .valid); room = omega (arith, length-append l m, merge-allowed (boardOf t) l (boardOf u) m e .1) })
+    record {
+      board = v .board;
+      valid = valid-append l m (v .valid) (sound u .valid);
+      room = omega
+          (arith, length-append l m, merge-allowed (boardOf t) l (boardOf u) m e .1);
+    })
 
 -- ---- one call, by its number
 answer-number : (r : ℕ) (x : Tally) → answerOf r x .refusal ≡ r
@@ -55,13 +61,15 @@ unfolding leaves answerOf
 answer-left zero b made l = refl
 answer-left (suc r) b made l = refl
 
-left-tally : (r b : ℕ) (made l : List ℤ) → leaves (answerOf r (tallyOf b made) .refusal) (answerOf r (tallyOf b made) .tally) (tallyOf b l) ≡ tallyOf b (leaves r made l)
+left-tally : (r b : ℕ) (made l : List ℤ)
+    → leaves (answerOf r (tallyOf b made) .refusal) (answerOf r (tallyOf b made) .tally) (tallyOf b l) ≡ tallyOf b (leaves r made l)
 unfolding leaves answerOf
 left-tally zero b made l = refl
 left-tally (suc r) b made l = refl
 
 -- what a call leaves, from what it answers and what it was given
-left-by : (a : Tallied) (x : Tally) (r b : ℕ) (made l : List ℤ) → a ≡ answerOf r (tallyOf b made) → x ≡ tallyOf b l → leaves (a .refusal) (a .tally) x ≡ tallyOf b (leaves r made l)
+left-by : (a : Tallied) (x : Tally) (r b : ℕ) (made l : List ℤ) → a ≡ answerOf r (tallyOf b made) → x ≡ tallyOf b l
+    → leaves (a .refusal) (a .tally) x ≡ tallyOf b (leaves r made l)
 left-by a x r b made l e f = rw (e, f) (left-tally r b made l)
 
 fresh-tally : (b : ℕ) → 1 ≤ b → b ≤ 127 → freshOf b ≡ answerOf 0 (tallyOf b [])
@@ -81,7 +89,8 @@ unfolding left boardOf listOf answerOf
 tally-left (fresh b from to) = ap (λ (a : Tallied). a .tally) (fresh-tally b from to)
 tally-left (add t s) =
     let l = listOf t in
-    left-by (addOf (left t) s) (left t) (addRefusal l s) (boardOf t) (l ++ (s ∷ [])) l (add-called (left t) (boardOf t) l s (sound t) (tally-left t)) (tally-left t)
+    left-by (addOf (left t) s) (left t) (addRefusal l s) (boardOf t) (l ++ (s ∷ [])) l (add-called (left t) (boardOf t) l s (sound t) (tally-left t))
+    (tally-left t)
 tally-left (merge t u) =
     let l = listOf t in
     let m = listOf u in
@@ -132,13 +141,15 @@ refused-last t r e = record { call = t; of = last; refused = λ z. omega (arith,
 refused-in : {t u : Tree} → ((call : Tree) → CallOf t call → CallOf u call) → Refusing t → Refusing u
 refused-in within w = record { call = w .call; of = within (w .call) (w .of); refused = w .refused }
 
-either-add : (t : Tree) (s : ℤ) (r : ℕ) → addRefusal (listOf t) s ≡ r → Refusing t ⊎ (listOf t ≡ added t) → Refusing (add t s) ⊎ (listOf (add t s) ≡ added (add t s))
+either-add : (t : Tree) (s : ℤ) (r : ℕ) → addRefusal (listOf t) s ≡ r → Refusing t ⊎ (listOf t ≡ added t)
+    → Refusing (add t s) ⊎ (listOf (add t s) ≡ added (add t s))
 unfolding refusalOf listOf added leaves
 either-add t s (suc r) e w = inl (refused-last (add t s) r e)
 either-add t s zero e (inl w) = inl (refused-in (λ k. in-add) w)
 either-add t s zero e (inr w) = inr (rw (e, w))
 
-either-merge : (t u : Tree) (r : ℕ) → mergeRefusal (boardOf t) (listOf t) (boardOf u) (listOf u) ≡ r → Refusing t ⊎ (listOf t ≡ added t) → Refusing u ⊎ (listOf u ≡ added u)
+either-merge : (t u : Tree) (r : ℕ) → mergeRefusal (boardOf t) (listOf t) (boardOf u) (listOf u) ≡ r → Refusing t ⊎ (listOf t ≡ added t)
+    → Refusing u ⊎ (listOf u ≡ added u)
     → Refusing (merge t u) ⊎ (listOf (merge t u) ≡ added (merge t u))
 unfolding refusalOf listOf added leaves
 either-merge t u (suc r) e v w = inl (refused-last (merge t u) r e)
@@ -213,7 +224,9 @@ taken b (merge t u) o v r =
 
 none-refused : (b : ℕ) (t : Tree) → Plain b t → NoneRefused b t
 unfolding SameScores
-none-refused b t p = let k = taken b t (p .one-board) (p .valid) (p .room) in record { none = none-refusing t (k .none); board = k .board; all = λ s. ap (occurrences s) (k .list) }
+none-refused b t p =
+    let k = taken b t (p .one-board) (p .valid)
+    (p .room) in record { none = none-refusing t (k .none); board = k .board; all = λ s. ap (occurrences s) (k .list) }
 
 -- ---- the same scores, each as often: the same tally
 same-tally : (b : ℕ) (t u : Tree) → Plain b t → Plain b u → SameScores (added t) (added u) → left t ≡ left u

@@ -1,6 +1,8 @@
 pub mod Examples
 pub mod Demand2Records
 pub mod Demand2Accepts
+pub mod Lengths
+pub mod BestTotal
 pub mod Demand1
 pub mod Widths
 pub mod Demand2Judgement

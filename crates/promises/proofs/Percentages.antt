@@ -15,7 +15,8 @@ use lib.ListN.{length}
 use Rattle.laws.specs.Refusals.{Answer, refused, answered, malformedTally, invalidScore}
 use Rattle.laws.specs.Law77.{validScore}
 use Rattle.laws.specs.Law78.{occurrences, nsMatchpoints, ewMatchpoints}
-use Rattle.laws.specs.Percentages.{mostMatchpoints, asFloat, percentage, nsPercentage, ewPercentage, Cell, played, awarded, alone, cellOf, cellAsked, isAward, award}
+use Rattle.laws.specs.Percentages.{mostMatchpoints, asFloat, percentage, nsPercentage, ewPercentage}
+use Rattle.laws.specs.Percentages.{Cell, played, awarded, alone, cellOf, cellAsked, isAward, award}
 use Rattle.laws.specs.CellSheet.{hundredths}
 use Rattle.laws.specs.Tally.{Tree, listOf}
 use Rattle.laws.proofs.Comparisons.{ns-counts, below-equal, both-most}

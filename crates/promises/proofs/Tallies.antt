@@ -55,7 +55,8 @@ of-add t s = with-none (if wellFormed t then addRefusal (scoresIn t) s else 17) 
 of-merge : (a b : Tally) → WithNone (mergeOf a b)
 unfolding mergeOf
 of-merge a b =
-    with-none (if wellFormed a && wellFormed b then mergeRefusal (a .board) (scoresIn a) (b .board) (scoresIn b) else 17) (tallyOf (a .board) (scoresIn a ++ scoresIn b))
+    with-none (if wellFormed a && wellFormed b then mergeRefusal (a .board) (scoresIn a) (b .board) (scoresIn b) else 17)
+    (tallyOf (a .board) (scoresIn a ++ scoresIn b))
 
 pub none-malformed : wellFormed noTally ≡ false
 unfolding wellFormed tallyOf tallyWith freshRefusal
@@ -118,7 +119,8 @@ both-well a b v w =
     let va = sound a v .valid in
     let vb = sound b w .valid in
     ap (λ (n : ℕ). tallyOf n (scoresIn a ++ scoresIn b)) (sym e)
-    ∙ one-tally (b .board) (scoresIn a ++ scoresIn b) (scoresIn b ++ scoresIn a) (valid-append (scoresIn a) (scoresIn b) va vb) (valid-append (scoresIn b) (scoresIn a) vb va) (same-turned (scoresIn a) (scoresIn b))))
+    ∙ one-tally (b .board) (scoresIn a ++ scoresIn b) (scoresIn b ++ scoresIn a) (valid-append (scoresIn a) (scoresIn b) va vb)
+    (valid-append (scoresIn b) (scoresIn a) vb va) (same-turned (scoresIn a) (scoresIn b))))
 
 commutes : (a b : Tally) → mergeOf a b ≡ mergeOf b a
 unfolding mergeOf answerOf
@@ -134,7 +136,8 @@ commutes a b =
     (λ (w : wellFormed b ≡ false). rw (v, w)))
 
 -- ---- lists merged
-list-merged : (b : ℕ) (l m : List ℤ) → Sound b l → Sound b m → length l + length m ≤ 128 → mergeOf (tallyOf b l) (tallyOf b m) ≡ record { refusal = 0; tally = tallyOf b (l ++ m) }
+list-merged : (b : ℕ) (l m : List ℤ) → Sound b l → Sound b m → length l + length m ≤ 128
+    → mergeOf (tallyOf b l) (tallyOf b m) ≡ record { refusal = 0; tally = tallyOf b (l ++ m) }
 unfolding answerOf
 list-merged b l m v w r = merge-list b l b m v w ∙ rw (allowed-merge b l b m refl r)
 
@@ -207,7 +210,8 @@ fit-or-none a b =
     (λ (w : wellFormed b ≡ false). inr (ap (λ (x : Tallied). x .tally) (sym (second-malformed a b v w)))))
     (λ (v : wellFormed a ≡ false). inr (ap (λ (x : Tallied). x .tally) (sym (first-malformed a b v))))
   where
-    by-refusal : wellFormed a ≡ true → wellFormed b ≡ true → (n : ℕ) → mergeRefusal (a .board) (scoresIn a) (b .board) (scoresIn b) ≡ n → Fit a b ⊎ (a ∪ b ≡ noTally)
+    by-refusal : wellFormed a ≡ true → wellFormed b ≡ true → (n : ℕ) → mergeRefusal (a .board) (scoresIn a) (b .board) (scoresIn b) ≡ n
+        → Fit a b ⊎ (a ∪ b ≡ noTally)
     by-refusal v w zero e =
         let m = merge-allowed (a .board) (scoresIn a) (b .board) (scoresIn b) e in
         inl (record { first = v; second = w; one-board = m .0; room = m .1 })
@@ -234,7 +238,9 @@ three-fit : (a b c : Tally) → Fit a b → Fit (a ∪ b) c → Three a b c
 three-fit a b c f g =
     let l = scoresIn a ++ scoresIn b in
     let e : a ∪ b ≡ tallyOf (a .board) l = merged-tally a b (a .board) f refl in
-    let s = sound-append (a .board) (scoresIn a) (scoresIn b) (sound-of a (a .board) (f .first) refl) (sound-of b (a .board) (f .second) (sym (f .one-board))) (f .room) in
+    let s =
+    sound-append (a .board) (scoresIn a) (scoresIn b) (sound-of a (a .board) (f .first) refl) (sound-of b (a .board) (f .second) (sym (f .one-board)))
+    (f .room) in
     let n : resultsIn (a ∪ b) ≡ length l = rw e (length-tally (a .board) l (s .valid) (s .room)) in
     let m : length l ≡ resultsIn a + resultsIn b = length-append (scoresIn a) (scoresIn b) in
     let d : (a ∪ b) .board ≡ a .board = rw e (tally-board (a .board) l) in
@@ -288,7 +294,8 @@ module _ (t : Tally) (w : wellFormed t ≡ true) where
   empty-second = commutes t (tallyOf (t .board) []) ∙ empty-first
 
 merging : Merging
-merging = record { accepts = accepts; commutes = commutes; associates = associates; together = together; empty-first = empty-first; empty-second = empty-second }
+merging =
+    record { accepts = accepts; commutes = commutes; associates = associates; together = together; empty-first = empty-first; empty-second = empty-second }
 
 pub of-tallies : OfTallies
 of-tallies = record { described = described; refused-none = refused-none; merging = merging; matchpoints = matchpoints }

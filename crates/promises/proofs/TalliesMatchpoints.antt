@@ -47,7 +47,15 @@ square : (l : List ℤ) → sumFor (λ (s : ℤ). comparisons s l) l ≡ length 
 unfolding sumFor comparisons
 square [] = refl
 square (x ∷ l) =
-    omega (arith, with-self x, sum-and (λ (s : ℤ). comparison s x) (λ (s : ℤ). comparisons s l) l, round x l, square l, mul-suc (suc (length l)) (length l), suc-mul (length l) (length l))
+    omega (
+      arith,
+      with-self x,
+      sum-and (λ (s : ℤ). comparison s x) (λ (s : ℤ). comparisons s l) l,
+      round x l,
+      square l,
+      mul-suc (suc (length l)) (length l),
+      suc-mul (length l) (length l),
+    )
 
 one-less : (n k : ℕ) → n * n ≡ n + k → k ≡ n * (n - 1)
 one-less zero k e = omega arith

@@ -25,7 +25,7 @@ pub record Refusal (number : ℕ) : Type 0 where
   pub to-16 : refusal ≤ 16
   pub places : place < 1024
 
--- document 01's first record: North holds the clubs, East the diamonds, South the hearts, West the spades, and four players pass
+-- the first record of docs/RULES.md's examples: North holds the clubs, East the diamonds, South the hearts, West the spades, and four players pass
 abbrev pub fourPasses : List ℕ
 fourPasses =
     0x02 ∷ 0x01 ∷ 0x00 ∷ 0x00 ∷ 0x00 ∷ 0x15 ∷ 0x55 ∷ 0x55 ∷ 0x5A ∷ 0xAA ∷ 0xAA ∷ 0xAB ∷ 0xFF ∷ 0xFF ∷ 0xFF ∷ 0x02 ∷ 0x00 ∷ 0x00 ∷ 0x00 ∷ 0x00 ∷ []
@@ -70,7 +70,7 @@ pub record Demand2Accepts : Type 0 where
   pub short-list : (bytes : List ℕ) (answer list : ℕ) → 7 ≤ answer → list < 36 → judgeOf bytes answer list ≡ refused shortBuffer 1
   -- an accepted record has at least 20 bytes
   pub at-least-20 : (bytes : List ℕ) → Bytes bytes → (answer list : ℕ) (p : Parts) → judgeOf bytes answer list ≡ accepted p → 20 ≤ length bytes
-  -- lawful parts that are passed out, in document 01's bytes; one byte less is 2, one more is 16
+  -- lawful parts that are passed out, in the bytes of docs/RULES.md; one byte less is 2, one more is 16
   pub passed-out : Lawful passedOutParts × (passedOut (reverse (passedOutParts .calls)) ≡ true) × (fourPasses ≡ encode passedOutParts)
   pub one-byte-less : numberOf (judgeOf (take 19 fourPasses) 7 36) ≡ 2 * 1024
   pub one-byte-more : numberOf (judgeOf (fourPasses ++ (0 ∷ [])) 7 36) ≡ 16 * 1024

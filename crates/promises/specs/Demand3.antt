@@ -1,4 +1,4 @@
--- Demand 3: what is promised of every tree of tally calls, by document 01's rules for trees and the definitions that the calls' contracts cite.
+-- Demand 3: what is promised of every tree of tally calls, by the rules for trees (docs/RULES.md, 11) and the definitions that the calls' contracts cite.
 -- Assumes nothing.
 use Prim.Native.Nat.{ℕ, _≤_, _<_}
 use mathlib.Core.Path.{_≡_}

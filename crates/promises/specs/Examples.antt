@@ -1,4 +1,4 @@
--- Examples at the edges, P1 to P12 of document 01, as one table.
+-- Examples at the edges, P1 to P12 of docs/RULES.md, as one table.
 -- Assumes nothing.
 use Prim.Native.Nat.{ℕ}
 use mathlib.Core.Path.{_≡_}

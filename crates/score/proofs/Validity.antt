@@ -1,17 +1,16 @@
 -- A score's validity by the tests that `valid` makes. Assumes nothing.
-use Prim.Native.Nat.{ℕ, zero, suc, _≤_, _<_, _-_, _/_, _%_, _^_}
-use mathlib.Core.Path.{_≡_, refl, sym, _∙_}
+use Prim.Native.Nat.{ℕ, suc, _≤_, _+_, _-_, _%_}
+use mathlib.Core.Path.{_≡_, refl}
 use mathlib.Core.Bool.{true, false}
-use native.Mathlib.Nat.{div-le-self}
 use native.Mathlib.Omega.{arith}
-use borrow.Author.Tests.{lt-leb, le-leb, ltb-true, ltb-false, leb-true, ne-eqb}
-use lib.Dec.{leb, eqb, eqb·suc-zero}
-use lib.IntN.{ℤ, pos, negsuc, negℤ, natAbs}
-use lib.Signed.{mag, ltZ, quotZ, remZ}
+use borrow.Author.Tests.{lt-leb, le-leb, le-ltb, ltb-true, ltb-false, leb-true, eq-eqb, eqb-true}
+use lib.Dec.{leb, eqb}
+use lib.IntN.{ℤ, pos, negsuc, natAbs, _+ℤ_}
+use lib.Signed.{ltZ}
 use mir.Syntax.{w16}
-use mir.Val.{SFits, ofZ}
+use mir.Val.{SFits}
 use Rattle.laws.specs.Law77.{validScore}
-use Rattle.laws.proofs.Tests.{and-left}
+use Rattle.laws.proofs.Tests.{and-left, same-test}
 
 -- ---- the three ways out of `valid`
 pub too-low : (z : ℤ) → ltZ z (negsuc 7599) ≡ true → false ≡ validScore z
@@ -19,28 +18,42 @@ unfolding validScore
 too-low (pos n) e = cc
 too-low (negsuc n) e = rw (lt-leb (suc n) 7600 (omega (arith, ltb-true 7599 n e)))
 
-pub too-high : (z : ℤ) → ltZ (pos 7600) z ≡ true → false ≡ validScore z
+pub too-high : (z : ℤ) (most : ℕ) → 7600 ≤ most → ltZ (pos most) z ≡ true → false ≡ validScore z
 unfolding validScore
-too-high (pos n) e = rw (lt-leb n 7600 (ltb-true 7600 n e))
-too-high (negsuc n) e = cc
+too-high (pos n) most h e = rw (lt-leb n 7600 (omega (arith, ltb-true most n e)))
+too-high (negsuc n) most h e = cc
 
-neg-zero : (r : ℕ) → r < 10 → eqb (ofZ w16 (negℤ (pos r))) 0 ≡ eqb r 0
-neg-zero zero h = refl
-neg-zero (suc r) h = ne-eqb (2 ^ 16 - suc r) 0 (λ e. omega arith) ∙ sym (eqb·suc-zero r)
+-- a score in the range, 7600 added: a number that ends in 0 exactly when the score is a multiple of ten
+pub record Lifted (z : ℤ) : Type 0 where
+  pub number : ℕ
+  pub is : z +ℤ pos 7600 ≡ pos number
+  pub most : number ≤ 15200
+  pub tens : eqb (number % 10) 0 ≡ validScore z
 
-pub by-ten : (z : ℤ) → ltZ z (negsuc 7599) ≡ false → ltZ (pos 7600) z ≡ false → eqb (ofZ w16 (remZ z (pos 10))) 0 ≡ validScore z
+same-zero : (a b : ℕ) → (a ≡ 0 → b ≡ 0) → (b ≡ 0 → a ≡ 0) → eqb a 0 ≡ eqb b 0
+same-zero a b f g = same-test (eqb a 0) (eqb b 0) (λ e. eq-eqb b 0 (f (eqb-true a 0 e))) (λ e. eq-eqb a 0 (g (eqb-true b 0 e)))
+
+pub lifted : (z : ℤ) → ltZ z (negsuc 7599) ≡ false → ltZ (pos 7600) z ≡ false → Lifted z
 unfolding validScore
-by-ten (pos n) l h = rw (le-leb n 7600 (ltb-false 7600 n h))
-by-ten (negsuc n) l h = rw (le-leb (suc n) 7600 (omega (arith, ltb-false 7599 n l))) (neg-zero (suc n % 10) (omega arith))
+lifted (pos n) l h =
+    let k : n ≤ 7600 = ltb-false 7600 n h in
+    record {
+      number = n + 7600;
+      is = refl;
+      most = omega arith;
+      tens = rw (le-leb n 7600 k) (same-zero ((n + 7600) % 10) (n % 10) (λ e. omega arith) (λ e. omega arith));
+    }
+lifted (negsuc n) l h =
+    let k : suc n ≤ 7600 = omega (arith, ltb-false 7599 n l) in
+    record {
+      number = 7600 - suc n;
+      is = rw (le-ltb 7600 (suc n) k);
+      most = omega arith;
+      tens = rw (le-leb (suc n) 7600 k) (same-zero ((7600 - suc n) % 10) (suc n % 10) (λ e. omega arith) (λ e. omega arith));
+    }
 
--- a quotient by a positive number is no larger than what is divided, so it fits
-neg-mag : (r : ℕ) {n : ℕ} → r ≤ suc n → mag (negℤ (pos r)) ≤ n
-neg-mag zero h = omega arith
-neg-mag (suc r) h = omega arith
-
-pub quot-fits : (z : ℤ) (d : ℕ) → SFits w16 z → SFits w16 (quotZ z (pos d))
-quot-fits (pos n) d f = record { sfits = omega (arith, f .sfits, div-le-self n d) }
-quot-fits (negsuc n) d f = record { sfits = omega (arith, f .sfits, neg-mag (suc n / d) (div-le-self (suc n) d)) }
+pub lifted-fits : (n : ℕ) → n ≤ 15200 → SFits w16 (pos n)
+lifted-fits n h = record { sfits = omega arith }
 
 -- ---- the size of a valid score
 pub valid-size : (z : ℤ) → validScore z ≡ true → natAbs z ≤ 7600

@@ -69,7 +69,7 @@ pub fn valid(score: i16) -> bool
     if 7600 < score {
         return false;
     }
-    score % 10 == 0
+    (score + 7600) as u16 % 10 == 0
 }
 
 // A lower end of the scale, counted from 0.

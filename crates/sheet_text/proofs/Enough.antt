@@ -14,7 +14,8 @@ use Rattle.laws.specs.Choice.{if_then_else_}
 use Rattle.laws.specs.Decimal.{decimal, signedDecimal}
 use Rattle.laws.specs.Law77.{validScore}
 use Rattle.laws.specs.Law78.{sameScore, occurrences, comparison, comparisons, others, nsMatchpoints, ewMatchpoints}
-use Rattle.laws.specs.Sheet.{fields, header, row, rows, table, refusal, insert, distinct, linesOf, scoreOf, isScore, isZero, isSize, unsigned, refusedLine, tabled, sheet}
+use Rattle.laws.specs.Sheet.{fields, header, row, rows, table, refusal, insert, distinct}
+use Rattle.laws.specs.Sheet.{linesOf, scoreOf, isScore, isZero, isSize, unsigned, refusedLine, tabled, sheet}
 use Rattle.laws.specs.CellSheet.{hundredths, twoDecimals, share, cellHeader, cellRow, cellTable, cellSheet}
 use Rattle.laws.specs.Percentages.{mostMatchpoints}
 use Rattle.laws.specs.Choice.{howMany}
@@ -119,7 +120,8 @@ AllIn xs [] = Unit {0}
 AllIn xs (s ∷ ss) = ((1 ≤ occurrences s xs) × (validScore s ≡ true)) × AllIn xs ss
 
 -- the rows of valid scores that stand in the list, each at most so long
-rows-length : (rowOf : ℤ → List ℕ) (width : ℕ) (xs ss : List ℤ) → AllIn xs ss → ((s : ℤ) → 1 ≤ occurrences s xs → validScore s ≡ true → length (rowOf s) ≤ width)
+rows-length : (rowOf : ℤ → List ℕ) (width : ℕ) (xs ss : List ℤ) → AllIn xs ss
+    → ((s : ℤ) → 1 ≤ occurrences s xs → validScore s ≡ true → length (rowOf s) ≤ width)
     → length (rows rowOf ss) ≤ width * length ss
 unfolding rows
 rows-length rowOf width xs [] v f = omega arith

@@ -1,4 +1,4 @@
--- Document 01's sheet, by evaluating the definition. Assumes nothing.
+-- The sheet of docs/RULES.md, 12, by evaluating the definition. Assumes nothing.
 use Prim.Native.Nat.{ℕ}
 use mathlib.Core.Path.{_≡_, refl}
 use mathlib.Core.List.{List, [], _∷_}
@@ -6,7 +6,8 @@ use Rattle.laws.specs.Choice.{howMany}
 use Rattle.laws.specs.Decimal.{startsWith, lastDigits, decimal, signedDecimal, allDigits, isNumber, valueAfter}
 use Rattle.laws.specs.Law77.{validScore}
 use Rattle.laws.specs.Law78.{occurrences, comparison, comparisons, others, nsMatchpoints, ewMatchpoints}
-use Rattle.laws.specs.Sheet.{before, linesOf, isZero, isSize, scoreOf, isScore, refusedLine, insert, distinct, header, row, rows, table, refusal, tabled, sheet}
+use Rattle.laws.specs.Sheet.{before, linesOf, isZero, isSize, scoreOf, isScore, refusedLine, insert}
+use Rattle.laws.specs.Sheet.{distinct, header, row, rows, table, refusal, tabled, sheet}
 
 -- `420`, `420`, `-50`, `450`
 abbrev scores : List ℕ
@@ -21,5 +22,7 @@ printed =
     ∷ 32 ∷ 49 ∷ 32 ∷ 48 ∷ 32 ∷ 54 ∷ 10 ∷ []
 
 pub example : sheet scores ≡ printed
-unfolding before linesOf isZero isSize scoreOf isScore refusedLine insert distinct header row rows table refusal tabled sheet startsWith lastDigits decimal signedDecimal allDigits isNumber valueAfter validScore occurrences comparison comparisons others nsMatchpoints ewMatchpoints howMany
+unfolding before linesOf isZero isSize scoreOf isScore refusedLine insert distinct header row rows table refusal tabled sheet
+    startsWith lastDigits decimal signedDecimal allDigits isNumber valueAfter
+    validScore occurrences comparison comparisons others nsMatchpoints ewMatchpoints howMany
 example = refl

@@ -1,4 +1,5 @@
--- A text and its first 769 bytes have the same sheet, with matchpoints or with percentages: 128 lines of at most 6 bytes with their newlines, and one byte more. Assumes nothing.
+-- A text and its first 769 bytes have the same sheet, with matchpoints or with percentages: 128 lines of at most 6 bytes with their newlines, and one
+-- byte more. Assumes nothing.
 use Prim.Native.Nat.{ℕ, zero, suc, _+_, _-_, _*_, _≤_, _<_}
 use native.Mathlib.Omega.{arith}
 use mathlib.Core.Path.{_≡_, refl, sym, ap, _∙_}
@@ -166,7 +167,8 @@ module _ (k n : ℕ) (s : List ℕ) (longer : n < length s) (one : 1 ≤ n) wher
       (omega (arith, first-length k (take n s) cut-some, line-cut s n (ltb-false (lineLength s) n y)))))))
 
   cut-taken : lineLength s < n → refuses (take (lineLength s) s) k ≡ false
-      → refusedLine (suc k) (linesOf (drop (suc (lineLength s)) s)) ≡ refusedLine (suc k) (linesOf (take (n - suc (lineLength s)) (drop (suc (lineLength s)) s)))
+      → refusedLine (suc k) (linesOf (drop (suc (lineLength s)) s)) ≡ refusedLine (suc k)
+      (linesOf (take (n - suc (lineLength s)) (drop (suc (lineLength s)) s)))
       → refusedLine k (linesOf s) ≡ refusedLine k (linesOf (take n s))
   cut-taken h q e =
       later k s some q ∙ e ∙ sym (later k (take n s) cut-some (rw (same-line h) q)

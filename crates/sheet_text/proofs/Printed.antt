@@ -36,7 +36,8 @@ pub longer : (n m k : ℕ) → 1 ≤ k → n < 10 * m → (n / 10 < m → length
 longer n m k one h short =
     by-test (ltb n 10)
     (λ (q : ltb n 10 ≡ true). rw (one-digit n (ltb-true n 10 q)) (omega arith))
-    (λ (q : ltb n 10 ≡ false). rw (more-digits n (ltb-false n 10 q), length-append (decimal (n / 10)) (digit (n % 10) ∷ [])) (omega (arith, short (omega arith))))
+    (λ (q : ltb n 10 ≡ false). rw (more-digits n (ltb-false n 10 q), length-append (decimal (n / 10)) (digit (n % 10) ∷ []))
+    (omega (arith, short (omega arith))))
 
 pub length-1 : (n : ℕ) → n < 10 → length (decimal n) ≤ 1
 length-1 n h = rw (one-digit n h) (omega arith)

@@ -49,7 +49,8 @@ pub put-none : (o : List ℕ) (at : ℕ) → Put o at [] o at
 put-none o at = record { place = omega arith; bytes = refl }
 
 -- one byte more of a text
-pub put-more : (o l : List ℕ) (at : ℕ) (s : List ℕ) (i : ℕ) → i < length s → Put o at (take i s) l (at + i) → Put o at (take (i + 1) s) (set l (at + i) (getD s i 0)) (at + (i + 1))
+pub put-more : (o l : List ℕ) (at : ℕ) (s : List ℕ) (i : ℕ) → i < length s → Put o at (take i s) l (at + i)
+    → Put o at (take (i + 1) s) (set l (at + i) (getD s i 0)) (at + (i + 1))
 put-more o l at s i h p =
     rw (add-one i, take-suc s i 0 h)
     (then p (record { place = omega arith; bytes = refl }))

@@ -52,7 +52,8 @@ none-alone l s h =
     let n = eqb-false (length l) 1 q in
     rw (q, ne-eqb (2 * (length l - 1)) 0 (λ e. n (omega (arith, below-equal s l)))))
 
-share-is : (l : List ℤ) (s : ℤ) (points other : ℕ) → 1 ≤ occurrences s l → points + other ≡ mostMatchpoints l → share l points ≡ shareText points (points + other)
+share-is : (l : List ℤ) (s : ℤ) (points other : ℕ) → 1 ≤ occurrences s l → points + other ≡ mostMatchpoints l
+    → share l points ≡ shareText points (points + other)
 unfolding share shareText
 share-is l s points other h e = rw (e, none-alone l s h)
 

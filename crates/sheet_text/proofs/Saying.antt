@@ -140,7 +140,9 @@ module _ (s : List ℕ) (some : length s ≡ 0 → ⊥) where
       let z : startsWith 48 s ≡ false = starts s 48 some ∙ rw e in
       rw (m, z) (or-size (eqb (length s) 1))
     where
-      or-size : (b : Bool) → negativeOf (sizeOn (drop 1 s)) ≡ (if ((b && false) || isSize (drop 1 s)) && validScore (negℤ (pos (value (drop 1 s)))) then Score (negℤ (pos (value (drop 1 s)))) else Nothing)
+      or-size : (b : Bool)
+          → negativeOf (sizeOn (drop 1 s))
+          ≡ (if ((b && false) || isSize (drop 1 s)) && validScore (negℤ (pos (value (drop 1 s)))) then Score (negℤ (pos (value (drop 1 s)))) else Nothing)
       or-size true = negative-size (drop 1 s) ∙ sym (by-size (negℤ (pos (value (drop 1 s)))) (isSize (drop 1 s)))
       or-size false = negative-size (drop 1 s) ∙ sym (by-size (negℤ (pos (value (drop 1 s)))) (isSize (drop 1 s)))
 

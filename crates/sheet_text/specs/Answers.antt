@@ -7,6 +7,7 @@ use lib.IntN.{ℤ}
 use Rattle.laws.specs.Choice.{if_then_else_}
 use Rattle.laws.specs.Decimal.{digit, decimal, signedDecimal}
 use Rattle.laws.specs.Sheet.{newline, refusal}
+use Rattle.tally.specs.declared.Tally.{Tally}
 use Rattle.tree_stack.specs.declared.Said.{Said}
 use Rattle.tree_stack.specs.declared.Said.the-variants.{Done, Refused, Points, Played, Awarded, Alone, Stopped}
 
@@ -65,3 +66,7 @@ unfoldable pub placesText : List ℤ → List ℕ → List ℕ
 placesText [] counts = []
 placesText (s ∷ scores) [] = []
 placesText (s ∷ scores) (c ∷ counts) = if eqb c 0 then [] else entryText s c ++ placesText scores counts
+
+-- the text of a tally
+abbrev pub tallyText : Tally → List ℕ
+tallyText t = placesText (t .scores) (t .counts)

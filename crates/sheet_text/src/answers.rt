@@ -12,7 +12,7 @@ use tree_stack::Said;
 ghost use mathlib.Core.Path.{_≡_};
 ghost use Prim.Native.Nat.{_+_, _≤_, _<_};
 ghost use lib.ListN.{length};
-ghost use Rattle.sheet_text.specs.Answers.{refusedText, pointsText, hexDigit, hexDigits, bitsText, saidText, entryText, placesText};
+ghost use Rattle.sheet_text.specs.Answers.{refusedText, pointsText, hexDigit, hexDigits, bitsText, saidText, entryText, tallyText};
 ghost use Rattle.sheet_text.specs.Putting.{Put, written, lengthWithin, leftIn};
 
 fn put_refused(out: &mut [u8], n: u8) -> usize
@@ -102,7 +102,7 @@ fn put_entry(out: &mut [u8], at: usize, score: i16, count: u8) -> usize
 
 fn put_entries(out: &mut [u8], t: Tally) -> usize
     requires { ⌜ 1408 ≤ length (now out) ⌝ }
-    ensures { λ r. ⌜ Put (now (out .entry)) 0 (placesText (t .scores) (t .counts)) (now (out .exit)) r × (length (placesText (t .scores) (t .counts)) ≤ 1408) ⌝ }
+    ensures { λ r. ⌜ Put (now (out .entry)) 0 (tallyText t) (now (out .exit)) r × (length (tallyText t) ≤ 1408) ⌝ }
 {
     let mut at: usize = 0;
     let mut i: usize = 0;
@@ -120,8 +120,8 @@ fn put_entries(out: &mut [u8], t: Tally) -> usize
 
 // Writes the entries of a tally to lent bytes, a line each. 1408 bytes are enough.
 pub fn write_tally(t: Tally, out: &mut [u8]) -> Outcome
-    ensures answer { λ r. ⌜ written r ≡ lengthWithin (placesText (t .scores) (t .counts)) (length (now (out .entry))) ⌝ }
-    ensures bytes { λ r. ⌜ now (out .exit) ≡ leftIn (now (out .entry)) (placesText (t .scores) (t .counts)) ⌝ }
+    ensures answer { λ r. ⌜ written r ≡ lengthWithin (tallyText t) (length (now (out .entry))) ⌝ }
+    ensures bytes { λ r. ⌜ now (out .exit) ≡ leftIn (now (out .entry)) (tallyText t) ⌝ }
 {
     let mut text = [0u8; 1408];
     let n = put_entries(&mut text, t);

@@ -1,5 +1,4 @@
-// What stands for each side in a table: its matchpoints, or its percentage to two decimals. A percentage is rounded half up from the exact
-// fraction and not from the float, so that it is the same on every page.
+// What stands for each side in a table: its matchpoints, or its percentage to two decimals, which are rounded half up from the exact fraction.
 use super::put_byte;
 use super::put_bytes;
 use super::put_digit;

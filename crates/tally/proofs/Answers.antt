@@ -73,7 +73,8 @@ module _ (t : Tally) (s : ℤ) where
     unfolding addOf
     add-refused r e h = rw (w, ← e) (answer-refused r (tallyOf (t .board) (scoresIn t ++ (s ∷ []))) h)
 
-    module _ (x : Size) (ex : x ≡ sizeOf t) (none one : Tally) (en : none ≡ tallyOf (t .board) []) (eo : one ≡ tallyOf (none .board) (s ∷ [])) (e : addRefusal (scoresIn t) s ≡ 0) where
+    module _ (x : Size) (ex : x ≡ sizeOf t) (none one : Tally) (en : none ≡ tallyOf (t .board) []) (eo : one ≡ tallyOf (none .board) (s ∷ []))
+        (e : addRefusal (scoresIn t) s ≡ 0) where
       board-fine : freshRefusal (none .board) ≡ 0
       board-fine = rw (own-board none (t .board) en) (formed t w .board)
 

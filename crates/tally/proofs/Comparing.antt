@@ -73,7 +73,8 @@ module _ (t : Tally) (s : ℤ) (below equal results i : ℕ) (w : Stood t s belo
     used : entriesAt (t .scores) (t .counts) i ≡ entry (getD (t .scores) i (pos 0)) (getD (t .counts) i 0) ∷ entriesAt (t .scores) (t .counts) (suc i)
     used = entries-used (t .scores) (t .counts) i (omega (arith, w .scores)) (omega (arith, w .counts)) u
 
-    module _ (b q : ℕ) (eb : b ≡ belowOf s (getD (t .scores) i (pos 0)) (getD (t .counts) i 0)) (eq : q ≡ equalOf s (getD (t .scores) i (pos 0)) (getD (t .counts) i 0)) where
+    module _ (b q : ℕ) (eb : b ≡ belowOf s (getD (t .scores) i (pos 0)) (getD (t .counts) i 0))
+        (eq : q ≡ equalOf s (getD (t .scores) i (pos 0)) (getD (t .counts) i 0)) where
       pub goes : Stood t s (below + b) (equal + q) (results + getD (t .counts) i 0) (i + 1)
       unfolding belowOf equalOf
       goes =
@@ -89,8 +90,12 @@ module _ (t : Tally) (s : ℤ) (below equal results i : ℕ) (w : Stood t s belo
 
       pub fits : (below + b ≤ 128) × (equal + q ≤ 128) × (results + getD (t .counts) i 0 ≤ 128)
       fits =
-          let g = goes in
-          (omega (arith, g .of-lower, in-le (lower s) (entriesIn t), g .room), omega (arith, g .of-equal, in-le (sameScore s) (entriesIn t), g .room), omega (arith, g .of-all, g .room))
+          let g = goes in (
+            omega (arith, g .of-lower, in-le (lower s) (entriesIn t), g .room),
+            omega (arith, g .of-equal, in-le (sameScore s) (entriesIn t), g .room),
+            omega
+                (arith, g .of-all, g .room),
+          )
 
 -- ---- the answer by the standing
 module _ (t : Tally) (s : ℤ) where

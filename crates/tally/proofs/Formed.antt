@@ -38,7 +38,8 @@ unfolding entries padded
 entries-none zero = refl
 entries-none (suc k) = refl
 
-entries-padded : (k : ℕ) (top : ℤ) (es : List Entry) → Ordered top es → length es ≤ k → entries (padded (pos 0) k (map score es)) (padded 0 k (map count es)) ≡ es
+entries-padded : (k : ℕ) (top : ℤ) (es : List Entry) → Ordered top es → length es ≤ k
+    → entries (padded (pos 0) k (map score es)) (padded 0 k (map count es)) ≡ es
 unfolding entries padded
 entries-padded k top [] w h = entries-none k
 entries-padded zero top (e ∷ es) w h = absurd (omega arith)
@@ -115,7 +116,8 @@ unfolding inOrder padded
 order-back k top room [] w r h = order-none k top room
 order-back zero top room (e ∷ es) w r h = absurd (omega arith)
 order-back (suc k) top room (e ∷ es) w r h =
-    rw (not-zero (count e) (w .2), w .0, w .1, le-leb (count e) room (omega arith)) (order-back k (score e) (room - count e) es (w .3) (omega arith) (omega arith))
+    rw (not-zero (count e) (w .2), w .0, w .1, le-leb (count e) room (omega arith))
+    (order-back k (score e) (room - count e) es (w .3) (omega arith) (omega arith))
 
 -- ---- a well-formed tally
 pub record Formed (t : Tally) : Type 0 where

@@ -92,13 +92,15 @@ turned a b whole w =
     record { first = w .second; second = w .first; both = w .both; counts = λ y. omega (arith, w .counts y); room = omega (arith, w .room) }
 
 -- ---- one turn: the higher entry of the two is the whole's next
-take-left : (e : Entry) (es fs whole : List Entry) → Split (e ∷ es) fs whole → Below (score (headOf fs)) (score e) → Taken (higherOf e (headOf fs)) (e ∷ es) fs whole
+take-left : (e : Entry) (es fs whole : List Entry) → Split (e ∷ es) fs whole → Below (score (headOf fs)) (score e)
+    → Taken (higherOf e (headOf fs)) (e ∷ es) fs whole
 unfolding higherOf
 take-left e es fs whole w b =
     let o = under (score e) fs (w .second) (b .lt) in
     rw (b .en, b .lt) (record { begins = left-entry e es fs whole w o .0; rest = left-rest e es fs whole w o })
 
-take-right : (f : Entry) (es fs whole : List Entry) → Split es (f ∷ fs) whole → Below (score (headOf es)) (score f) → Taken (higherOf (headOf es) f) es (f ∷ fs) whole
+take-right : (f : Entry) (es fs whole : List Entry) → Split es (f ∷ fs) whole → Below (score (headOf es)) (score f)
+    → Taken (higherOf (headOf es) f) es (f ∷ fs) whole
 unfolding higherOf
 take-right f es fs whole w b =
     let v = turned es (f ∷ fs) whole w in
@@ -107,7 +109,8 @@ take-right f es fs whole w b =
 
 take-same : (e f : Entry) (es fs whole : List Entry) → Split (e ∷ es) (f ∷ fs) whole → score e ≡ score f → Taken (higherOf e f) (e ∷ es) (f ∷ fs) whole
 unfolding higherOf
-take-same e f es fs whole w s = rw (true-same (score e) (score f) s) (record { begins = both-entry e f es fs whole w s .0; rest = both-rest e f es fs whole w s })
+take-same e f es fs whole w s =
+    rw (true-same (score e) (score f) s) (record { begins = both-entry e f es fs whole w s .0; rest = both-rest e f es fs whole w s })
 
 take-both : (e f : Entry) (es fs whole : List Entry) → Split (e ∷ es) (f ∷ fs) whole → Order (score e) (score f) → Taken (higherOf e f) (e ∷ es) (f ∷ fs) whole
 take-both e f es fs whole w (less b) = take-right f (e ∷ es) fs whole w b

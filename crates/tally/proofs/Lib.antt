@@ -11,3 +11,4 @@ pub mod OfLists
 pub mod Shapes
 pub mod Tables
 pub mod Told
+pub mod Checking

@@ -103,7 +103,9 @@ valid-replicate (suc n) s v = (v, valid-replicate n s v)
 pub valid-expand : (top : ℤ) (es : List Entry) → Ordered top es → AllValid (expand es)
 unfolding expand AllValid
 valid-expand top [] w = tt
-valid-expand top (e ∷ es) w = valid-append (replicate (count e) (score e)) (expand es) (valid-replicate (count e) (score e) (w .0)) (valid-expand (score e) es (w .3))
+valid-expand top (e ∷ es) w =
+    valid-append (replicate (count e) (score e)) (expand es) (valid-replicate (count e) (score e) (w .0))
+    (valid-expand (score e) es (w .3))
 
 -- ---- entries and lists determine each other
 -- ordered entries with the counts of a list are the list's entries

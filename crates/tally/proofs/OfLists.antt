@@ -91,7 +91,8 @@ module _ (b : ℕ) (l : List ℤ) (w : Sound b l) where
       (λ (test : ℤ → Bool). in-expand test (entriesIn (tallyOf b l)) ∙ ap (inEntries test) (entries-tally b l (w .valid) (w .room)) ∙ in-list test l) s)
 
 -- the second list goes after the first
-pub merge-list : (b : ℕ) (l : List ℤ) (d : ℕ) (m : List ℤ) → Sound b l → Sound d m → mergeOf (tallyOf b l) (tallyOf d m) ≡ answerOf (mergeRefusal b l d m) (tallyOf b (l ++ m))
+pub merge-list : (b : ℕ) (l : List ℤ) (d : ℕ) (m : List ℤ) → Sound b l → Sound d m
+    → mergeOf (tallyOf b l) (tallyOf d m) ≡ answerOf (mergeRefusal b l d m) (tallyOf b (l ++ m))
 unfolding mergeOf tallyOf tallyWith
 merge-list b l d m v w =
     let own = scoresIn (tallyOf b l) in

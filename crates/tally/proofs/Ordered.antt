@@ -88,9 +88,12 @@ module _ (x : Entry) (rest : ℤ → ℕ) (one : 1 ≤ count x) (lower : (y : �
   at-x : countOf (score x) (x ∷ []) ≡ count x
   at-x = some-at x [] tt
 
-  next-at : (top : ℤ) (e : Entry) (es : List Entry) → Ordered top (e ∷ es) → ((y : ℤ) → countOf y (e ∷ es) ≡ countOf y (x ∷ []) + rest y) → Order (score e) (score x)
+  next-at : (top : ℤ) (e : Entry) (es : List Entry) → Ordered top (e ∷ es) → ((y : ℤ) → countOf y (e ∷ es) ≡ countOf y (x ∷ []) + rest y)
+      → Order (score e) (score x)
       → (e ≡ x) × ((y : ℤ) → countOf y es ≡ rest y)
-  next-at top e es o h (less b) = absurd (omega (arith, h (score x), at-x, none-at (score x) (score x) (e ∷ es) (not-below-self (score x)) (o .0, b .lt, o .2, o .3)))
+  next-at top e es o h (less b) =
+      absurd
+      (omega (arith, h (score x), at-x, none-at (score x) (score x) (e ∷ es) (not-below-self (score x)) (o .0, b .lt, o .2, o .3)))
   next-at top e es o h (more b) =
       let z : countOf (score e) (x ∷ []) ≡ 0 = rw (b .en) in
       absurd (omega (arith, h (score e), some-at e es (o .3), lower (score e) (b .ge), o .2))

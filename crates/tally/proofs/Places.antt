@@ -1,6 +1,8 @@
 -- A tally's places from one of them on: one turn of the loops that read them. Assumes nothing.
-use Prim.Native.Nat.{ℕ, suc, _≤_, _<_, _-_}
-use mathlib.Core.Path.{_≡_, sym, ap, _∙_}
+use Prim.Native.Nat.{ℕ, suc, _≤_, _<_, _+_, _-_}
+use native.Mathlib.Omega.{arith}
+use native.Mathlib.Numerals.{add-one}
+use mathlib.Core.Path.{_≡_, refl, sym, ap, _∙_}
 use mathlib.Core.Bool.{Bool, true, false, _&&_}
 use mathlib.Core.List.{List, [], _∷_}
 use borrow.Author.Tests.{eq-eqb, ne-eqb}
@@ -12,6 +14,7 @@ use lib.Signed.{ltZ}
 use mir.Syntax.{w16}
 use mir.Val.{SFits, toZ, ofZ}
 use mir.Facts.{toZ-ofZ}
+use Rattle.laws.specs.Choice.{if_then_else_}
 use Rattle.laws.specs.Law77.{validScore}
 use Rattle.laws.specs.Law78.{sameScore}
 use Rattle.laws.specs.Tally.{freshRefusal}
@@ -59,7 +62,8 @@ module _ (ss : List ℤ) (cs : List ℕ) (i : ℕ) where
   unfolding inOrder
   order-end top room h = rw (drop-of-length-le ss h)
 
-  pub entries-used : i < length ss → i < length cs → (getD cs i 0 ≡ 0 → ⊥) → entriesAt ss cs i ≡ entry (getD ss i (pos 0)) (getD cs i 0) ∷ entriesAt ss cs (suc i)
+  pub entries-used : i < length ss → i < length cs → (getD cs i 0 ≡ 0 → ⊥)
+      → entriesAt ss cs i ≡ entry (getD ss i (pos 0)) (getD cs i 0) ∷ entriesAt ss cs (suc i)
   unfolding entries
   entries-used hs hc u = rw (drop-cons ss i (pos 0), drop-cons cs i 0, ne-eqb (getD cs i 0) 0 u)
 
@@ -71,12 +75,41 @@ module _ (ss : List ℤ) (cs : List ℕ) (i : ℕ) where
   unfolding entries
   entries-end h = rw (drop-of-length-le ss h)
 
+-- ---- what is not zero, counted
+some-low : (x : Bool) (p : ℕ) → p ≡ (if x then 0 else 1) → p ≤ 1
+some-low true p e = omega arith
+some-low false p e = omega arith
+
+pub and-true : (x : Bool) → (x && true) ≡ x
+and-true true = refl
+and-true false = refl
+
+and-false : (x : Bool) → (x && false) ≡ false
+and-false true = refl
+and-false false = refl
+
+-- a count of places that are not zero stays 0 exactly where a place is zero
+zero-turn : (x y z : Bool) (o p q : ℕ) → p ≡ (if x then 0 else 1) → q ≡ (if y then 0 else 1) → (eqb o 0 && (x && (y && z))) ≡ (eqb (o + (p + q)) 0 && z)
+zero-turn true true z o p q ep eq = let e : o + (p + q) ≡ o = omega arith in rw e
+zero-turn true false z o p q ep eq = rw (ne-eqb (o + (p + q)) 0 (λ k. omega arith)) (and-false (eqb o 0))
+zero-turn false y z o p q ep eq = rw (ne-eqb (o + (p + q)) 0 (λ k. omega arith)) (and-false (eqb o 0))
+
+module _ (ss : List ℤ) (cs : List ℕ) (i : ℕ) (hs : i < length ss) (hc : i < length cs) (p q : ℕ)
+    (ep : p ≡ (if sameScore (getD ss i (pos 0)) (pos 0) then 0 else 1)) (eq : q ≡ (if eqb (getD cs i 0) 0 then 0 else 1)) where
+  pub low : (p ≤ 1) × (q ≤ 1)
+  low = (some-low (sameScore (getD ss i (pos 0)) (pos 0)) p ep, some-low (eqb (getD cs i 0) 0) q eq)
+
+  pub zeros-turn : (o : ℕ) → (eqb o 0 && zerosAt ss cs i) ≡ (eqb (o + (p + q)) 0 && zerosAt ss cs (i + 1))
+  zeros-turn o =
+      rw (zeros-step ss cs i hs hc, add-one i) (zero-turn (sameScore (getD ss i (pos 0)) (pos 0)) (eqb (getD cs i 0) 0) (zerosAt ss cs (suc i)) o p q ep eq)
+
 -- ---- the whole test
 module _ (t : Tally) where
   pub bad-board : freshRefusal (t .board) ≡ 3 → false ≡ wellFormed t
   unfolding wellFormed
   bad-board e = rw e
 
-  pub good-board : freshRefusal (t .board) ≡ 0 → length (t .scores) ≡ 128 → length (t .counts) ≡ 128 → wellFormed t ≡ orderAt (t .scores) (t .counts) ceiling 128 0
+  pub good-board : freshRefusal (t .board) ≡ 0 → length (t .scores) ≡ 128 → length (t .counts) ≡ 128
+      → wellFormed t ≡ orderAt (t .scores) (t .counts) ceiling 128 0
   unfolding wellFormed
   good-board e hs hc = rw (e, hs, hc)

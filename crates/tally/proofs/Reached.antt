@@ -1,10 +1,11 @@
 -- The state of `joined` in its loop, and one turn of it: the first k entries of the whole are written, and the rest is still in the two tallies.
 -- Assumes nothing.
-use Prim.Native.Nat.{ℕ, _≤_, _<_, _+_}
+use Prim.Native.Nat.{ℕ, zero, suc, _≤_, _<_, _+_}
 use native.Mathlib.Omega.{arith}
 use native.Mathlib.Numerals.{add-one}
 use mathlib.Core.Path.{_≡_, refl, ap, _∙_}
 use mathlib.Core.List.{List, _++_, map}
+use borrow.Author.Tests.{ne-eqb}
 use lib.IntN.{ℤ, pos}
 use lib.ListN.{length, take, drop, set, length-append}
 use lib.Seq.{drop-drop, take-all}
@@ -17,7 +18,7 @@ use Rattle.tally.specs.declared.Next.{Next}
 use Rattle.tally.specs.declared.Tally.{Tally}
 use Rattle.tally.specs.Entries.{score, count, entry, entriesOf}
 use Rattle.tally.specs.Tallies.{tallyWith, tallyOf, entriesIn, scoresIn, ceiling}
-use Rattle.tally.specs.Steps.{entryAt, higherOf, Joinable}
+use Rattle.tally.specs.Steps.{entryAt, higherOf, nextOf, Joinable}
 use Rattle.tally.proofs.Ordered.{countOf}
 use Rattle.tally.proofs.Lists.{in-expand, in-list, sum-expand, sum-list, ordered-list, valid-append}
 use Rattle.tally.proofs.Formed.{Formed, formed, valid-scores, length-sum}
@@ -51,7 +52,14 @@ module _ (none a : Tally) (n : ℕ) (b : Tally) (m : ℕ) (g : Joinable none a n
   pub counts-split : (y : ℤ) → countOf y (wholeOf a b) ≡ countOf y (entriesIn a) + countOf y (entriesIn b)
   unfolding scoresIn
   counts-split y =
-      omega (arith, in-list (sameScore y) (scoresIn a ++ scoresIn b), many-append (sameScore y) (scoresIn a) (scoresIn b), in-expand (sameScore y) (entriesIn a), in-expand (sameScore y) (entriesIn b))
+      omega (
+        arith,
+        in-list (sameScore y) (scoresIn a ++ scoresIn b),
+        many-append (sameScore y) (scoresIn a) (scoresIn b),
+        in-expand (sameScore y)
+            (entriesIn a),
+        in-expand (sameScore y) (entriesIn b),
+      )
 
   pub whole-split : Split (entriesIn a) (entriesIn b) (wholeOf a b)
   unfolding scoresIn
@@ -66,7 +74,14 @@ module _ (none a : Tally) (n : ℕ) (b : Tally) (m : ℕ) (g : Joinable none a n
 
   pub whole-length : length (wholeOf a b) ≤ 128
   whole-length =
-      omega (arith, length-sum ceiling (wholeOf a b) (ordered-list (scoresIn a ++ scoresIn b) all-valid), sum-list (scoresIn a ++ scoresIn b), length-append (scoresIn a) (scoresIn b), g .room)
+      omega (
+        arith,
+        length-sum ceiling (wholeOf a b) (ordered-list (scoresIn a ++ scoresIn b) all-valid),
+        sum-list (scoresIn a ++ scoresIn b),
+        length-append
+            (scoresIn a) (scoresIn b),
+        g .room,
+      )
 
   pub begins : Reached none a n b m none 0 0 0
   unfolding tallyOf tallyWith entriesOf
@@ -83,7 +98,8 @@ module _ (none a : Tally) (n : ℕ) (b : Tally) (m : ℕ) (g : Joinable none a n
       }
 
 -- the tally where all is written
-all-written : (none a b u : Tally) (k : ℕ) → u .board ≡ none .board → u .scores ≡ written (pos 0) score 128 k (wholeOf a b) → u .counts ≡ written 0 count 128 k (wholeOf a b)
+all-written : (none a b u : Tally) (k : ℕ) → u .board ≡ none .board → u .scores ≡ written (pos 0) score 128 k (wholeOf a b)
+    → u .counts ≡ written 0 count 128 k (wholeOf a b)
     → take k (wholeOf a b) ≡ wholeOf a b → u ≡ tallyOf (none .board) (scoresIn a ++ scoresIn b)
 unfolding tallyOf tallyWith
 all-written none a b u k e f g h =
@@ -126,7 +142,8 @@ module _ (none a : Tally) (n : ℕ) (b : Tally) (m : ℕ) (u : Tally) (i j k : �
       ends z = all-written none a b u k (w .board) (w .scores) (w .counts) (all-taken k (wholeOf a b) (the-turn .ends z))
 
       pub goes : (e .count ≡ 0 → ⊥) → k < 128
-          → Reached none a n b m (record { board = u .board; scores = set (u .scores) k (e .score); counts = set (u .counts) k (e .count) }) (i + e .first) (j + e .second) (k + 1)
+          → Reached none a n b m (record { board = u .board; scores = set (u .scores) k (e .score); counts = set (u .counts) k (e .count) }) (i + e .first)
+          (j + e .second) (k + 1)
       goes z h =
           let t = the-turn .goes z in
           let r = t .rest in
@@ -142,3 +159,12 @@ module _ (none a : Tally) (n : ℕ) (b : Tally) (m : ℕ) (u : Tally) (i j k : �
             counts = rw (w .counts, add-one k) (write 0 count 128 k x (drop 1 (drop k whole)) whole (t .begins) h);
             split = rw (drop-drop (e .first) i (entriesIn a), drop-drop (e .second) j (entriesIn b), drop-drop 1 k whole) at r;
           }
+
+-- an entry that is taken is followed by the one after it
+pub next-entry : (ss : List ℤ) (cs : List ℕ) (i n taken : ℕ) (x after : Entry) → taken ≤ 1 → x ≡ entryAt ss cs i n → after ≡ entryAt ss cs (i + 1) n
+    → nextOf taken x after ≡ entryAt ss cs (i + taken) n
+unfolding nextOf
+next-entry ss cs i n zero x after h ex ea = let e : i + 0 ≡ i = omega arith in rw e ex
+next-entry ss cs i n (suc taken) x after h ex ea =
+    let e : suc taken ≡ 1 = omega arith in
+    rw (ne-eqb (suc taken) 0 (λ z. omega arith), e) ea

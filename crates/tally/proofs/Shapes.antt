@@ -97,9 +97,16 @@ module _ (b : ℕ) (l : List ℤ) (w : Sound b l) where
         valid = λ i h. rw (at (pos 0) score 128 i (entriesOf l) h few) (valid-at ceiling i (entriesOf l) ordered h);
         falling = λ i h. falls i (rw (add-one i) at h);
         counted = λ i h. rw (at 0 count 128 i (entriesOf l) h few) (counted-at ceiling i (entriesOf l) ordered h);
-        unused = λ i h. (past (pos 0) 128 i (map score (entriesOf l)) (rw (length-map (entriesOf l) score) h), past 0 128 i (map count (entriesOf l)) (rw (length-map (entriesOf l) count) h));
+        unused =
+            λ i h. (
+              past (pos 0) 128 i (map score (entriesOf l)) (rw (length-map (entriesOf l) score) h),
+              past 0 128 i (map count (entriesOf l))
+                  (rw (length-map (entriesOf l) count) h),
+            );
       }
     where
-      falls : (i : ℕ) → suc i < length (entriesOf l) → ltZ (getD (padded (pos 0) 128 (map score (entriesOf l))) (i + 1) (pos 0)) (getD (padded (pos 0) 128 (map score (entriesOf l))) i (pos 0)) ≡ true
+      falls : (i : ℕ) → suc i < length (entriesOf l)
+          → ltZ (getD (padded (pos 0) 128 (map score (entriesOf l))) (i + 1) (pos 0)) (getD (padded (pos 0) 128 (map score (entriesOf l))) i (pos 0)) ≡ true
       falls i h =
-          rw (add-one i, at (pos 0) score 128 (suc i) (entriesOf l) h few, at (pos 0) score 128 i (entriesOf l) (omega arith) few) (falling-at ceiling i (entriesOf l) ordered h)
+          rw (add-one i, at (pos 0) score 128 (suc i) (entriesOf l) h few, at (pos 0) score 128 i (entriesOf l) (omega arith) few)
+          (falling-at ceiling i (entriesOf l) ordered h)

@@ -16,6 +16,7 @@ use Rattle.laws.specs.Tally.{capacity}
 use Rattle.tally.specs.declared.Entry.{Entry}
 use Rattle.tally.specs.declared.Next.{Next}
 use Rattle.tally.specs.declared.Size.{Size}
+use Rattle.tally.specs.declared.Checked.{Checked}
 use Rattle.tally.specs.declared.Tally.{Tally}
 use Rattle.tally.specs.Entries.{score, count, entry}
 use Rattle.tally.specs.Tallies.{tallyOf, entriesIn, scoresIn, wellFormed}
@@ -23,6 +24,11 @@ use Rattle.tally.specs.Tallies.{tallyOf, entriesIn, scoresIn, wellFormed
 -- how many places a tally uses, and its number of results
 abbrev pub sizeOf : Tally → Size
 sizeOf t = record { used = length (entriesIn t); results = length (scoresIn t) }
+
+-- what a check of a tally finds: whether it is well formed, and where it is its size
+pub record Checks (t : Tally) (r : Checked) : Type 0 where
+  pub good : r .good ≡ wellFormed t
+  pub size : r .good ≡ true → r .size ≡ sizeOf t
 
 -- no result, of a score below every valid one
 abbrev pub noEntry : Entry
@@ -38,6 +44,10 @@ higherOf x y =
     if sameScore (score x) (score y) then (record { score = score x; count = count x + count y; first = 1; second = 1 })
     else if ltZ (score y) (score x) then (record { score = score x; count = count x; first = 1; second = 0 })
     else (record { score = score y; count = count y; first = 0; second = 1 })
+
+-- the entry after one that is taken; one that is not taken stays
+unfoldable pub nextOf : ℕ → Entry → Entry → Entry
+nextOf taken x after = if eqb taken 0 then x else after
 
 -- ---- refusals
 -- a score that isn't valid is refused

@@ -5,11 +5,10 @@ use super::TOO_MANY_RESULTS;
 use super::TWO_BOARDS;
 use super::Tallied;
 use super::Tally;
+use super::check;
 use super::empty;
 use super::joined;
 use super::refuse;
-use super::size_of;
-use super::well_formed;
 use score::valid;
 ghost use mathlib.Core.Path.{_≡_};
 ghost use mathlib.Core.List.{[], _∷_};
@@ -73,10 +72,11 @@ fn first(refusal: u8, later: u8) -> u8
 pub fn add(t: Tally, score: i16) -> Tallied
     ensures { λ r. ⌜ r ≡ addOf t score ⌝ }
 {
-    if !well_formed(t) {
+    let checked = check(t);
+    if !checked.good {
         return refuse(MALFORMED_TALLY);
     }
-    let x = size_of(t);
+    let x = checked.size;
     let invalid = score_refusal(score);
     let full = room_refusal(x.results, 1);
     let refusal = first(invalid, full);
@@ -96,14 +96,16 @@ pub fn add(t: Tally, score: i16) -> Tallied
 pub fn merge(a: Tally, b: Tally) -> Tallied
     ensures { λ r. ⌜ r ≡ mergeOf a b ⌝ }
 {
-    if !well_formed(a) {
+    let first_checked = check(a);
+    if !first_checked.good {
         return refuse(MALFORMED_TALLY);
     }
-    if !well_formed(b) {
+    let second_checked = check(b);
+    if !second_checked.good {
         return refuse(MALFORMED_TALLY);
     }
-    let x = size_of(a);
-    let y = size_of(b);
+    let x = first_checked.size;
+    let y = second_checked.size;
     let boards = boards_refusal(a.board, b.board);
     let full = room_refusal(x.results, y.results);
     let refusal = first(boards, full);

@@ -9,12 +9,16 @@ pub use points::MatchpointAnswer;
 pub use points::matchpoints;
 use score::valid;
 ghost use mathlib.Core.Path.{_≡_};
-ghost use mathlib.Core.Bool.{true};
+ghost use mathlib.Core.Bool.{true, false};
 ghost use mathlib.Core.List.{[], _++_};
 ghost use Prim.Native.Nat.{_+_, _≤_};
-ghost use lib.ListN.{drop};
+ghost use lib.Dec.{eqb};
+ghost use lib.IntN.{pos};
+ghost use lib.ListN.{length, drop};
+ghost use Rattle.laws.specs.Choice.{if_then_else_};
+ghost use Rattle.laws.specs.Law78.{sameScore};
 ghost use Rattle.tally.specs.Tallies.{tallyOf, scoresIn, allZero, wellFormed, refusedWith, freshOf};
-ghost use Rattle.tally.specs.Steps.{sizeOf, entryAt, higherOf, Joinable};
+ghost use Rattle.tally.specs.Steps.{Checks, entryAt, higherOf, nextOf, Joinable};
 
 // The refusals of tally calls, as document 01 numbers them. The place of each is 0.
 const NO_SUCH_BOARD: u8 = 3;
@@ -62,33 +66,63 @@ struct Size {
     results: u8,
 }
 
-// Whether nothing but zeros stands from a place on.
-fn zeros_from(t: Tally, at: usize) -> bool
-    requires { ⌜ at ≤ 128 ⌝ }
-    ensures { λ r. ⌜ r ≡ allZero (drop at (t .scores)) (drop at (t .counts)) ⌝ }
-{
-    let mut i = at;
-    while i < 128 {
-        if t.scores[i] != 0 {
-            return false;
-        }
-        if t.counts[i] != 0 {
-            return false;
-        }
-        i += 1;
-    }
-    true
+// Whether a tally is as described, and its size where it is.
+struct Checked {
+    good: bool,
+    size: Size,
 }
 
-// Whether a tally is as described: a board from 1 to 127, valid scores that fall, at most 128 results, and zeros after them.
-pub fn well_formed(t: Tally) -> bool
-    ensures { λ r. ⌜ r ≡ wellFormed t ⌝ }
+// 1 for a score that is not 0, else 0.
+fn some_score(s: i16) -> u16
+    ensures { λ r. ⌜ r ≡ (if sameScore s (pos 0) then 0 else 1) ⌝ }
+{
+    if s == 0 { 0 } else { 1 }
+}
+
+// 1 for a count that is not 0, else 0.
+fn some_count(c: u8) -> u16
+    ensures { λ r. ⌜ r ≡ (if eqb c 0 then 0 else 1) ⌝ }
+{
+    if c == 0 { 0 } else { 1 }
+}
+
+// Whether nothing but zeros stands from a place on. What is not zero is counted, and no place ends the pass, so that the compiler takes many at once.
+fn zeros_from<'a>(scores: &'a [i16; 128], counts: &'a [u8; 128], at: usize) -> bool
+    requires { ⌜ (at ≤ 128) × (length (now scores) ≡ 128) × (length (now counts) ≡ 128) ⌝ }
+    ensures { λ r. ⌜ r ≡ allZero (drop at (now (scores .entry))) (drop at (now (counts .entry))) ⌝ }
+{
+    let mut others: u16 = 0;
+    let mut i = at;
+    while i < 128 {
+        others += some_score(scores[i]) + some_count(counts[i]);
+        i += 1;
+    }
+    others == 0
+}
+
+// A tally that is not as described.
+fn malformed() -> Checked
+    ensures { λ r. ⌜ r .good ≡ false ⌝ }
+{
+    let none = Size {
+        used: 0,
+        results: 0,
+    };
+    Checked {
+        good: false,
+        size: none,
+    }
+}
+
+// Whether a tally is as described, a board from 1 to 127, valid scores that fall, at most 128 results, and zeros after them; and its size, in one pass.
+fn check(t: Tally) -> Checked
+    ensures { λ r. ⌜ Checks t r ⌝ }
 {
     if t.board == 0 {
-        return false;
+        return malformed();
     }
     if 127 < t.board {
-        return false;
+        return malformed();
     }
     let mut top: i16 = 7601;
     let mut room: u8 = 128;
@@ -96,47 +130,45 @@ pub fn well_formed(t: Tally) -> bool
     while i < 128 {
         let c = t.counts[i];
         if c == 0 {
-            return zeros_from(t, i);
+            let size = Size {
+                used: i,
+                results: 128 - room,
+            };
+            return Checked {
+                good: zeros_from(&t.scores, &t.counts, i),
+                size: size,
+            };
         }
         let s = t.scores[i];
         if !valid(s) {
-            return false;
+            return malformed();
         }
         if top <= s {
-            return false;
+            return malformed();
         }
         if room < c {
-            return false;
+            return malformed();
         }
         room -= c;
         top = s;
         i += 1;
     }
-    true
+    let size = Size {
+        used: i,
+        results: 128 - room,
+    };
+    Checked {
+        good: true,
+        size: size,
+    }
 }
 
-// The size of a tally that is well formed.
-fn size_of(t: Tally) -> Size
-    requires { ⌜ wellFormed t ≡ true ⌝ }
-    ensures { λ r. ⌜ r ≡ sizeOf t ⌝ }
+// Whether a tally is as described.
+pub fn well_formed(t: Tally) -> bool
+    ensures { λ r. ⌜ r ≡ wellFormed t ⌝ }
 {
-    let mut results: u8 = 0;
-    let mut i: usize = 0;
-    while i < 128 {
-        let c = t.counts[i];
-        if c == 0 {
-            return Size {
-                used: i,
-                results: results,
-            };
-        }
-        results += c;
-        i += 1;
-    }
-    Size {
-        used: i,
-        results: results,
-    }
+    let x = check(t);
+    x.good
 }
 
 // The tally of a board without a result.
@@ -227,18 +259,35 @@ fn higher(x: Entry, y: Entry) -> Next
     }
 }
 
-// The results of two tallies in one, written into an empty tally in a single pass over both. `n` and `m` are the ends of their entries.
+// The entry after one that is taken; one that is not taken stays.
+fn next_of(taken: usize, x: Entry, after: Entry) -> Entry
+    ensures { λ r. ⌜ r ≡ nextOf taken x after ⌝ }
+{
+    let s = x.score;
+    let c = x.count;
+    let r = after.score;
+    let d = after.count;
+    if taken == 0 {
+        return Entry { score: s, count: c };
+    }
+    Entry { score: r, count: d }
+}
+
+// The results of two tallies in one, written into an empty tally in a single pass over both. `n` and `m` are the ends of their entries. The entries
+// after the two that are compared are read before the comparison, so that a turn does not wait for them.
 fn joined(none: Tally, a: Tally, n: usize, b: Tally, m: usize) -> Tally
     requires { ⌜ Joinable none a n b m ⌝ }
     ensures { λ r. ⌜ r ≡ tallyOf (none .board) (scoresIn a ++ scoresIn b) ⌝ }
 {
     let mut u = none;
+    let mut x = entry_at(&a.scores, &a.counts, 0, n);
+    let mut y = entry_at(&b.scores, &b.counts, 0, m);
     let mut i: usize = 0;
     let mut j: usize = 0;
     let mut k: usize = 0;
     while k < 128 {
-        let x = entry_at(&a.scores, &a.counts, i, n);
-        let y = entry_at(&b.scores, &b.counts, j, m);
+        let p = entry_at(&a.scores, &a.counts, i + 1, n);
+        let q = entry_at(&b.scores, &b.counts, j + 1, m);
         let e = higher(x, y);
         let s = e.score;
         let c = e.count;
@@ -247,6 +296,8 @@ fn joined(none: Tally, a: Tally, n: usize, b: Tally, m: usize) -> Tally
         }
         u.scores[k] = s;
         u.counts[k] = c;
+        x = next_of(e.first, x, p);
+        y = next_of(e.second, y, q);
         i += e.first;
         j += e.second;
         k += 1;

@@ -1,4 +1,4 @@
--- What the play's position lists is what Law 64 counts on: the revokes and the winners of the history. Assumes nothing.
+-- What the play tells is what Law 64 counts on: the revokes and the winners of the history. Assumes nothing.
 use Prim.Native.Nat.{ℕ, suc, _≤_, _<_, _+_, _*_, _/_, _%_}
 use mathlib.Core.Path.{_≡_, refl, sym, ap, ap₂, _∙_}
 use mathlib.Core.Bool.{true, false}
@@ -14,12 +14,12 @@ use Rattle.laws.specs.Judgement
 use Rattle.laws.proofs.Tests.{by-test}
 use Rattle.laws.proofs.Padded.{padded-back}
 use Rattle.laws.proofs.Revokes.{revoke-exactly}
-use Rattle.play.specs.Position.{revokeByte}
-use Rattle.play.specs.History.{AllPlayed, positionOf, tricksOf, revokesOf, byteOf}
+use Rattle.play.specs.Told.{revokeByte}
+use Rattle.play.specs.History.{AllPlayed, tricksOf, revokesOf, byteOf}
 use Rattle.play.proofs.Holders.{turn-seat}
 use Rattle.play.proofs.Thirteen.{at-most-52, none-on-thirteen}
-use Rattle.play.proofs.Complete.{winners-count, tricks-law}
-use Rattle.play.proofs.Listed.{at-most-36, revokes-law}
+use Rattle.play.proofs.Complete.{winners-count}
+use Rattle.play.proofs.Listed.{at-most-36}
 use Rattle.transfer.specs.Inputs.{revokeOf, revokesIn, winnersIn, claimedBy, transferredIn}
 
 -- ---- a revoke whose parts fit their bits is read back from its byte
@@ -74,25 +74,23 @@ module _ (deal : List ℕ) (trump opening : ℕ) (all : length deal ≡ 52) (dea
       (λ (q : isRevoke trump opening deal g c ≡ true). rw q (all-append (revokes trump opening deal g) _ (all-within g (w .1)) (revoke-within c g w q, tt)))
       (λ (q : isRevoke trump opening deal g c ≡ false). rw q (all-append (revokes trump opening deal g) [] (all-within g (w .1)) tt))
 
-  -- the list of the position, read back, is the Laws'
-  pub revokes-back : (g : List ℕ) → AllPlayed deal trump opening g → revokesIn (positionOf deal trump opening g .revokes) ≡ revokes trump opening deal g
+  -- the list of revokes, read back, is the Laws'
+  pub revokes-back : (g : List ℕ) → AllPlayed deal trump opening g → revokesIn (revokesOf deal trump opening g) ≡ revokes trump opening deal g
   unfolding revokesIn revokesOf
   revokes-back g w =
       let rs = revokes trump opening deal g in
       let n = length-map rs byteOf in
-      rw (revokes-law deal trump opening all dealt g w, sym n, padded-back 0 36 (map byteOf rs) (omega (arith, at-most-36 deal trump opening all dealt g w)))
+      rw (padded-back 0 36 (map byteOf rs) (omega (arith, at-most-36 deal trump opening all dealt g w)))
       (bytes-back rs (all-within g w))
 
-  pub winners-back : (g : List ℕ) → AllPlayed deal trump opening g → winnersIn (positionOf deal trump opening g .tricks) ≡ winners trump opening g
+  pub winners-back : (g : List ℕ) → AllPlayed deal trump opening g → winnersIn (tricksOf trump opening g) ≡ winners trump opening g
   unfolding winnersIn tricksOf
   winners-back g w =
-      let ws = winners trump opening g in
-      let n = winners-count trump opening g in
-      rw (tricks-law deal trump opening all g w, sym n) (padded-back 0 13 ws (few-winners trump opening g (at-most-52 deal trump opening all g w)))
+      padded-back 0 13 (winners trump opening g) (few-winners trump opening g (at-most-52 deal trump opening all g w))
 
-  -- the theorem: the count on the position is Law 64 on the history
+  -- the theorem: the count on what the play tells is Law 64 on the history
   pub transferred-law : (g : List ℕ) → AllPlayed deal trump opening g → (declarer claim left : ℕ)
-      → transferredIn (positionOf deal trump opening g .revokes) (positionOf deal trump opening g .tricks) declarer claim left
+      → transferredIn (revokesOf deal trump opening g) (tricksOf trump opening g) declarer claim left
       ≡ transferredTricks (partnerOf declarer) (winners trump opening g) (claimedBy declarer claim left) (revokes trump opening deal g)
   unfolding transferredIn
   transferred-law g w declarer claim left = rw (revokes-back g w, winners-back g w)

@@ -24,7 +24,8 @@ use Rattle.tree_script.specs.declared.Call.{Call}
 use Rattle.tree_script.specs.declared.Call.the-variants.{Fresh, Add, Merge, Matchpoints, Unreadable}
 use Rattle.tree_script.specs.declared.Score.{Score}
 use Rattle.tree_script.specs.declared.Score.the-variants.{Of, Nothing}
-use Rattle.tree_script.specs.Calls.{isPrefix, boardIn, plusIn, minusIn, freshOn, scoreOn, withScore, freshWord, addWord, matchpointsWord, mergeWord, tallyCallOn}
+use Rattle.tree_script.specs.Calls.{isPrefix, boardIn, plusIn, minusIn, freshOn, scoreOn}
+use Rattle.tree_script.specs.Calls.{withScore, freshWord, addWord, matchpointsWord, mergeWord, tallyCallOn}
 
 -- ---- a word at the start
 module _ (word s : List ℕ) (i : ℕ) (more : i < length word) where

@@ -1,5 +1,5 @@
-//! Compares the proved program `tree` with the rules for trees, on scripts of random trees; and its percentages, bit by bit, with one division for
-//! every number of results.
+//! Compares the proved program `tree` with the rules for trees in docs/RULES.md, on scripts of random trees; and its percentages, bit by bit, with one
+//! division for every number of results.
 use outside::random::Random;
 use outside::run::{output_of, stop, Words};
 use outside::scripts::Script;

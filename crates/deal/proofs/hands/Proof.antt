@@ -47,7 +47,12 @@ add-words : tie.Need-add-words Inv-loop μ-loop
 add-words c =
     let t = c .before .before in
     let l = t .before in
-    omega (arith, rw (← c .before .bit-of .ensures) at (gain-fits (l .loop .words) (l .before .args .t1) (l .loop .i) (getD (l .before .args .t1) (l .loop .i) 0) (within t) refl (l .loop .inv .1) (c .if1 .taken) (omega arith)))
+    omega (
+      arith,
+      rw (← c .before .bit-of .ensures) at
+          (gain-fits (l .loop .words) (l .before .args .t1) (l .loop .i) (getD (l .before .args .t1) (l .loop .i) 0) (within t) refl (l .loop .inv .1)
+          (c .if1 .taken) (omega arith)),
+    )
 
 mul-words-2 : tie.Need-mul-words-2 Inv-loop μ-loop
 mul-words-2 c = search needs

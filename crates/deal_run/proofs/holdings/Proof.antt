@@ -5,13 +5,16 @@ use Rattle.deal_run.proofs.holdings.Statement.{statement}
 use Rattle.deal_run.proofs.holdings.Tie as tie
 
 abbrev Inv-loop : tie.InvT-loop
-Inv-loop north suit₀ t4 t5 suit = suit ≤ 5
+Inv-loop north suit₀ t5 t6 suit = suit ≤ 5
 
 abbrev μ-loop : tie.MeasureT-loop
-μ-loop north suit₀ t4 t5 suit = 5 - suit
+μ-loop north suit₀ t5 t6 suit = 5 - suit
 
-short-seat-requires : tie.Need-short-seat-requires Inv-loop μ-loop
-short-seat-requires c κs = search needs
+hands-requires : tie.Need-hands-requires Inv-loop μ-loop
+hands-requires c κs = search needs
+
+seat-without-thirteen-requires : tie.Need-seat-without-thirteen-requires Inv-loop μ-loop
+seat-without-thirteen-requires c κs = search needs
 
 cast-number : tie.Need-cast-number Inv-loop μ-loop
 cast-number c = search needs
@@ -19,8 +22,8 @@ cast-number c = search needs
 number-requires : tie.Need-number-requires Inv-loop μ-loop
 number-requires c κs = search needs
 
-hand-requires : tie.Need-hand-requires Inv-loop μ-loop
-hand-requires c κs = search needs
+array-read-north : tie.Need-array-read-north Inv-loop μ-loop
+array-read-north c = search needs
 
 loop-holds : tie.Need-loop-holds Inv-loop μ-loop
 loop-holds c = search needs
@@ -70,10 +73,11 @@ holdings-spec =
     (tie.spec
     Inv-loop
     μ-loop
-    short-seat-requires
+    hands-requires
+    seat-without-thirteen-requires
     cast-number
     number-requires
-    hand-requires
+    array-read-north
     loop-holds
     slice-aggregate-text
     text-requires

@@ -17,7 +17,10 @@ window-requires : tie.Need-window-requires
 window-requires c κs = search needs
 
 returns-2 : tie.Need-returns-2
-returns-2 c = let here : 8 * (c .before .before .before .before .args .at / 8) + c .before .before .before .before .args .at % 8 ≡ c .before .before .before .before .args .at = omega arith in whole (c .before .before .before .before .args .bytes .now) (c .before .before .before .before .args .at) (c .before .before .before .before .args .width) (rw here at (c .window .ensures)) (omega arith) (omega arith)
+returns-2 c = let here : 8 * (c .before .before .before .before .args .at / 8) + c .before .before .before .before .args .at % 8
+    ≡ c .before .before .before .before .args .at = omega arith in
+    whole (c .before .before .before .before .args .bytes .now) (c .before .before .before .before .args .at)
+    (c .before .before .before .before .args .width) (rw here at (c .window .ensures)) (omega arith) (omega arith)
 
 returns-3 : tie.Need-returns-3
 returns-3 c = too-short _ _ _ (omega arith) (omega arith)
@@ -35,7 +38,10 @@ window-requires-2 : tie.Need-window-requires-2
 window-requires-2 c κs = search needs
 
 returns-5 : tie.Need-returns-5
-returns-5 c = let here : 8 * (c .before .before .before .before .before .before .args .at / 8) + c .before .before .before .before .before .before .args .at % 8 ≡ c .before .before .before .before .before .before .args .at = omega arith in whole (c .before .before .before .before .before .before .args .bytes .now) (c .before .before .before .before .before .before .args .at) (c .before .before .before .before .before .before .args .width) (rw here at (c .window2 .ensures)) (omega arith) (omega arith)
+returns-5 c = let here : 8 * (c .before .before .before .before .before .before .args .at / 8) + c .before .before .before .before .before .before .args .at
+    % 8 ≡ c .before .before .before .before .before .before .args .at = omega arith in
+    whole (c .before .before .before .before .before .before .args .bytes .now) (c .before .before .before .before .before .before .args .at)
+    (c .before .before .before .before .before .before .args .width) (rw here at (c .window2 .ensures)) (omega arith) (omega arith)
 
 pub read-spec : {M : Type 1} → statement M
 read-spec =

@@ -33,7 +33,8 @@ cast-result c = record { fits = window-lt _ (c .before .before .before .before .
 returns : tie.Need-returns
 returns c =
     let a = c .before .before .before .before .args in
-    window (a .bytes .now) (a .first) (a .skipped) (a .width) (omega arith) (omega arith) (c .before .before .three-at .ensures) (c .before .pow2 .ensures) (c .pow22 .ensures)
+    window (a .bytes .now) (a .first) (a .skipped) (a .width) (omega arith) (omega arith) (c .before .before .three-at .ensures) (c .before .pow2 .ensures)
+    (c .pow22 .ensures)
 
 pub window-spec : {M : Type 1} → statement M
 window-spec =

@@ -1,11 +1,11 @@
 -- `put7` meets its contract: seven stores at the front. Assumes nothing.
-use mathlib.Core.Path.{_≡_, ap, _∙_}
+use mathlib.Core.Path.{ap, _∙_}
 use mathlib.Core.List.{List, [], _∷_, _++_}
 use Prim.Native.Nat.{ℕ}
 use lib.Seq.{sets-eq}
 use Rattle.judge.proofs.Answering.{seven}
 use native.Mathlib.Omega.{arith}
-use lib.ListN.{length, drop, length-set}
+use lib.ListN.{drop, length-set}
 use borrow.Author.Needs.{needs}
 use Rattle.judge.proofs.put7.Statement.{statement}
 use Rattle.judge.proofs.put7.Tie as tie
@@ -73,7 +73,8 @@ returns c =
     0
     (c0 .before .before .pre)
     ∙ ap (λ (l : List ℕ). l ++ drop 7 (a .answer .now))
-    (seven (a .x) (c0 .narrow .ensures) (c1 .narrow2 .ensures) (c2 .narrow3 .ensures) (c3 .narrow4 .ensures) (c4 .narrow5 .ensures) (c5 .narrow6 .ensures) (c .narrow7 .ensures))
+    (seven (a .x) (c0 .narrow .ensures) (c1 .narrow2 .ensures) (c2 .narrow3 .ensures) (c3 .narrow4 .ensures) (c4 .narrow5 .ensures) (c5 .narrow6 .ensures)
+    (c .narrow7 .ensures))
 
 pub put7-spec : {M : Type 1} → statement M
 put7-spec =

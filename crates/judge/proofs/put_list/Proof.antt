@@ -1,10 +1,10 @@
 -- `put_list` meets its contract: after i turns the first i bytes are over the front. Assumes nothing.
 use borrow.Author.Needs.{needs}
 use native.Mathlib.Omega.{arith}
-use mathlib.Core.Path.{_≡_, refl, sym, ap, _∙_}
-use mathlib.Core.List.{List, _++_}
-use Prim.Native.Nat.{ℕ, _+_, _-_, _≤_, _<_}
-use lib.ListN.{length, take, drop, getD, set, length-set}
+use mathlib.Core.Path.{_≡_}
+use mathlib.Core.List.{_++_}
+use Prim.Native.Nat.{_+_, _-_, _≤_}
+use lib.ListN.{length, take, drop}
 use Rattle.judge.proofs.Answering.{front-more}
 use Rattle.judge.proofs.put_list.Statement.{statement}
 use Rattle.judge.proofs.put_list.Tie as tie

@@ -6,13 +6,16 @@ use Rattle.play_run.proofs.show.Statement.{statement}
 use Rattle.play_run.proofs.show.Tie as tie
 
 abbrev Inv-loop : tie.InvT-loop
-Inv-loop cards claim left p₀ i₀ t10 t11 t12 p i = i ≤ length cards
+Inv-loop cards claim left p₀ i₀ t11 t12 t13 p i = i ≤ length cards
 
 abbrev μ-loop : tie.MeasureT-loop
-μ-loop cards claim left p₀ i₀ t10 t11 t12 p i = length cards - i
+μ-loop cards claim left p₀ i₀ t11 t12 t13 p i = length cards - i
 
 deal-requires : tie.Need-deal-requires Inv-loop μ-loop
 deal-requires c κs = search needs
+
+hands-requires : tie.Need-hands-requires Inv-loop μ-loop
+hands-requires c κs = search needs
 
 new-requires : tie.Need-new-requires Inv-loop μ-loop
 new-requires c κs = search needs
@@ -68,6 +71,12 @@ loop-less c = search needs
 loop-again : tie.Need-loop-again Inv-loop μ-loop
 loop-again c = search needs
 
+tricks-requires : tie.Need-tricks-requires Inv-loop μ-loop
+tricks-requires c κs = search needs
+
+revokes-requires : tie.Need-revokes-requires Inv-loop μ-loop
+revokes-requires c κs = search needs
+
 show-winners-requires : tie.Need-show-winners-requires Inv-loop μ-loop
 show-winners-requires c κs = search needs
 
@@ -90,6 +99,7 @@ show-spec =
     Inv-loop
     μ-loop
     deal-requires
+    hands-requires
     new-requires
     loop-holds
     shared-slice-read-card
@@ -108,6 +118,8 @@ show-spec =
     add-i
     loop-less
     loop-again
+    tricks-requires
+    revokes-requires
     show-winners-requires
     show-revokes-requires
     show-sides-requires

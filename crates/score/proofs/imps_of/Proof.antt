@@ -94,8 +94,12 @@ returns-3 c =
 difference-requires-2 : tie.Need-difference-requires-2
 difference-requires-2 c κs =
     let st = c .before .before .before .before .before in
-    rw (whole (st .args .first) (st .fits .first), whole (st .args .second) (st .fits .second))
-    (passed (c .before) .two, passed (c .before) .one, below-at-most (st .args .second) (st .args .first) (at-most _ _ _ (st .fits .second) (st .fits .first) (c .if3 .left)))
+    rw (whole (st .args .first) (st .fits .first), whole (st .args .second) (st .fits .second)) (
+      passed (c .before) .two,
+      passed (c .before) .one,
+      below-at-most (st .args .second) (st .args .first)
+          (at-most _ _ _ (st .fits .second) (st .fits .first) (c .if3 .left)),
+    )
 
 ends-reached-requires-2 : tie.Need-ends-reached-requires-2
 ends-reached-requires-2 c κs = search needs

@@ -69,8 +69,14 @@ put-decimal-put-digit-requires-2 : (t : ℕ) → put-decimal-lts.Need-put-digit-
   put-decimal.Post,
 ) (put-decimal-at t) put-decimal.Post
 put-decimal-put-digit-requires-2 t c κs =
-    let n = c .before .before .before .before .before .before .before .args .n in
-    (omega (arith, next-room (digit (n % 10) ∷ []) (c .before .before .before .put-decimal .ensures) (rw (more-digits n (c .before .before .before .before .before .if1 .left)) at (c .before .before .before .before .before .before .before .pre .1))), omega arith)
+    let n = c .before .before .before .before .before .before .before .args .n in (
+      omega (
+        arith,
+        next-room (digit (n % 10) ∷ []) (c .before .before .before .put-decimal .ensures)
+            (rw (more-digits n (c .before .before .before .before .before .if1 .left)) at (c .before .before .before .before .before .before .before .pre .1)),
+      ),
+      omega arith,
+    )
 
 put-decimal-same-length-2 : (t : ℕ) → put-decimal-lts.Need-same-length-2 (
   put-digit-reads.Asked,
@@ -78,7 +84,8 @@ put-decimal-same-length-2 : (t : ℕ) → put-decimal-lts.Need-same-length-2 (
   put-decimal-below t,
   put-decimal.Post,
 ) (put-decimal-at t) put-decimal.Post
-put-decimal-same-length-2 t c = put-length (c .before .before .put-digit2 .ensures) ∙ put-length (c .before .before .before .before .before .before .put-decimal .ensures)
+put-decimal-same-length-2 t c =
+    put-length (c .before .before .put-digit2 .ensures) ∙ put-length (c .before .before .before .before .before .before .put-decimal .ensures)
 
 put-decimal-returns-2 : (t : ℕ) → put-decimal-lts.Need-returns-2 (
   put-digit-reads.Asked,
@@ -86,7 +93,9 @@ put-decimal-returns-2 : (t : ℕ) → put-decimal-lts.Need-returns-2 (
   put-decimal-below t,
   put-decimal.Post,
 ) (put-decimal-at t) put-decimal.Post
-put-decimal-returns-2 t c = rw (more-digits _ (c .before .before .before .before .before .before .before .before .if1 .left)) (then (c .before .before .before .before .before .before .put-decimal .ensures) (c .before .before .put-digit2 .ensures))
+put-decimal-returns-2 t c =
+    rw (more-digits _ (c .before .before .before .before .before .before .before .before .if1 .left))
+    (then (c .before .before .before .before .before .before .put-decimal .ensures) (c .before .before .put-digit2 .ensures))
 
 pub +put-decimal-spec : {M : Type 1} → statement M
 +put-decimal-spec = close μ-put-decimal λ t. put-decimal-lts.spec (

@@ -20,7 +20,8 @@ cast-put-decimal : tie.Need-cast-put-decimal
 cast-put-decimal c = wide _ (c .before .before .before .before .before .before .before .fits .score)
 
 sub-put-decimal : tie.Need-sub-put-decimal
-sub-put-decimal c = below-zero _ (c .before .before .before .before .before .before .before .fits .score) (c .before .before .before .before .before .if1 .taken) .fits
+sub-put-decimal c =
+    below-zero _ (c .before .before .before .before .before .before .before .fits .score) (c .before .before .before .before .before .if1 .taken) .fits
 
 cast-put-decimal-2 : tie.Need-cast-put-decimal-2
 cast-put-decimal-2 c =

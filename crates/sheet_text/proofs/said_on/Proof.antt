@@ -35,7 +35,8 @@ returns-2 : tie.Need-returns-2
 returns-2 c =
     let s = c .before .before .before .before .before .before .before .args .line .now in
     let e : take (length s - 1) (drop 1 s) ≡ drop 1 s = take-all (length s - 1) (drop 1 s) (rw length-drop (omega arith)) in
-    c .negative .ensures ∙ ap negativeOf (c .before .size-on .ensures ∙ ap sizeOn e) ∙ said-minus _ (c .before .before .before .before .before .if1 .left) (c .before .before .before .if2 .taken)
+    c .negative .ensures ∙ ap negativeOf (c .before .size-on .ensures ∙ ap sizeOn e) ∙ said-minus _ (c .before .before .before .before .before .if1 .left)
+    (c .before .before .before .if2 .taken)
 
 size-on-requires-2 : tie.Need-size-on-requires-2
 size-on-requires-2 c κs = search needs
@@ -44,13 +45,16 @@ positive-requires : tie.Need-positive-requires
 positive-requires c κs = search needs
 
 returns-3 : tie.Need-returns-3
-returns-3 c = c .positive .ensures ∙ ap positiveOf (c .before .size-on2 .ensures) ∙ said-long _ (c .before .before .before .before .before .if1 .left) (c .before .before .before .if2 .left) (c .before .before .if3 .taken)
+returns-3 c =
+    c .positive .ensures ∙ ap positiveOf (c .before .size-on2 .ensures) ∙ said-long _ (c .before .before .before .before .before .if1 .left)
+    (c .before .before .before .if2 .left) (c .before .before .if3 .taken)
 
 shared-slice-read-if4 : tie.Need-shared-slice-read-if4
 shared-slice-read-if4 c = search needs
 
 returns-4 : tie.Need-returns-4
-returns-4 c = said-zero _ (c .before .before .before .before .before .if1 .left) (c .before .before .before .if2 .left) (c .before .before .if3 .left) (c .if4 .taken)
+returns-4 c =
+    said-zero _ (c .before .before .before .before .before .if1 .left) (c .before .before .before .if2 .left) (c .before .before .if3 .left) (c .if4 .taken)
 
 size-on-requires-3 : tie.Need-size-on-requires-3
 size-on-requires-3 c κs = search needs
@@ -59,7 +63,10 @@ positive-requires-2 : tie.Need-positive-requires-2
 positive-requires-2 c κs = search needs
 
 returns-5 : tie.Need-returns-5
-returns-5 c = c .positive2 .ensures ∙ ap positiveOf (c .before .size-on3 .ensures) ∙ said-digit _ (c .before .before .before .before .before .before .before .if1 .left) (c .before .before .before .before .before .if2 .left) (c .before .before .if4 .left)
+returns-5 c =
+    c .positive2 .ensures ∙ ap positiveOf (c .before .size-on3 .ensures) ∙ said-digit _
+    (c .before .before .before .before .before .before .before .if1 .left) (c .before .before .before .before .before .if2 .left)
+    (c .before .before .if4 .left)
 
 pub said-on-spec : {M : Type 1} → statement M
 said-on-spec =

@@ -21,7 +21,8 @@ read-number-requires : tie.Need-read-number-requires
 read-number-requires c κs = search needs
 
 returns-4 : tie.Need-returns-4
-returns-4 c = c .read-number .ensures ∙ size-digits _ (c .before .before .before .before .if1 .left) (c .before .before .before .if2 .left) (c .before .if3 .left)
+returns-4 c =
+    c .read-number .ensures ∙ size-digits _ (c .before .before .before .before .if1 .left) (c .before .before .before .if2 .left) (c .before .if3 .left)
 
 pub size-on-spec : {M : Type 1} → statement M
 size-on-spec =

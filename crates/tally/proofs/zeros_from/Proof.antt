@@ -1,65 +1,71 @@
--- `tally::zeros_from` meets its contract. The loop's invariant: the places from the first on are zero exactly where those from `i` on are.
--- Assumes nothing.
-use Prim.Native.Nat.{suc, _≤_, _-_}
+-- `tally::zeros_from` meets its contract. The loop's invariant: the places from `at` on are zero exactly where none was counted and those from `i` on
+-- are zero. Assumes nothing.
+use Prim.Native.Nat.{_≤_, _+_, _-_, _*_}
 use native.Mathlib.Omega.{arith}
-use native.Mathlib.Numerals.{add-one}
-use mathlib.Core.Path.{_≡_, refl, sym, ap, _∙_}
+use mathlib.Core.Path.{_≡_, refl, sym, _∙_}
 use mathlib.Core.Bool.{_&&_}
 use borrow.Author.Needs.{needs}
-use borrow.Author.Tests.{eq-eqb, ne-eqb}
 use lib.Dec.{eqb}
+use Rattle.laws.specs.Choice.{if_then_else_}
+use Rattle.laws.specs.Law78.{sameScore}
 use lib.IntN.{pos}
 use lib.ListN.{length, getD}
 use mir.Syntax.{w16}
-use mir.Val.{SFits, ofZ}
-use Rattle.laws.proofs.Scores.{true-same, ne-same}
-use Rattle.tally.proofs.Places.{same-of, zerosAt, zeros-step, zeros-end}
+use mir.Val.{SFits}
+use mir.Facts.{toZ-ofZ}
+use Rattle.tally.proofs.Places.{zerosAt, zeros-end, and-true, low, zeros-turn}
 use Rattle.tally.proofs.zeros_from.Statement.{statement}
 use Rattle.tally.proofs.zeros_from.Tie as tie
 
 abbrev Inv-loop : tie.InvT-loop
-Inv-loop at t i₀ i =
-    (i ≤ 128) × (length (t .scores) ≡ 128) × (length (t .counts) ≡ 128) × (zerosAt (t .scores) (t .counts) i₀ ≡ zerosAt (t .scores) (t .counts) i)
+Inv-loop scores counts at others₀ i₀ others i =
+    (i ≤ 128) × (others ≤ 2 * i) × (length scores ≡ 128) × (length counts ≡ 128) × (zerosAt scores counts at ≡ (eqb others 0 && zerosAt scores counts i))
 
 abbrev μ-loop : tie.MeasureT-loop
-μ-loop at t i₀ i = 128 - i
+μ-loop scores counts at others₀ i₀ others i = 128 - i
 
 loop-holds : tie.Need-loop-holds Inv-loop μ-loop
-loop-holds c = (search needs, search needs, search needs, refl)
+loop-holds c = (c .pre .0, omega arith, c .pre .1, c .pre .2, refl)
 
-mul-if1 : tie.Need-mul-if1 Inv-loop μ-loop
-mul-if1 c = search needs
+mul-some-score : tie.Need-mul-some-score Inv-loop μ-loop
+mul-some-score c = search needs
 
-element-copy-out-if1 : tie.Need-element-copy-out-if1 Inv-loop μ-loop
-element-copy-out-if1 c = search needs
+element-copy-out-some-score : tie.Need-element-copy-out-some-score Inv-loop μ-loop
+element-copy-out-some-score c = search needs
 
-returns : tie.Need-returns Inv-loop μ-loop
-returns c =
-    let a = c .before .before .before .before .args in
-    let l = c .before .before .before .loop in
-    let x = getD (a .t1 .scores) (l .i) (pos 0) in
-    let e = l .inv .3 ∙ zeros-step (a .t1 .scores) (a .t1 .counts) (l .i) (omega arith) (omega arith) in
-    let q = ne-same x (pos 0) (λ z. c .if1 .taken (ap (ofZ w16) z)) in
-    sym (rw q at e)
+some-score-requires : tie.Need-some-score-requires Inv-loop μ-loop
+some-score-requires c κs = search needs
 
--- past a score of zero the answer is that of the count, and of the places after it
-score-zero : (d : tie.Else1 Inv-loop μ-loop) →
-    let t = d .before .before .before .before .args .t1 in
-    let i = d .before .before .before .loop .i in
-    zerosAt (t .scores) (t .counts) (d .before .before .before .before .args .at) ≡ (eqb (getD (t .counts) i 0) 0 && zerosAt (t .scores) (t .counts) (suc i))
-score-zero d =
-    let t = d .before .before .before .before .args .t1 in
-    let l = d .before .before .before .loop in
-    let x = getD (t .scores) (l .i) (pos 0) in
-    let f : SFits w16 (getD (t .scores) (l .i) (pos 0)) = search needs in
-    let q = true-same x (pos 0) (same-of x (pos 0) f (record { sfits = omega arith }) (d .if1 .left)) in
-    rw q at (l .inv .3 ∙ zeros-step (t .scores) (t .counts) (l .i) (omega arith) (omega arith))
+element-copy-out-some-count : tie.Need-element-copy-out-some-count Inv-loop μ-loop
+element-copy-out-some-count c = search needs
 
-element-copy-out-if2 : tie.Need-element-copy-out-if2 Inv-loop μ-loop
-element-copy-out-if2 c = search needs
+some-count-requires : tie.Need-some-count-requires Inv-loop μ-loop
+some-count-requires c κs = search needs
 
-returns-2 : tie.Need-returns-2 Inv-loop μ-loop
-returns-2 c = sym (rw (ne-eqb _ 0 (c .if2 .taken)) at (score-zero (c .before .before)))
+-- whether the score at the place is counted
+told : (c : tie.After-some-count Inv-loop μ-loop) →
+    let x = getD (c .before .before .before .before .before .before .args .scores .now) (c .before .before .before .before .before .loop .i) (pos 0) in
+    c .before .before .some-score .result ≡ (if sameScore x (pos 0) then 0 else 1)
+told c =
+    let f : SFits w16 (getD (c .before .before .before .before .before .before .args .scores .now) (c .before .before .before .before .before .loop .i)
+    (pos 0)) = search needs in
+    rw (toZ-ofZ f) at (c .before .before .some-score .ensures)
+
+-- at most one for each
+one-each : (c : tie.After-some-count Inv-loop μ-loop) → (c .before .before .some-score .result ≤ 1) × (c .some-count .result ≤ 1)
+one-each c =
+    let a = c .before .before .before .before .before .before .args in
+    low (a .scores .now) (a .counts .now) (c .before .before .before .before .before .loop .i) (omega arith) (omega arith) _ _ (told c) (c .some-count .ensures)
+
+add-others : tie.Need-add-others Inv-loop μ-loop
+add-others c =
+    let s = one-each c in
+    omega (arith, s .0, s .1)
+
+add-others-2 : tie.Need-add-others-2 Inv-loop μ-loop
+add-others-2 c =
+    let s = one-each c in
+    omega (arith, s .0, s .1, c .before .before .before .before .before .loop .inv .1)
 
 add-i : tie.Need-add-i Inv-loop μ-loop
 add-i c = search needs
@@ -70,13 +76,20 @@ loop-less c = search needs
 loop-again : tie.Need-loop-again Inv-loop μ-loop
 loop-again c =
     let l = c .before .before .before .before .before .loop in
-    (omega arith, l .inv .1, l .inv .2, rw (add-one (l .i)) (rw (eq-eqb _ 0 (c .if2 .left)) at (score-zero (c .before .before))))
+    let a = c .before .before .before .before .before .before .args in
+    let n = one-each c in (
+      omega arith,
+      omega (arith, n .0, n .1, l .inv .1),
+      l .inv .2,
+      l .inv .3,
+      l .inv .4 ∙ zeros-turn (a .scores .now) (a .counts .now) (l .i) (omega arith) (omega arith) _ _ (told c) (c .some-count .ensures) _,
+    )
 
-returns-3 : tie.Need-returns-3 Inv-loop μ-loop
-returns-3 c =
-    let a = c .before .before .args in
+returns : tie.Need-returns Inv-loop μ-loop
+returns c =
     let l = c .before .loop in
-    sym (l .inv .3 ∙ zeros-end (a .t1 .scores) (a .t1 .counts) (l .i) (omega arith))
+    let a = c .before .before .args in
+    sym (l .inv .4 ∙ rw (zeros-end (a .scores .now) (a .counts .now) (l .i) (omega arith)) (and-true _))
 
 pub zeros-from-spec : {M : Type 1} → statement M
 zeros-from-spec =
@@ -85,12 +98,14 @@ zeros-from-spec =
     Inv-loop
     μ-loop
     loop-holds
-    mul-if1
-    element-copy-out-if1
-    returns
-    element-copy-out-if2
-    returns-2
+    mul-some-score
+    element-copy-out-some-score
+    some-score-requires
+    element-copy-out-some-count
+    some-count-requires
+    add-others
+    add-others-2
     add-i
     loop-less
     loop-again
-    returns-3)
+    returns)

@@ -35,7 +35,11 @@ loop-less : tie.Need-loop-less Inv-loop μ-loop
 loop-less c = omega arith
 
 loop-again : tie.Need-loop-again Inv-loop μ-loop
-loop-again c = (omega arith, c .before .before .before .before .before .loop .inv .1 ∙ rw (c .before .before .take .ensures) (fed-more _ _ _ (c .before .before .before .before .loop-test .taken)))
+loop-again c = (
+  omega arith,
+  c .before .before .before .before .before .loop .inv .1 ∙ rw (c .before .before .take .ensures)
+      (fed-more _ _ _ (c .before .before .before .before .loop-test .taken)),
+)
 
 returns : tie.Need-returns Inv-loop μ-loop
 returns c = fed-all _ _ _ (c .loop-test .left) ∙ sym (c .before .loop .inv .1)

@@ -19,7 +19,12 @@ is-stopped-requires c κs = search needs
 returns : tie.Need-returns
 unfolding lineDone
 returns c =
-    rw (c .is-stopped .ensures, c .before .before .before .make-call .ensures, c .before .before .before .before .call-in .ensures, c .before .before .before .before .before .before .next-number .ensures)
+    rw (
+      c .is-stopped .ensures,
+      c .before .before .before .make-call .ensures,
+      c .before .before .before .before .call-in .ensures,
+      c .before .before .before .before .before .before .next-number .ensures,
+    )
 
 pub line-done-spec : {M : Type 1} → statement M
 line-done-spec =

@@ -29,7 +29,8 @@ returns : tie.Need-returns
 unfolding callOn
 returns c =
     let s = c .before .before .before .before .before .before .args .line .now in
-    c .cell-on .ensures ∙ ap (λ (l : _). withScore Cell (scoreOn l)) (rest-is 5 s) ∙ rw (sym (c .before .before .before .starts .ensures) ∙ c .before .before .if1 .taken)
+    c .cell-on .ensures ∙ ap (λ (l : _). withScore Cell (scoreOn l)) (rest-is 5 s)
+    ∙ rw (sym (c .before .before .before .starts .ensures) ∙ c .before .before .if1 .taken)
 
 slice-aggregate-starts-2 : tie.Need-slice-aggregate-starts-2
 slice-aggregate-starts-2 c = search needs

@@ -33,7 +33,8 @@ enum-told c = search needs
 returns : tie.Need-returns
 returns c =
     let s = c .before .before .before .before .before .before .before .before .args .bytes .now in
-    minus-none s (sym (c .before .before .before .before .before .starts .ensures) ∙ c .before .before .before .before .if1 .taken) (no-number _ _ (c .before .before .read-number .ensures ∙ ap numberOn (rest-is 1 s)) (c .enum-told .given .1))
+    minus-none s (sym (c .before .before .before .before .before .starts .ensures) ∙ c .before .before .before .before .if1 .taken)
+    (no-number _ _ (c .before .before .read-number .ensures ∙ ap numberOn (rest-is 1 s)) (c .enum-told .given .1))
 
 minus-in-requires : tie.Need-minus-in-requires
 minus-in-requires c κs = search needs
@@ -42,7 +43,9 @@ returns-2 : tie.Need-returns-2
 returns-2 c =
     let s = c .before .before .before .before .before .before .before .before .before .before .args .bytes .now in
     held-minus _ _ (c .minus-in .ensures)
-    ∙ minus-some s _ (sym (c .before .before .before .before .before .before .before .starts .ensures) ∙ c .before .before .before .before .before .before .if1 .taken) (is-number _ _ _ (c .before .before .before .before .read-number .ensures ∙ ap numberOn (rest-is 1 s)) (c .before .before .n .given .1))
+    ∙ minus-some s _ (sym (c .before .before .before .before .before .before .before .starts .ensures)
+    ∙ c .before .before .before .before .before .before .if1 .taken)
+    (is-number _ _ _ (c .before .before .before .before .read-number .ensures ∙ ap numberOn (rest-is 1 s)) (c .before .before .n .given .1))
 
 read-number-requires-2 : tie.Need-read-number-requires-2
 read-number-requires-2 c κs = search needs
@@ -54,7 +57,9 @@ enum-told-2 : tie.Need-enum-told-2
 enum-told-2 c = search needs
 
 returns-3 : tie.Need-returns-3
-returns-3 c = plus-none _ (sym (c .before .before .before .before .starts .ensures) ∙ c .before .before .before .if1 .left) (no-number _ _ (c .before .before .read-number2 .ensures) (c .enum-told2 .given .1))
+returns-3 c =
+    plus-none _ (sym (c .before .before .before .before .starts .ensures) ∙ c .before .before .before .if1 .left)
+    (no-number _ _ (c .before .before .read-number2 .ensures) (c .enum-told2 .given .1))
 
 plus-in-requires : tie.Need-plus-in-requires
 plus-in-requires c κs = search needs
@@ -62,7 +67,8 @@ plus-in-requires c κs = search needs
 returns-4 : tie.Need-returns-4
 returns-4 c =
     held-plus _ _ (c .plus-in .ensures)
-    ∙ plus-some _ _ (sym (c .before .before .before .before .before .before .starts .ensures) ∙ c .before .before .before .before .before .if1 .left) (is-number _ _ _ (c .before .before .before .before .read-number2 .ensures) (c .before .before .n2 .given .1))
+    ∙ plus-some _ _ (sym (c .before .before .before .before .before .before .starts .ensures) ∙ c .before .before .before .before .before .if1 .left)
+    (is-number _ _ _ (c .before .before .before .before .read-number2 .ensures) (c .before .before .n2 .given .1))
 
 pub score-on-spec : {M : Type 1} → statement M
 score-on-spec =

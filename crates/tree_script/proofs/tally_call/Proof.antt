@@ -52,7 +52,9 @@ add-on-requires c κs = search needs
 returns-2 : tie.Need-returns-2
 returns-2 c =
     let s = c .before .before .before .before .before .before .before .before .before .args .line .now in
-    c .add-on .ensures ∙ ap (λ (l : _). withScore Add (scoreOn l)) (rest-is 4 s) ∙ to-add s (sym (c .before .before .before .before .before .before .starts .ensures) ∙ c .before .before .before .before .before .if1 .left) (sym (c .before .before .before .starts2 .ensures) ∙ c .before .before .if2 .taken)
+    c .add-on .ensures ∙ ap (λ (l : _). withScore Add (scoreOn l)) (rest-is 4 s) ∙ to-add s
+    (sym (c .before .before .before .before .before .before .starts .ensures) ∙ c .before .before .before .before .before .if1 .left)
+    (sym (c .before .before .before .starts2 .ensures) ∙ c .before .before .if2 .taken)
 
 slice-aggregate-starts-3 : tie.Need-slice-aggregate-starts-3
 slice-aggregate-starts-3 c = search needs
@@ -76,10 +78,17 @@ returns-3 : tie.Need-returns-3
 returns-3 c =
     let s = c .before .before .before .before .before .before .before .before .before .before .before .before .args .line .now in
     c .matchpoints-on .ensures ∙ ap (λ (l : _). withScore Matchpoints (scoreOn l)) (rest-is 12 s)
-    ∙ to-matchpoints s (sym (c .before .before .before .before .before .before .before .before .before .starts .ensures) ∙ c .before .before .before .before .before .before .before .before .if1 .left) (sym (c .before .before .before .before .before .before .starts2 .ensures) ∙ c .before .before .before .before .before .if2 .left) (sym (c .before .before .before .starts3 .ensures) ∙ c .before .before .if3 .taken)
+    ∙ to-matchpoints s (sym (c .before .before .before .before .before .before .before .before .before .starts .ensures)
+    ∙ c .before .before .before .before .before .before .before .before .if1 .left)
+    (sym (c .before .before .before .before .before .before .starts2 .ensures) ∙ c .before .before .before .before .before .if2 .left)
+    (sym (c .before .before .before .starts3 .ensures) ∙ c .before .before .if3 .taken)
 
 returns-4 : tie.Need-returns-4
-returns-4 c = other-length _ (sym (c .before .before .before .before .before .before .before .before .starts .ensures) ∙ c .before .before .before .before .before .before .before .if1 .left) (sym (c .before .before .before .before .before .starts2 .ensures) ∙ c .before .before .before .before .if2 .left) (sym (c .before .before .starts3 .ensures) ∙ c .before .if3 .left) (c .if4 .taken)
+returns-4 c =
+    other-length _ (sym (c .before .before .before .before .before .before .before .before .starts .ensures)
+    ∙ c .before .before .before .before .before .before .before .if1 .left)
+    (sym (c .before .before .before .before .before .starts2 .ensures) ∙ c .before .before .before .before .if2 .left)
+    (sym (c .before .before .starts3 .ensures) ∙ c .before .if3 .left) (c .if4 .taken)
 
 slice-aggregate-starts-4 : tie.Need-slice-aggregate-starts-4
 slice-aggregate-starts-4 c = search needs
@@ -89,12 +98,20 @@ starts-requires-4 c κs = search needs
 
 returns-5 : tie.Need-returns-5
 returns-5 c =
-    to-merge _ (sym (c .before .before .before .before .before .before .before .before .before .before .before .starts .ensures) ∙ c .before .before .before .before .before .before .before .before .before .before .if1 .left) (sym (c .before .before .before .before .before .before .before .before .starts2 .ensures) ∙ c .before .before .before .before .before .before .before .if2 .left) (sym (c .before .before .before .before .before .starts3 .ensures) ∙ c .before .before .before .before .if3 .left) (c .before .before .before .if4 .left)
+    to-merge _ (sym (c .before .before .before .before .before .before .before .before .before .before .before .starts .ensures)
+    ∙ c .before .before .before .before .before .before .before .before .before .before .if1 .left)
+    (sym (c .before .before .before .before .before .before .before .before .starts2 .ensures)
+    ∙ c .before .before .before .before .before .before .before .if2 .left)
+    (sym (c .before .before .before .before .before .starts3 .ensures) ∙ c .before .before .before .before .if3 .left) (c .before .before .before .if4 .left)
     (sym (c .before .starts4 .ensures) ∙ c .if5 .taken)
 
 returns-6 : tie.Need-returns-6
 returns-6 c =
-    to-nothing _ (sym (c .before .before .before .before .before .before .before .before .before .before .before .starts .ensures) ∙ c .before .before .before .before .before .before .before .before .before .before .if1 .left) (sym (c .before .before .before .before .before .before .before .before .starts2 .ensures) ∙ c .before .before .before .before .before .before .before .if2 .left) (sym (c .before .before .before .before .before .starts3 .ensures) ∙ c .before .before .before .before .if3 .left) (c .before .before .before .if4 .left)
+    to-nothing _ (sym (c .before .before .before .before .before .before .before .before .before .before .before .starts .ensures)
+    ∙ c .before .before .before .before .before .before .before .before .before .before .if1 .left)
+    (sym (c .before .before .before .before .before .before .before .before .starts2 .ensures)
+    ∙ c .before .before .before .before .before .before .before .if2 .left)
+    (sym (c .before .before .before .before .before .starts3 .ensures) ∙ c .before .before .before .before .if3 .left) (c .before .before .before .if4 .left)
     (sym (c .before .starts4 .ensures) ∙ c .if5 .left)
 
 pub tally-call-spec : {M : Type 1} → statement M

@@ -31,7 +31,9 @@ land-requires : tie.Need-land-requires
 land-requires c κs = search needs
 
 returns-3 : tie.Need-returns-3
-returns-3 c = c .land .ensures ∙ rw (c .before .add .ensures, toZ-ofZ (c .before .before .before .before .before .fits .score)) (add-lands (c .before .before .before .before .before .args .t1) _ (c .before .before .before .before .if1 .left) (c .before .before .before .if2 .left))
+returns-3 c =
+    c .land .ensures ∙ rw (c .before .add .ensures, toZ-ofZ (c .before .before .before .before .before .fits .score))
+    (add-lands (c .before .before .before .before .before .args .t1) _ (c .before .before .before .before .if1 .left) (c .before .before .before .if2 .left))
 
 pub add-step-spec : {M : Type 1} → statement M
 add-step-spec =

@@ -33,7 +33,10 @@ said-cell-requires : tie.Need-said-cell-requires
 said-cell-requires c κs = subst Numbered (sym (c .cell-of .ensures)) (cell-numbered _ _)
 
 returns-3 : tie.Need-returns-3
-returns-3 c = rw (c .said-cell .ensures, c .before .cell-of .ensures, toZ-ofZ (c .before .before .before .before .before .fits .score)) (cell-said (c .before .before .before .before .before .args .t1) _ (c .before .before .before .before .if1 .left) (c .before .before .before .if2 .left))
+returns-3 c =
+    rw (c .said-cell .ensures, c .before .cell-of .ensures, toZ-ofZ (c .before .before .before .before .before .fits .score))
+    (cell-said (c .before .before .before .before .before .args .t1) _ (c .before .before .before .before .if1 .left)
+    (c .before .before .before .if2 .left))
 
 pub cell-step-spec : {M : Type 1} → statement M
 cell-step-spec =

@@ -31,7 +31,10 @@ said-of-requires : tie.Need-said-of-requires
 said-of-requires c κs = search needs
 
 returns-3 : tie.Need-returns-3
-returns-3 c = rw (c .said-of .ensures, c .before .matchpoints .ensures, toZ-ofZ (c .before .before .before .before .before .fits .score)) (points-said (c .before .before .before .before .before .args .t1) _ (c .before .before .before .before .if1 .left) (c .before .before .before .if2 .left))
+returns-3 c =
+    rw (c .said-of .ensures, c .before .matchpoints .ensures, toZ-ofZ (c .before .before .before .before .before .fits .score))
+    (points-said (c .before .before .before .before .before .args .t1) _ (c .before .before .before .before .if1 .left)
+    (c .before .before .before .if2 .left))
 
 pub matchpoints-step-spec : {M : Type 1} → statement M
 matchpoints-step-spec =

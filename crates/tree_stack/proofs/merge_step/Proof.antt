@@ -45,7 +45,10 @@ land-requires : tie.Need-land-requires
 land-requires c κs = search needs
 
 returns-3 : tie.Need-returns-3
-returns-3 c = c .land .ensures ∙ rw (c .before .merge .ensures) (merge-lands (c .before .before .before .before .before .before .args .t1) (c .before .before .before .before .before .if1 .left) (c .before .before .before .before .if2 .left))
+returns-3 c =
+    c .land .ensures ∙ rw (c .before .merge .ensures)
+    (merge-lands (c .before .before .before .before .before .before .args .t1) (c .before .before .before .before .before .if1 .left)
+    (c .before .before .before .before .if2 .left))
 
 pub merge-step-spec : {M : Type 1} → statement M
 merge-step-spec =

@@ -29,7 +29,8 @@ unfolding afterCall
 returns-3 c = simp (c .before .before .before .next-seat .ensures, c .if3 .taken)
 
 returns-4 : tie.Need-returns-4
-returns-4 c = let s = c .before .before .before .before in no-call (s .before .before .args .t1) (s .before .before .args .code) (c .if4 .taken) (s .next-seat .ensures)
+returns-4 c = let s = c .before .before .before .before in
+    no-call (s .before .before .args .t1) (s .before .before .args .code) (c .if4 .taken) (s .next-seat .ensures)
 
 mul-at : tie.Need-mul-at
 mul-at c = search needs
@@ -54,14 +55,17 @@ unfolding firstPlace strainOf
 returns-5 c =
     let s = c .before .before .before .before .before .before in
     let a = s .before .before .args in
-    bid (a .t1) (a .code) (omega arith) (omega arith) (s .next-seat .ensures) (free (a .t1 .first) (firstPlace (a .t1 .turn) (a .code)) (a .t1 .turn) (c .if5 .taken))
+    bid (a .t1) (a .code) (omega arith) (omega arith) (s .next-seat .ensures)
+    (free (a .t1 .first) (firstPlace (a .t1 .turn) (a .code)) (a .t1 .turn) (c .if5 .taken))
 
 returns-6 : tie.Need-returns-6
 unfolding firstPlace strainOf
 returns-6 c =
     let s = c .before .before .before .before .before .before in
     let a = s .before .before .args in
-    bid (a .t1) (a .code) (omega arith) (omega arith) (s .next-seat .ensures) (taken (a .t1 .first) (firstPlace (a .t1 .turn) (a .code)) (a .t1 .turn) (c .if5 .left))
+    bid (a .t1) (a .code) (omega arith) (omega arith) (s .next-seat .ensures)
+    (taken (a .t1 .first) (firstPlace (a .t1 .turn) (a .code)) (a .t1 .turn) (c .if5 .left))
 
 pub call-spec : {M : Type 1} → statement M
-call-spec = tie.close (tie.spec stands-requires next-seat-requires one-more-requires returns returns-2 returns-3 returns-4 mul-at sub-at add-at cast-at element-copy-out-if5 element-write-self returns-5 returns-6)
+call-spec = tie.close (tie.spec stands-requires next-seat-requires one-more-requires returns returns-2 returns-3 returns-4 mul-at sub-at add-at cast-at
+    element-copy-out-if5 element-write-self returns-5 returns-6)

@@ -55,11 +55,30 @@ returns-7 c = let m = c .before .before in simp (going (m .before), m .match .ke
 
 returns-8 : tie.Need-returns-8
 unfolding verdictOf
-returns-8 c = let m = c .before .before in simp (call (m .before .before .before), going (m .before), ne-eqb _ _ (m .match .rest .0 .0 .1), ne-eqb _ _ (m .match .rest .0 .1), ne-eqb _ _ (m .match .rest .1), lt-ltb _ _ (c .if5 .taken))
+returns-8 c = let m = c .before .before in
+    simp (
+      call (m .before .before .before),
+      going (m .before),
+      ne-eqb _ _ (m .match .rest .0 .0 .1),
+      ne-eqb _ _ (m .match .rest .0 .1),
+      ne-eqb _ _
+          (m .match .rest .1),
+      lt-ltb _ _ (c .if5 .taken),
+    )
 
 returns-9 : tie.Need-returns-9
 unfolding verdictOf
-returns-9 c = let m = c .before .before in simp (call (m .before .before .before), going (m .before), ne-eqb _ _ (m .match .rest .0 .0 .1), ne-eqb _ _ (m .match .rest .0 .1), ne-eqb _ _ (m .match .rest .1), le-ltb _ _ (c .if5 .left))
+returns-9 c = let m = c .before .before in
+    simp (
+      call (m .before .before .before),
+      going (m .before),
+      ne-eqb _ _ (m .match .rest .0 .0 .1),
+      ne-eqb _ _ (m .match .rest .0 .1),
+      ne-eqb _ _
+          (m .match .rest .1),
+      le-ltb _ _ (c .if5 .left),
+    )
 
 pub verdict-spec : {M : Type 1} → statement M
-verdict-spec = tie.close (tie.spec returns is-over-requires returns-2 may-double-requires may-redouble-requires returns-3 returns-4 returns-5 returns-6 returns-7 returns-8 returns-9)
+verdict-spec = tie.close (tie.spec returns is-over-requires returns-2 may-double-requires may-redouble-requires returns-3 returns-4 returns-5 returns-6
+    returns-7 returns-8 returns-9)

@@ -1,5 +1,4 @@
 -- `no_cards` meets its contract. Assumes nothing.
-use Rattle.play.specs.History.{positionOf}
 use borrow.Author.Needs.{needs}
 use Rattle.judge.proofs.cards.no_cards.Statement.{statement}
 use Rattle.judge.proofs.cards.no_cards.Tie as tie
@@ -7,9 +6,11 @@ use Rattle.judge.proofs.cards.no_cards.Tie as tie
 new-requires : tie.Need-new-requires
 new-requires c κs = search needs
 
+refusal-number-requires : tie.Need-refusal-number-requires
+refusal-number-requires c κs = search needs
+
 returns : tie.Need-returns
-unfolding positionOf
-returns c = simp (c .new .ensures)
+returns c = simp (c .refusal-number .ensures, c .before .new .ensures)
 
 pub no-cards-spec : {M : Type 1} → statement M
-no-cards-spec = tie.close (tie.spec new-requires returns)
+no-cards-spec = tie.close (tie.spec new-requires refusal-number-requires returns)

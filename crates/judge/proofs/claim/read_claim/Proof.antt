@@ -1,14 +1,22 @@
--- `read_claim` meets its contract. Assumes nothing.
-use Prim.Native.Nat.{ℕ, suc, _≤_, _<_, _+_, _-_, _*_}
-use mathlib.Core.Path.{_≡_, refl, sym, ap, _∙_}
-use native.Mathlib.Omega.{arith}
-use borrow.Author.Needs.{needs}
+-- `read_claim` meets its contract: a law of Claiming for each way out. Assumes nothing.
+use Prim.Native.Nat.{_+_}
+use mathlib.Core.Path.{_≡_, sym, ap, _∙_}
 use lib.Dec.{lit≤}
+use Rattle.field.specs.Field.{fieldAnswer}
 use Rattle.field.proofs.ThreeBytes.{value-reads, short-stops}
+use Rattle.laws.specs.Reading.{Reading.found, read}
 use Rattle.judge.specs.Sections.{claimOf}
 use Rattle.judge.proofs.Claiming.{mark-short, unmarked, marked, reads-none}
+use borrow.Author.Needs.{needs}
 use Rattle.judge.proofs.claim.read_claim.Statement.{statement}
 use Rattle.judge.proofs.claim.read_claim.Tie as tie
+
+-- the mark once it is read
+mark-reads : (c : tie.After-known-told)
+    → (let a = c .before .before .before .before .before .args in read 1 (a .bytes .now) (a .at) ≡ found (c .before .mark .given .0 .0) (a .at + 1))
+mark-reads c =
+    let r = c .before .before .before in
+    value-reads _ (r .before .before .args .at) 1 (sym (r .read .ensures) ∙ ap fieldAnswer (c .before .mark .given .1))
 
 read-requires : tie.Need-read-requires
 read-requires c κs = search needs
@@ -23,7 +31,10 @@ no-claim-requires : tie.Need-no-claim-requires
 no-claim-requires c κs = search needs
 
 returns : tie.Need-returns
-returns c = c .no-claim .ensures ∙ mark-short (c .before .before .before .before .before .args .out) (c .before .before .before .before .before .args .played) (c .before .before .before .before .before .args .bytes .now) (c .before .before .before .before .before .args .at) (short-stops (c .before .before .before .before .before .args .bytes .now) (c .before .before .before .before .before .args .at) 1 (lit≤ tt) (sym (c .before .before .before .read .ensures) ∙ c .before .enum-told .given .1))
+returns c =
+    let r = c .before .before .before in
+    let a = r .before .before .args in
+    c .no-claim .ensures ∙ mark-short _ _ _ _ (short-stops (a .bytes .now) (a .at) 1 (lit≤ tt) (sym (r .read .ensures) ∙ ap fieldAnswer (c .before .enum-told .given .1)))
 
 add-read-no-claim : tie.Need-add-read-no-claim
 add-read-no-claim c = search needs
@@ -32,7 +43,10 @@ read-no-claim-requires : tie.Need-read-no-claim-requires
 read-no-claim-requires c κs = search needs
 
 returns-2 : tie.Need-returns-2
-returns-2 c = c .read-no-claim .ensures ∙ ap claimOf (reads-none (c .before .before .before .before .before .before .before .args .out) (c .before .before .before .before .before .before .before .args .played) (c .before .before .before .before .before .before .before .args .at + 1) (c .before .before .before .before .before .before .before .args .bytes .now)) ∙ unmarked (c .before .before .before .before .before .before .before .args .out) (c .before .before .before .before .before .before .before .args .played) (c .before .before .before .before .before .before .before .args .bytes .now) (c .before .before .before .before .before .before .before .args .at) (c .before .before .before .mark .given .0 .0) (value-reads (c .before .before .before .before .before .before .before .args .bytes .now) (c .before .before .before .before .before .before .before .args .at) 1 (sym (c .before .before .before .before .before .read .ensures) ∙ c .before .before .before .mark .given .1)) (c .before .if1 .taken)
+returns-2 c =
+    let v = c .before .before in
+    let a = v .before .before .before .before .before .args in
+    c .read-no-claim .ensures ∙ ap claimOf (reads-none _ _ _ (a .bytes .now)) ∙ unmarked _ _ _ _ _ (mark-reads v) (c .before .if1 .taken)
 
 add-read-marked-claim : tie.Need-add-read-marked-claim
 add-read-marked-claim c = search needs
@@ -41,7 +55,8 @@ read-marked-claim-requires : tie.Need-read-marked-claim-requires
 read-marked-claim-requires c κs = search needs
 
 returns-3 : tie.Need-returns-3
-returns-3 c = c .read-marked-claim .ensures ∙ marked (c .before .before .before .before .before .before .before .args .out) (c .before .before .before .before .before .before .before .args .played) (c .before .before .before .before .before .before .before .args .bytes .now) (c .before .before .before .before .before .before .before .args .at) (c .before .before .before .mark .given .0 .0) (value-reads (c .before .before .before .before .before .before .before .args .bytes .now) (c .before .before .before .before .before .before .before .args .at) 1 (sym (c .before .before .before .before .before .read .ensures) ∙ c .before .before .before .mark .given .1)) (c .before .if1 .left)
+returns-3 c =
+    c .read-marked-claim .ensures ∙ marked _ _ _ _ _ (mark-reads (c .before .before)) (c .before .if1 .left)
 
 pub read-claim-spec : {M : Type 1} → statement M
 read-claim-spec =

@@ -1,11 +1,10 @@
 -- `declarer_score` meets its contract: made, or so many down; its size is far below what 64 bits hold. Assumes nothing.
-use Prim.Native.Nat.{ℕ, suc, _≤_, _<_, _+_, _-_, _*_, _^_}
-use mathlib.Core.Path.{_≡_, refl, sym, ap, _∙_}
+use Prim.Native.Nat.{ℕ, _<_, _+_, _-_, _^_}
+use mathlib.Core.Path.{ap, _∙_}
 use native.Mathlib.Omega.{arith}
-use mathlib.Core.Path.{subst}
-use lib.IntN.{ℤ, pos, negℤ, natAbs, _-ℤ_, +ℤ-idl}
+use lib.IntN.{pos, negℤ, +ℤ-idl}
 use mir.Syntax.{w64}
-use mir.Val.{SFits, toZ, ofZ}
+use mir.Val.{SFits}
 use mir.Facts.{toZ-ofZ, toZ-pos}
 use Rattle.laws.proofs.Integers.{size-neg, mag-le-size}
 use Rattle.judge.proofs.Points.{undertricks-le, made-score, down-score, made-le}
@@ -70,8 +69,11 @@ returns-2 c = let st = c .before .before .before in
     let s = stakeOf (st .args .s) in
     let l : st .args .s .level < 256 = search needs in
     let n : c .undertricks .result < 10000000000000 = omega (arith, c .undertricks .ensures, undertricks-le s (s .level + 6 - st .args .tricks)) in
-    rw (toZ-pos w64 (small (c .undertricks .result) n), +ℤ-idl, toZ-ofZ (negative (c .undertricks .result) n))
-    (ap (λ (k : ℕ). negℤ (pos k)) (c .undertricks .ensures) ∙ down-score s (st .args .tricks) (c .before .if1 .left), rw (size-neg (pos (c .undertricks .result))) n)
+    rw (toZ-pos w64 (small (c .undertricks .result) n), +ℤ-idl, toZ-ofZ (negative (c .undertricks .result) n)) (
+      ap (λ (k : ℕ). negℤ (pos k)) (c .undertricks .ensures)
+          ∙ down-score s (st .args .tricks) (c .before .if1 .left),
+      rw (size-neg (pos (c .undertricks .result))) n,
+    )
 
 pub declarer-score-spec : {M : Type 1} → statement M
 declarer-score-spec =

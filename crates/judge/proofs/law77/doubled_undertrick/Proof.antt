@@ -1,8 +1,5 @@
 -- `doubled_undertrick` meets its contract: the vulnerability chooses after the place. Assumes nothing.
-use mathlib.Core.Path.{_≡_, refl, sym, ap, _∙_}
 use borrow.Author.Tests.{eq-eqb, ne-eqb, le-leb, lt-leb}
-use mathlib.Core.Bool.{Bool, true, false}
-use Rattle.laws.specs.Choice.{if_then_else_}
 use Rattle.laws.specs.Law77.{doubledUndertrick}
 use borrow.Author.Needs.{needs}
 use Rattle.judge.proofs.law77.doubled_undertrick.Statement.{statement}

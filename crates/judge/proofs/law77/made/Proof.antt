@@ -1,9 +1,8 @@
 -- `made` meets its contract: each item is small, so the sums fit. Assumes nothing.
-use Prim.Native.Nat.{ℕ, suc, _≤_, _<_, _+_, _-_, _*_}
-use mathlib.Core.Path.{_≡_, refl, sym, ap, _∙_}
+use Prim.Native.Nat.{_<_, _-_}
 use native.Mathlib.Omega.{arith}
 use native.Mathlib.Nat.{mul-le-mul}
-use Rattle.laws.specs.Law77.{doublingPoints, overtrickValue}
+use Rattle.laws.specs.Law77.{doublingPoints}
 use Rattle.judge.proofs.Points.{part-le, game-le, slam-le, insult-le, points-le, overtrick-le}
 use Rattle.judge.specs.Scoring.{stakeOf, madePoints}
 use borrow.Author.Needs.{needs}
@@ -30,7 +29,16 @@ unfolding doublingPoints
 add-premiums-2 c = let st = c .before .before .before in
     let s = stakeOf (st .args .s) in
     let l : st .args .s .level < 256 = search needs in
-    omega (arith, c .before .before .part-score-or-game .ensures, c .before .slam-points .ensures, c .by-doubling .ensures, part-le s, game-le s, slam-le s, insult-le s)
+    omega (
+      arith,
+      c .before .before .part-score-or-game .ensures,
+      c .before .slam-points .ensures,
+      c .by-doubling .ensures,
+      part-le s,
+      game-le s,
+      slam-le s,
+      insult-le s,
+    )
 
 trick-points-requires : tie.Need-trick-points-requires
 trick-points-requires c κs = search needs
@@ -56,7 +64,10 @@ add-result c = let st = c .before .before .before .before .before in
     let s = stakeOf (st .args .s) in
     let l : st .args .s .level < 256 = search needs in
     let o : st .args .over < 4294967296 = search needs in
-    record { fits = rw (c .overtrick-value .ensures) (omega (arith, c .before .trick-points .ensures, points-le s l, mul-le-mul {n₁ = st .args .over} {n₂ = 4294967296} (omega arith) (overtrick-le s))) }
+    record {
+      fits = rw (c .overtrick-value .ensures)
+          (omega (arith, c .before .trick-points .ensures, points-le s l, mul-le-mul {n₁ = st .args .over} {n₂ = 4294967296} (omega arith) (overtrick-le s)));
+    }
 
 cast-result-3 : tie.Need-cast-result-3
 cast-result-3 c = search needs
@@ -67,11 +78,35 @@ add-result-2 c = let st = c .before .before .before .before .before in
     let s = stakeOf (st .args .s) in
     let l : st .args .s .level < 256 = search needs in
     let o : st .args .over < 4294967296 = search needs in
-    record { fits = rw (c .overtrick-value .ensures) (omega (arith, c .before .trick-points .ensures, points-le s l, c .before .before .before .before .part-score-or-game .ensures, c .before .before .before .slam-points .ensures, c .before .before .by-doubling .ensures, part-le s, game-le s, slam-le s, insult-le s, mul-le-mul {n₁ = st .args .over} {n₂ = 4294967296} (omega arith) (overtrick-le s))) }
+    record {
+      fits = rw (c .overtrick-value .ensures)
+          (omega (
+            arith,
+            c .before .trick-points .ensures,
+            points-le s l,
+            c .before .before .before .before .part-score-or-game .ensures,
+            c .before .before
+                .before .slam-points .ensures,
+            c .before .before .by-doubling .ensures,
+            part-le s,
+            game-le s,
+            slam-le s,
+            insult-le s,
+            mul-le-mul
+                {n₁ = st .args .over} {n₂ = 4294967296} (omega arith) (overtrick-le s),
+          ));
+    }
 
 returns : tie.Need-returns
 unfolding madePoints doublingPoints
-returns c = rw (c .overtrick-value .ensures, c .before .trick-points .ensures, c .before .before .before .before .part-score-or-game .ensures, c .before .before .before .slam-points .ensures, c .before .before .by-doubling .ensures)
+returns c = rw (
+  c .overtrick-value .ensures,
+  c .before .trick-points .ensures,
+  c .before .before .before .before .part-score-or-game .ensures,
+  c .before
+      .before .before .slam-points .ensures,
+  c .before .before .by-doubling .ensures,
+)
 
 pub made-spec : {M : Type 1} → statement M
 made-spec =

@@ -18,7 +18,13 @@ by-doubling-requires c κs = search needs
 
 returns : tie.Need-returns
 unfolding overtrickValue
-returns c = simp (c .by-doubling .ensures, c .before .trick-value .ensures, c .before .before .by-vulnerability2 .ensures, c .before .before .before .by-vulnerability .ensures)
+returns c = simp (
+  c .by-doubling .ensures,
+  c .before .trick-value .ensures,
+  c .before .before .by-vulnerability2 .ensures,
+  c .before .before .before
+      .by-vulnerability .ensures,
+)
 
 pub overtrick-value-spec : {M : Type 1} → statement M
 overtrick-value-spec =

@@ -1,5 +1,4 @@
 -- `undertrick_value` meets its contract. Assumes nothing.
-use mathlib.Core.Path.{_≡_, refl, sym, ap, _∙_}
 use native.Mathlib.Omega.{arith}
 use Rattle.laws.specs.Law77.{undertrickValue}
 use Rattle.judge.proofs.Points.{doubled-le}
@@ -15,7 +14,10 @@ doubled-undertrick-requires : tie.Need-doubled-undertrick-requires
 doubled-undertrick-requires c κs = search needs
 
 mul-by-doubling : tie.Need-mul-by-doubling
-mul-by-doubling c = record { fits = omega (arith, c .doubled-undertrick .ensures, doubled-le (stakeOf (c .before .before .args .s)) (c .before .before .args .k)) }
+mul-by-doubling c = record {
+  fits = omega
+      (arith, c .doubled-undertrick .ensures, doubled-le (stakeOf (c .before .before .args .s)) (c .before .before .args .k));
+}
 
 by-doubling-requires : tie.Need-by-doubling-requires
 by-doubling-requires c κs = search needs

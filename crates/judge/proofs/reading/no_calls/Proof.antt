@@ -6,8 +6,11 @@ use Rattle.judge.proofs.reading.no_calls.Tie as tie
 new-requires : tie.Need-new-requires
 new-requires c κs = search needs
 
+refusal-number-requires : tie.Need-refusal-number-requires
+refusal-number-requires c κs = search needs
+
 returns : tie.Need-returns
-returns c = simp (c .new .ensures)
+returns c = simp (c .refusal-number .ensures, c .before .new .ensures)
 
 pub no-calls-spec : {M : Type 1} → statement M
-no-calls-spec = tie.close (tie.spec new-requires returns)
+no-calls-spec = tie.close (tie.spec new-requires refusal-number-requires returns)

@@ -1,43 +1,71 @@
 -- `read_each_call` meets its contract: what the reading comes to from a turn on is what it comes to in all. Assumes nothing.
-use Prim.Native.Nat.{ℕ, suc, _≤_, _<_, _+_, _-_, _*_}
-use mathlib.Core.Path.{_≡_, refl, sym, ap, _∙_}
+use Prim.Native.Nat.{_≤_, _<_, _+_, _-_, _*_, _/_, min}
+use mathlib.Core.Path.{_≡_, _∙_}
 use native.Mathlib.Omega.{arith}
 use borrow.Author.Needs.{needs}
-use lib.Dec.{lit≤}
-use Rattle.field.proofs.ThreeBytes.{value-reads, value-lt, short-stops}
+use lib.ListN.{length}
+use Rattle.laws.specs.Refusals.{recordEnds}
+use Rattle.laws.specs.Reading.{Reading.found, Reading.refused, read}
+use Rattle.judge.proofs.SixBits.{whole-most, whole-in, whole-out, code-read, code-short}
 use Rattle.judge.proofs.CallTurns.{CallsAt, call-begins, call-ends, call-short, call-stops, call-goes}
 use Rattle.judge.proofs.reading.read_each_call.Statement.{statement}
 use Rattle.judge.proofs.reading.read_each_call.Tie as tie
 
 abbrev Inv-loop : tie.InvT-loop
-Inv-loop bytes dealer at count a₀ here₀ i₀ a here i = CallsAt bytes dealer at count a here i
+Inv-loop bytes dealer at count whole a₀ here₀ i₀ a here i = CallsAt bytes dealer at count a here i × (i ≤ whole)
 
 abbrev μ-loop : tie.MeasureT-loop
-μ-loop bytes dealer at count a₀ here₀ i₀ a here i = count - i
+μ-loop bytes dealer at count whole a₀ here₀ i₀ a here i = whole - i
+
+-- the codes that are whole, and the code once it is read
+whole-is : (t : tie.At-loop Inv-loop μ-loop)
+    → (let s = t .before .before .before .before in
+    t .before .before .whole-codes .result ≡ min ((8 * length (s .args .bytes .now) - s .args .at) / 6) (s .args .count))
+whole-is t = t .before .before .whole-codes .ensures
+
+there : (c : tie.In-loop Inv-loop μ-loop) → (let t = c .before in t .loop .here + 6 ≤ 8 * length (t .before .before .before .before .args .bytes .now))
+there c =
+    let t = c .before in
+    let a = t .before .before .before .before .args in
+    omega (arith, t .loop .inv .0 .along, whole-in (length (a .bytes .now)) (a .at) (a .count) (whole-is t) (t .loop .i) (c .loop-test .taken))
+
+code-reads : (c : tie.After-code-ending Inv-loop μ-loop)
+    → (let t = c .before .before in
+    read 6 (t .before .before .before .before .args .bytes .now) (t .loop .here) ≡ found (c .code-ending .result) (t .loop .here + 6))
+code-reads c = code-read _ (c .before .before .loop .here) (c .code-ending .ensures) (there (c .before))
+
+within : (c : tie.In-loop Inv-loop μ-loop) → c .before .loop .i < c .before .before .before .before .before .args .count
+within c =
+    let t = c .before in
+    let a = t .before .before .before .before .args in
+    omega (arith, whole-most (length (a .bytes .now)) (a .at) (a .count) (whole-is t), c .loop-test .taken)
+
+-- at the end of the loop all whole codes are read; where there are fewer than asked for, the next is not whole
+stops-short : (c : tie.Then2 Inv-loop μ-loop)
+    → (let t = c .before .before in read 6 (t .before .before .before .before .args .bytes .now) (t .loop .here) ≡ refused recordEnds 0)
+stops-short c =
+    let t = c .before .before in
+    let a = t .before .before .before .before .args in
+    let last : t .loop .i ≡ t .before .before .whole-codes .result = omega (arith, t .loop .inv .1, c .before .loop-test .left) in
+    code-short _ (t .loop .here) (omega
+    (arith, t .loop .inv .0 .along, last, whole-out (length (a .bytes .now)) (a .at) (a .count) (whole-is t) (c .if2 .taken)))
+
+whole-codes-requires : tie.Need-whole-codes-requires Inv-loop μ-loop
+whole-codes-requires c κs = search needs
 
 new-requires : tie.Need-new-requires Inv-loop μ-loop
 new-requires c κs = search needs
 
 loop-holds : tie.Need-loop-holds Inv-loop μ-loop
-loop-holds c = call-begins (c .before .before .args .bytes .now) (c .before .before .args .dealer) (c .before .before .args .at) (c .before .before .args .count) (c .new .ensures)
+loop-holds c = (call-begins _ _ _ _ (c .new .ensures), omega arith)
 
-read-requires : tie.Need-read-requires Inv-loop μ-loop
-read-requires c κs = search needs
+add-code-ending : tie.Need-add-code-ending Inv-loop μ-loop
+add-code-ending c = search needs
 
-enum-known-code : tie.Need-enum-known-code Inv-loop μ-loop
-enum-known-code c = search needs
-
-enum-told : tie.Need-enum-told Inv-loop μ-loop
-enum-told c = search needs
-
-no-calls-requires : tie.Need-no-calls-requires Inv-loop μ-loop
-no-calls-requires c κs = search needs
-
-returns : tie.Need-returns Inv-loop μ-loop
-returns c = c .no-calls .ensures ∙ call-short (c .before .before .before .before .before .before .before .before .args .bytes .now) (c .before .before .before .before .before .before .before .before .args .dealer) (c .before .before .before .before .before .before .before .before .args .at) (c .before .before .before .before .before .before .before .before .args .count) (c .before .before .before .before .before .loop .inv) (c .before .before .before .before .loop-test .taken) (short-stops (c .before .before .before .before .before .before .before .before .args .bytes .now) (c .before .before .before .before .before .loop .here) 6 (lit≤ tt) (sym (c .before .before .before .read .ensures) ∙ c .before .enum-told .given .1))
-
-narrow-requires : tie.Need-narrow-requires Inv-loop μ-loop
-narrow-requires c κs = omega (arith, value-lt (c .before .before .before .before .before .before .before .before .args .bytes .now) (c .before .before .before .before .before .loop .here) 6 (sym (c .before .before .before .read .ensures) ∙ c .before .code .given .1))
+code-ending-requires : tie.Need-code-ending-requires Inv-loop μ-loop
+code-ending-requires c κs =
+    let t = c .before in
+    (omega (arith, t .loop .inv .0 .along, t .before .before .before .before .pre .0), omega (arith, there c))
 
 refusal-requires : tie.Need-refusal-requires Inv-loop μ-loop
 refusal-requires c κs = search needs
@@ -45,20 +73,14 @@ refusal-requires c κs = search needs
 cast-no-calls : tie.Need-cast-no-calls Inv-loop μ-loop
 cast-no-calls c = search needs
 
-mul-no-calls : tie.Need-mul-no-calls Inv-loop μ-loop
-mul-no-calls c = search needs
+no-calls-requires : tie.Need-no-calls-requires Inv-loop μ-loop
+no-calls-requires c κs = search needs
 
-cast-no-calls-2 : tie.Need-cast-no-calls-2 Inv-loop μ-loop
-cast-no-calls-2 c = search needs
-
-add-no-calls : tie.Need-add-no-calls Inv-loop μ-loop
-add-no-calls c = search needs
-
-no-calls-requires-2 : tie.Need-no-calls-requires-2 Inv-loop μ-loop
-no-calls-requires-2 c κs = search needs
-
-returns-2 : tie.Need-returns-2 Inv-loop μ-loop
-returns-2 c = c .no-calls2 .ensures ∙ call-stops (c .before .before .before .before .before .before .before .before .before .before .before .before .args .bytes .now) (c .before .before .before .before .before .before .before .before .before .before .before .before .args .dealer) (c .before .before .before .before .before .before .before .before .before .before .before .before .args .at) (c .before .before .before .before .before .before .before .before .before .before .before .before .args .count) (c .before .before .before .before .before .before .before .before .before .loop .inv) (c .before .before .before .before .before .before .before .before .loop-test .taken) (value-reads (c .before .before .before .before .before .before .before .before .before .before .before .before .args .bytes .now) (c .before .before .before .before .before .before .before .before .before .loop .here) 6 (sym (c .before .before .before .before .before .before .before .read .ensures) ∙ c .before .before .before .before .before .code .given .1)) (rw (c .before .before .before .narrow .ensures) at (c .before .before .refusal .ensures)) (c .before .if1 .taken)
+returns : tie.Need-returns Inv-loop μ-loop
+returns c =
+    let w = c .before .before .before in
+    let l = w .before in
+    c .no-calls .ensures ∙ call-stops _ _ _ _ (l .before .loop .inv .0) (within l) (code-reads w) (c .before .before .refusal .ensures) (c .before .if1 .taken)
 
 call-requires : tie.Need-call-requires Inv-loop μ-loop
 call-requires c κs = search needs
@@ -73,10 +95,24 @@ loop-less : tie.Need-loop-less Inv-loop μ-loop
 loop-less c = search needs
 
 loop-again : tie.Need-loop-again Inv-loop μ-loop
-loop-again c = call-goes (c .before .before .before .before .before .before .before .before .before .before .before .before .args .bytes .now) (c .before .before .before .before .before .before .before .before .before .before .before .before .args .dealer) (c .before .before .before .before .before .before .before .before .before .before .before .before .args .at) (c .before .before .before .before .before .before .before .before .before .before .before .before .args .count) (c .before .before .before .before .before .before .before .before .before .loop .inv) (c .before .before .before .before .before .before .before .before .loop-test .taken) (value-reads (c .before .before .before .before .before .before .before .before .before .before .before .before .args .bytes .now) (c .before .before .before .before .before .before .before .before .before .loop .here) 6 (sym (c .before .before .before .before .before .before .before .read .ensures) ∙ c .before .before .before .before .before .code .given .1)) (rw (c .before .before .before .narrow .ensures) at (c .before .before .refusal .ensures)) (c .before .if1 .left) (rw (c .before .before .before .narrow .ensures) at (c .call .ensures))
+loop-again c =
+    let w = c .before .before .before in
+    let l = w .before in (
+      call-goes _ _ _ _ (l .before .loop .inv .0) (within l) (code-reads w) (c .before .before .refusal .ensures) (c .before .if1 .left)
+          (c .call .ensures),
+      omega arith,
+    )
+
+no-calls-requires-2 : tie.Need-no-calls-requires-2 Inv-loop μ-loop
+no-calls-requires-2 c κs = search needs
+
+returns-2 : tie.Need-returns-2 Inv-loop μ-loop
+returns-2 c = c .no-calls2 .ensures
+    ∙ call-short _ _ _ _ (c .before .before .before .loop .inv .0) (omega (arith, c .before .before .before .loop .inv .1, c .before .if2 .taken))
+    (stops-short (c .before))
 
 returns-3 : tie.Need-returns-3 Inv-loop μ-loop
-returns-3 c = call-ends (c .before .before .before .before .args .bytes .now) (c .before .before .before .before .args .dealer) (c .before .before .before .before .args .at) (c .before .before .before .before .args .count) (c .before .loop .inv) (c .loop-test .left)
+returns-3 c = call-ends _ _ _ _ (c .before .before .loop .inv .0) (omega (arith, c .before .loop-test .left, c .if2 .left))
 
 pub read-each-call-spec : {M : Type 1} → statement M
 read-each-call-spec =
@@ -84,24 +120,20 @@ read-each-call-spec =
     (tie.spec
     Inv-loop
     μ-loop
+    whole-codes-requires
     new-requires
     loop-holds
-    read-requires
-    enum-known-code
-    enum-told
-    no-calls-requires
-    returns
-    narrow-requires
+    add-code-ending
+    code-ending-requires
     refusal-requires
     cast-no-calls
-    mul-no-calls
-    cast-no-calls-2
-    add-no-calls
-    no-calls-requires-2
-    returns-2
+    no-calls-requires
+    returns
     call-requires
     add-here
     add-i
     loop-less
     loop-again
+    no-calls-requires-2
+    returns-2
     returns-3)

@@ -1,11 +1,11 @@
 -- `ns_score` meets its contract. Assumes nothing.
-use Prim.Native.Nat.{ℕ, suc, _≤_, _<_, _+_, _-_, _*_}
-use mathlib.Core.Path.{_≡_, refl, sym, ap, _∙_}
+use Prim.Native.Nat.{_<_, _+_, _-_}
+use mathlib.Core.Path.{refl}
 use native.Mathlib.Omega.{arith}
 use borrow.Author.Tests.{eq-eqb, ne-eqb}
-use lib.IntN.{ℤ, pos, negℤ, natAbs, _-ℤ_, +ℤ-idl}
+use lib.IntN.{ℤ, negℤ, natAbs, +ℤ-idl}
 use mir.Syntax.{w64}
-use mir.Val.{SFits, toZ, ofZ}
+use mir.Val.{SFits}
 use mir.Facts.{toZ-ofZ}
 use Rattle.laws.proofs.Integers.{size-neg, mag-le-size}
 use Rattle.laws.specs.Law77.{nsScore}
@@ -24,7 +24,8 @@ sub-result c = rw (toZ-ofZ (c .before .fits .score), +ℤ-idl) (small (c .before
 
 returns-2 : tie.Need-returns-2
 unfolding nsScore
-returns-2 c = rw (toZ-ofZ (c .before .fits .score), +ℤ-idl, toZ-ofZ (small (c .before .args .score) (c .before .pre)), ne-eqb _ _ (c .if1 .left)) (refl, rw (size-neg (c .before .args .score)) (c .before .pre))
+returns-2 c = rw (toZ-ofZ (c .before .fits .score), +ℤ-idl, toZ-ofZ (small (c .before .args .score) (c .before .pre)), ne-eqb _ _ (c .if1 .left))
+    (refl, rw (size-neg (c .before .args .score)) (c .before .pre))
 
 pub ns-score-spec : {M : Type 1} → statement M
 ns-score-spec = tie.close (tie.spec returns sub-result returns-2)

@@ -1,14 +1,12 @@
 -- `score_word` meets its contract. Assumes nothing.
-use Prim.Native.Nat.{ℕ, suc, _≤_, _<_, _+_, _-_, _*_}
-use mathlib.Core.Path.{_≡_, refl, sym, ap, _∙_}
+use Prim.Native.Nat.{_<_, _+_, _-_}
 use native.Mathlib.Omega.{arith}
-use lib.IntN.{ℤ, pos, negℤ, natAbs, _-ℤ_, +ℤ-idl}
+use lib.IntN.{ℤ, negℤ, natAbs, +ℤ-idl}
 use mir.Syntax.{w64}
-use mir.Val.{SFits, toZ, ofZ}
+use mir.Val.{SFits}
 use mir.Facts.{toZ-ofZ}
 use Rattle.laws.proofs.Integers.{size-neg, mag-le-size}
-use lib.Signed.{leZ}
-use Rattle.judge.proofs.Settling.{word-up, up-nonNeg, down-nonNeg, word-down, word-le}
+use Rattle.judge.proofs.Settling.{word-up, up-nonNeg, down-nonNeg, word-down}
 use Rattle.judge.proofs.settle.score_word.Statement.{statement}
 use Rattle.judge.proofs.settle.score_word.Tie as tie
 
@@ -16,7 +14,8 @@ small : (z : ℤ) → natAbs z < 10000000000000 → SFits w64 (negℤ z)
 small z h = record { sfits = omega (arith, mag-le-size (negℤ z), size-neg z) }
 
 cast-result : tie.Need-cast-result
-cast-result c = rw (toZ-ofZ (c .before .fits .score)) (up-nonNeg (c .before .args .score) (rw (toZ-ofZ (c .before .fits .score)) at (c .if1 .taken)), record { fits = omega (arith, c .before .pre) })
+cast-result c = rw (toZ-ofZ (c .before .fits .score))
+    (up-nonNeg (c .before .args .score) (rw (toZ-ofZ (c .before .fits .score)) at (c .if1 .taken)), record { fits = omega (arith, c .before .pre) })
 
 returns : tie.Need-returns
 returns c = rw (toZ-ofZ (c .before .fits .score)) (word-up (c .before .args .score) (rw (toZ-ofZ (c .before .fits .score)) at (c .if1 .taken)), c .before .pre)
@@ -25,7 +24,11 @@ sub-size : tie.Need-sub-size
 sub-size c = rw (toZ-ofZ (c .before .fits .score), +ℤ-idl) (small (c .before .args .score) (c .before .pre))
 
 cast-size : tie.Need-cast-size
-cast-size c = rw (toZ-ofZ (c .before .fits .score), +ℤ-idl, toZ-ofZ (small (c .before .args .score) (c .before .pre))) (down-nonNeg (c .before .args .score) (rw (toZ-ofZ (c .before .fits .score)) at (c .if1 .left)), record { fits = omega (arith, size-neg (c .before .args .score), c .before .pre) })
+cast-size c = rw (toZ-ofZ (c .before .fits .score), +ℤ-idl, toZ-ofZ (small (c .before .args .score) (c .before .pre))) (
+  down-nonNeg (c .before .args .score)
+      (rw (toZ-ofZ (c .before .fits .score)) at (c .if1 .left)),
+  record { fits = omega (arith, size-neg (c .before .args .score), c .before .pre) },
+)
 
 returns-2 : tie.Need-returns-2
 returns-2 c = let st = c .before .before in

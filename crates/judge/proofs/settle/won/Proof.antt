@@ -1,7 +1,5 @@
 -- `won` meets its contract. Assumes nothing.
-use native.Mathlib.Omega.{arith}
 use borrow.Author.Needs.{needs}
-use mathlib.Core.Path.{refl}
 use Rattle.judge.specs.Settled.{wonIn}
 use Rattle.judge.proofs.settle.won.Statement.{statement}
 use Rattle.judge.proofs.settle.won.Tie as tie

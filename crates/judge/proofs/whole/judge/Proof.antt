@@ -1,9 +1,7 @@
 -- `judge` meets its contract: a law of Beginning for each way out. Assumes nothing.
-use Prim.Native.Nat.{ℕ, suc, _≤_, _<_, _+_, _-_, _*_}
-use mathlib.Core.Path.{_≡_, refl, sym, ap, _∙_}
-use native.Mathlib.Omega.{arith}
+use Prim.Native.Nat.{_-_}
+use mathlib.Core.Path.{_∙_}
 use borrow.Author.Needs.{needs}
-use borrow.Author.Tests.{not-true, not-false}
 use Rattle.judge.proofs.Beginning.{heading-refused, deal-refused, calls-refused, calls-bound, calls-read}
 use Rattle.judge.proofs.whole.judge.Statement.{statement}
 use Rattle.judge.proofs.whole.judge.Tie as tie
@@ -15,7 +13,9 @@ refused-requires : tie.Need-refused-requires
 refused-requires c κs = search needs
 
 returns : tie.Need-returns
-returns c = c .refused .ensures ∙ heading-refused (c .before .before .before .before .before .args .bytes .now) _ (c .before .before .before .read-heading .ensures) (not-true _ (c .before .if1 .taken))
+returns c =
+    let t = c .before .before .before in
+    c .refused .ensures ∙ heading-refused (t .before .before .args .bytes .now) _ (t .read-heading .ensures) (c .before .if1 .taken)
 
 read-deal-requires : tie.Need-read-deal-requires
 read-deal-requires c κs = search needs
@@ -24,7 +24,12 @@ refused-requires-2 : tie.Need-refused-requires-2
 refused-requires-2 c κs = search needs
 
 returns-2 : tie.Need-returns-2
-returns-2 c = c .refused2 .ensures ∙ deal-refused (c .before .before .before .before .before .before .before .before .args .bytes .now) _ (c .before .before .before .before .before .before .read-heading .ensures) (not-false _ (c .before .before .before .before .if1 .left)) _ (c .before .before .before .read-deal .ensures) (not-true _ (c .before .if2 .taken))
+returns-2 c =
+    let d = c .before .before .before in
+    let t = d .before .before .before in
+    c .refused2 .ensures
+    ∙ deal-refused (t .before .before .args .bytes .now) _ (t .read-heading .ensures) (d .before .if1 .left) _ (d .read-deal .ensures)
+    (c .before .if2 .taken)
 
 dealer-requires : tie.Need-dealer-requires
 dealer-requires c κs = search needs
@@ -36,13 +41,31 @@ refused-requires-3 : tie.Need-refused-requires-3
 refused-requires-3 c κs = search needs
 
 returns-3 : tie.Need-returns-3
-returns-3 c = c .refused3 .ensures ∙ calls-refused (c .before .before .before .before .before .before .before .before .before .before .before .before .args .bytes .now) _ (c .before .before .before .before .before .before .before .before .before .before .read-heading .ensures) (not-false _ (c .before .before .before .before .before .before .before .before .if1 .left)) _ (c .before .before .before .before .before .before .before .read-deal .ensures) (not-false _ (c .before .before .before .before .before .if2 .left)) _ (c .before .before .before .before .dealer .ensures) _ (c .before .before .before .read-calls .ensures) (not-true _ (c .before .if3 .taken))
+returns-3 c =
+    let k = c .before .before .before in
+    let d = k .before .before .before .before in
+    let t = d .before .before .before in
+    c .refused3 .ensures
+    ∙ calls-refused (t .before .before .args .bytes .now) _ (t .read-heading .ensures) (d .before .if1 .left) _ (d .read-deal .ensures)
+    (k .before .before .if2 .left) _ (k .before .dealer .ensures) _ (k .read-calls .ensures) (c .before .if3 .taken)
 
 judge-play-requires : tie.Need-judge-play-requires
-judge-play-requires c κs = calls-bound (c .before .before .before .before .before .before .before .before .before .before .before .before .before .args .bytes .now) _ (c .before .before .before .before .before .before .before .before .before .before .before .read-heading .ensures) (not-false _ (c .before .before .before .before .before .before .before .before .before .if1 .left)) _ (c .before .before .before .before .before .before .before .before .read-deal .ensures) (not-false _ (c .before .before .before .before .before .before .if2 .left)) _ (c .before .before .before .before .before .dealer .ensures) _ (c .before .before .before .before .read-calls .ensures) (not-false _ (c .before .before .if3 .left))
+judge-play-requires c κs =
+    let e = c .before .before .before in
+    let k = e .before .before in
+    let d = k .before .before .before .before in
+    let t = d .before .before .before in
+    calls-bound (t .before .before .args .bytes .now) _ (t .read-heading .ensures) (d .before .if1 .left) _ (d .read-deal .ensures)
+    (k .before .before .if2 .left) _ (k .before .dealer .ensures) _ (k .read-calls .ensures) (e .if3 .left)
 
 returns-4 : tie.Need-returns-4
-returns-4 c = calls-read (c .before .before .before .before .before .before .before .before .before .before .before .before .before .before .args .bytes .now) _ (c .before .before .before .before .before .before .before .before .before .before .before .before .read-heading .ensures) (not-false _ (c .before .before .before .before .before .before .before .before .before .before .if1 .left)) _ (c .before .before .before .before .before .before .before .before .before .read-deal .ensures) (not-false _ (c .before .before .before .before .before .before .before .if2 .left)) _ (c .before .before .before .before .before .before .dealer .ensures) _ (c .before .before .before .before .before .read-calls .ensures) _ (not-false _ (c .before .before .before .if3 .left)) (c .judge-play .ensures)
+returns-4 c =
+    let e = c .before .before .before .before in
+    let k = e .before .before in
+    let d = k .before .before .before .before in
+    let t = d .before .before .before in
+    calls-read (t .before .before .args .bytes .now) _ (t .read-heading .ensures) (d .before .if1 .left) _ (d .read-deal .ensures)
+    (k .before .before .if2 .left) _ (k .before .dealer .ensures) _ (k .read-calls .ensures) _ (e .if3 .left) (c .judge-play .ensures)
 
 pub judge-spec : {M : Type 1} → statement M
 judge-spec =

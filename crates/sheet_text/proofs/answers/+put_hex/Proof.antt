@@ -84,7 +84,8 @@ put-hex-same-length : (t : ℕ) → put-hex-lts.Need-same-length (
   put-byte-reads.Asked,
   put-byte-reads.Learnt,
 ) (put-hex-at t) put-hex.Post
-put-hex-same-length t c = put-length (c .before .before .put-byte .ensures) ∙ put-length (c .before .before .before .before .before .before .before .put-hex .ensures)
+put-hex-same-length t c =
+    put-length (c .before .before .put-byte .ensures) ∙ put-length (c .before .before .before .before .before .before .before .put-hex .ensures)
 
 put-hex-returns-2 : (t : ℕ) → put-hex-lts.Need-returns-2 (
   put-hex-below t,

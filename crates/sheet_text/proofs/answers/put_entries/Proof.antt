@@ -45,7 +45,14 @@ put-entry-requires c κs =
     let g : Fits w8 (getD (t .counts) (l .i) 0) = search needs in
     let k : getD (t .counts) (l .i) 0 < 256 = omega (arith, g .fits) in
     rw (toZ-ofZ f)
-    (omega (arith, at-most _ _ _ _ _ (l .inv), entry-short _ _ f k, put-length (l .inv .put), c .before .before .before .before .before .before .before .pre, c .before .before .before .before .loop-test .taken))
+    (omega (
+      arith,
+      at-most _ _ _ _ _ (l .inv),
+      entry-short _ _ f k,
+      put-length (l .inv .put),
+      c .before .before .before .before .before .before .before .pre,
+      c .before .before .before .before .loop-test .taken,
+    ))
 
 add-i : tie.Need-add-i Inv-loop μ-loop
 add-i c = omega arith
@@ -60,7 +67,8 @@ loop-again c =
     let f : SFits w16 (getD (t .scores) (l .i) (pos 0)) = search needs in
     let g : Fits w8 (getD (t .counts) (l .i) 0) = search needs in
     let k : getD (t .counts) (l .i) 0 < 256 = omega (arith, g .fits) in
-    goes _ _ _ _ _ (l .inv) (omega arith) (c .before .before .before .before .before .if1 .left) _ _ (entry-short _ _ f k) (rw (toZ-ofZ f) at (c .before .before .put-entry .ensures))
+    goes _ _ _ _ _ (l .inv) (omega arith) (c .before .before .before .before .before .if1 .left) _ _ (entry-short _ _ f k)
+    (rw (toZ-ofZ f) at (c .before .before .put-entry .ensures))
 
 same-length-2 : tie.Need-same-length-2 Inv-loop μ-loop
 same-length-2 c = put-length (c .before .loop .inv .put)

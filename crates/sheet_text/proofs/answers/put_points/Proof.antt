@@ -28,7 +28,9 @@ same-length : tie.Need-same-length
 same-length c = search needs
 
 returns : tie.Need-returns
-returns c = then (then (c .before .before .before .before .before .before .before .before .before .before .put-decimal .ensures) (c .before .before .before .before .before .before .put-field .ensures)) (c .before .before .put-byte .ensures)
+returns c =
+    then (then (c .before .before .before .before .before .before .before .before .before .before .put-decimal .ensures)
+    (c .before .before .before .before .before .before .put-field .ensures)) (c .before .before .put-byte .ensures)
 
 pub put-points-spec : {M : Type 1} → statement M
 put-points-spec =

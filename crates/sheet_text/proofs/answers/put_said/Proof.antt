@@ -133,7 +133,8 @@ returns-7 : tie.Need-returns-7
 unfolding saidText
 returns-7 c =
     let st = c .before .before .before .before .before .before .before in
-    rw (c .before .before .before .before .enum-told3 .given .1) (c .before .before .put-refusal .ensures, line-short (st .args .line) (omega (arith, st .fits .line .fits)))
+    rw (c .before .before .before .before .enum-told3 .given .1)
+    (c .before .before .put-refusal .ensures, line-short (st .args .line) (omega (arith, st .fits .line .fits)))
 
 pub put-said-spec : {M : Type 1} → statement M
 put-said-spec =

@@ -52,7 +52,9 @@ returns : tie.Need-returns
 unfolding twoDecimals
 returns c =
     let d = c .before .before .before .before .before .before in
-    then (then (then (d .before .before .before .before .before .before .before .before .put-field .ensures) (d .before .before .before .before .put-byte .ensures)) (d .put-digit .ensures)) (c .before .before .put-digit2 .ensures)
+    let e = d .before .before .before .before in
+    let f = e .before .before .before .before in
+    then (then (then (f .put-field .ensures) (e .put-byte .ensures)) (d .put-digit .ensures)) (c .before .before .put-digit2 .ensures)
 
 pub put-hundredths-spec : {M : Type 1} → statement M
 put-hundredths-spec =

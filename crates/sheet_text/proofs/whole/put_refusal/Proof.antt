@@ -15,21 +15,37 @@ put-bytes-requires : tie.Need-put-bytes-requires
 put-bytes-requires c κs = omega (arith, refusal-length (c .before .before .before .args .k))
 
 put-decimal-requires : tie.Need-put-decimal-requires
-put-decimal-requires c κs = omega (arith, refusal-length (c .before .before .before .before .before .before .before .args .k), c .before .before .before .put-bytes .ensures .place, put-length (c .before .before .before .put-bytes .ensures))
+put-decimal-requires c κs =
+    omega (
+      arith,
+      refusal-length (c .before .before .before .before .before .before .before .args .k),
+      c .before .before .before .put-bytes .ensures .place,
+      put-length (c .before .before .before .put-bytes .ensures),
+    )
 
 slice-aggregate-put-bytes-2 : tie.Need-slice-aggregate-put-bytes-2
 slice-aggregate-put-bytes-2 c = search needs
 
 put-bytes-requires-2 : tie.Need-put-bytes-requires-2
 put-bytes-requires-2 c κs =
-    omega (arith, refusal-length (c .before .before .before .before .before .before .before .before .before .before .before .before .args .k), c .before .before .before .before .before .before .before .before .put-bytes .ensures .place, put-length (c .before .before .before .before .before .before .before .before .put-bytes .ensures), c .before .before .before .before .put-decimal .ensures .place, put-length (c .before .before .before .before .put-decimal .ensures))
+    omega (
+      arith,
+      refusal-length (c .before .before .before .before .before .before .before .before .before .before .before .before .args .k),
+      c .before .before .before .before .before .before .before .before .put-bytes .ensures .place,
+      put-length
+          (c .before .before .before .before .before .before .before .before .put-bytes .ensures),
+      c .before .before .before .before .put-decimal .ensures .place,
+      put-length (c .before .before .before .before .put-decimal .ensures),
+    )
 
 same-length : tie.Need-same-length
 same-length c = search needs
 
 returns : tie.Need-returns
 unfolding refusal
-returns c = then (then (c .before .before .before .before .before .before .before .before .before .before .before .put-bytes .ensures) (c .before .before .before .before .before .before .before .put-decimal .ensures)) (c .before .before .put-bytes2 .ensures)
+returns c =
+    then (then (c .before .before .before .before .before .before .before .before .before .before .before .put-bytes .ensures)
+    (c .before .before .before .before .before .before .before .put-decimal .ensures)) (c .before .before .put-bytes2 .ensures)
 
 pub put-refusal-spec : {M : Type 1} → statement M
 put-refusal-spec =

@@ -23,7 +23,9 @@ same-length : tie.Need-same-length
 same-length c = search needs
 
 returns : tie.Need-returns
-returns c = rw (sheet-refused _ _ (c .before .before .before .before .before .results-of .ensures) _ (c .before .before .before .before .if1 .taken)) (c .before .before .put-refusal .ensures)
+returns c =
+    rw (sheet-refused _ _ (c .before .before .before .before .before .results-of .ensures) _ (c .before .before .before .before .if1 .taken))
+    (c .before .before .put-refusal .ensures)
 
 put-table-requires : tie.Need-put-table-requires
 put-table-requires c κs =
@@ -36,7 +38,9 @@ same-length-2 : tie.Need-same-length-2
 same-length-2 c = search needs
 
 returns-2 : tie.Need-returns-2
-returns-2 c = rw (sheet-table _ _ (c .before .before .before .before .before .before .results-of .ensures) (c .before .before .before .before .before .if1 .left) _) (c .before .before .put-table .ensures)
+returns-2 c =
+    rw (sheet-table _ _ (c .before .before .before .before .before .before .results-of .ensures) (c .before .before .before .before .before .if1 .left) _)
+    (c .before .before .put-table .ensures)
 
 pub put-sheet-spec : {M : Type 1} → statement M
 put-sheet-spec =

@@ -40,7 +40,10 @@ same-length : tie.Need-same-length Inv-loop μ-loop
 same-length c = put-length (c .before .before .before .loop .inv .put) ∙ put-length (c .before .before .before .before .before .before .put-header .ensures)
 
 returns : tie.Need-returns Inv-loop μ-loop
-returns c = rw (table-rows _ _ (c .before .before .before .before .before .before .before .before .before .pre .1)) (then (c .before .before .before .before .before .before .put-header .ensures) (ends _ _ _ _ _ _ _ (c .before .before .before .loop .inv) (c .before .before .loop-test .taken) (c .if1 .taken)))
+returns c =
+    rw (table-rows _ _ (c .before .before .before .before .before .before .before .before .before .pre .1))
+    (then (c .before .before .before .before .before .before .put-header .ensures)
+    (ends _ _ _ _ _ _ _ (c .before .before .before .loop .inv) (c .before .before .loop-test .taken) (c .if1 .taken)))
 
 mul-score : tie.Need-mul-score Inv-loop μ-loop
 mul-score c = omega arith
@@ -58,12 +61,15 @@ enum-told : tie.Need-enum-told Inv-loop μ-loop
 enum-told c = search needs
 
 same-length-2 : tie.Need-same-length-2 Inv-loop μ-loop
-same-length-2 c = put-length (c .before .before .before .before .before .before .before .loop .inv .put) ∙ put-length (c .before .before .before .before .before .before .before .before .before .before .put-header .ensures)
+same-length-2 c =
+    put-length (c .before .before .before .before .before .before .before .loop .inv .put) ∙ put-length
+    (c .before .before .before .before .before .before .before .before .before .before .put-header .ensures)
 
 returns-2 : tie.Need-returns-2 Inv-loop μ-loop
 returns-2 c =
     let l = c .before .before .before .before .before .before .before .loop in
-    absurd (not-refused _ _ _ _ _ _ _ (l .inv) (c .before .before .before .before .before .before .loop-test .taken) (c .before .before .before .before .if1 .left) _ (c .before .before .matchpoints .ensures) _ (c .enum-told .given .1))
+    absurd (not-refused _ _ _ _ _ _ _ (l .inv) (c .before .before .before .before .before .before .loop-test .taken)
+    (c .before .before .before .before .if1 .left) _ (c .before .before .matchpoints .ensures) _ (c .enum-told .given .1))
 
 cast-put-row : tie.Need-cast-put-row Inv-loop μ-loop
 cast-put-row c = search needs
@@ -87,14 +93,18 @@ loop-again c =
     let l = c .before .before .before .before .before .before .before .before .before .before .before .before .loop in
     let h = c .before .before .before .before .before .before .before .before .before .before .before .loop-test .taken in
     let u = c .before .before .before .before .before .before .before .before .before .if1 .left in
-    let p = both _ _ _ _ _ _ _ (l .inv) h u _ (c .before .before .before .before .before .before .before .matchpoints .ensures) _ _ (c .before .before .before .before .before .points .given .1) in
+    let p =
+    both _ _ _ _ _ _ _ (l .inv) h u _ (c .before .before .before .before .before .before .before .matchpoints .ensures) _ _
+    (c .before .before .before .before .before .points .given .1) in
     goes _ _ _ _ _ _ _ (l .inv) h u _ _ (p .0) (p .1) _ _ (rw (as-held _ _ _ _ _ _ _ (l .inv) h u) at (c .before .before .put-row .ensures))
 
 same-length-3 : tie.Need-same-length-3 Inv-loop μ-loop
 same-length-3 c = put-length (c .before .loop .inv .put) ∙ put-length (c .before .before .before .before .put-header .ensures)
 
 returns-3 : tie.Need-returns-3 Inv-loop μ-loop
-returns-3 c = rw (table-rows _ _ (c .before .before .before .before .before .before .before .pre .1)) (then (c .before .before .before .before .put-header .ensures) (full _ _ _ _ _ _ _ (c .before .loop .inv) (c .loop-test .left)))
+returns-3 c =
+    rw (table-rows _ _ (c .before .before .before .before .before .before .before .pre .1))
+    (then (c .before .before .before .before .put-header .ensures) (full _ _ _ _ _ _ _ (c .before .loop .inv) (c .loop-test .left)))
 
 pub put-table-spec : {M : Type 1} → statement M
 put-table-spec =

@@ -44,7 +44,9 @@ enum-told : tie.Need-enum-told Inv-loop μ-loop
 enum-told c = search needs
 
 returns : tie.Need-returns Inv-loop μ-loop
-returns c = bad _ _ _ _ (c .before .before .before .before .before .before .loop .inv) (c .before .before .before .before .before .loop-test .taken) _ (c .before .before .before .before .line-end .ensures) _ (c .before .before .said-on .ensures) (c .enum-told .given .1)
+returns c =
+    bad _ _ _ _ (c .before .before .before .before .before .before .loop .inv) (c .before .before .before .before .before .loop-test .taken) _
+    (c .before .before .before .before .line-end .ensures) _ (c .before .before .said-on .ensures) (c .enum-told .given .1)
 
 add-requires : tie.Need-add-requires Inv-loop μ-loop
 add-requires c κs = search needs
@@ -57,17 +59,36 @@ returns-2 c =
     let d = c .before .before .before .before .before in
     let l = d .before .before .before .before in
     rw (c .full-at .ensures)
-    (over _ _ _ _ (l .before .before .loop .inv) (l .before .loop-test .taken) _ (l .line-end .ensures) _ _ (d .before .before .said-on .ensures) (d .score .given .1) _ (c .before .before .before .add .ensures)
+    (over _ _ _ _ (l .before .before .loop .inv) (l .before .loop-test .taken) _ (l .line-end .ensures) _ _ (d .before .before .said-on .ensures)
+    (d .score .given .1) _ (c .before .before .before .add .ensures)
     (λ z. c .before .if1 .taken (rw z)))
 
 add-at : tie.Need-add-at Inv-loop μ-loop
-add-at c = omega (arith, end-within _ _ _ _ (c .before .before .before .before .before .before .before .before .before .before .before .loop .inv) (c .before .before .before .before .before .before .before .before .before .before .loop-test .taken) _ (c .before .before .before .before .before .before .before .before .before .line-end .ensures))
+add-at c =
+    omega (
+      arith,
+      end-within _ _ _ _ (c .before .before .before .before .before .before .before .before .before .before .before .loop .inv)
+          (c .before .before .before .before .before .before .before .before .before .before .loop-test .taken) _
+          (c .before .before .before .before .before .before .before .before .before .line-end .ensures),
+    )
 
 loop-less : tie.Need-loop-less Inv-loop μ-loop
-loop-less c = omega (arith, end-after _ _ _ _ (c .before .before .before .before .before .before .before .before .before .before .before .loop .inv) (c .before .before .before .before .before .before .before .before .before .before .loop-test .taken) _ (c .before .before .before .before .before .before .before .before .before .line-end .ensures), c .before .before .before .before .before .before .before .before .before .before .loop-test .taken)
+loop-less c =
+    omega (
+      arith,
+      end-after _ _ _ _ (c .before .before .before .before .before .before .before .before .before .before .before .loop .inv)
+          (c .before .before .before .before .before .before .before .before .before .before .loop-test .taken) _
+          (c .before .before .before .before .before .before .before .before .before .line-end .ensures),
+      c .before .before .before .before .before .before .before .before .before .before .loop-test .taken,
+    )
 
 loop-again : tie.Need-loop-again Inv-loop μ-loop
-loop-again c = goes _ _ _ _ (c .before .before .before .before .before .before .before .before .before .before .before .loop .inv) (c .before .before .before .before .before .before .before .before .before .before .loop-test .taken) _ (c .before .before .before .before .before .before .before .before .before .line-end .ensures) _ _ (c .before .before .before .before .before .before .before .said-on .ensures) (c .before .before .before .before .before .score .given .1) _ (c .before .before .before .add .ensures) (c .before .if1 .left)
+loop-again c =
+    goes _ _ _ _ (c .before .before .before .before .before .before .before .before .before .before .before .loop .inv)
+    (c .before .before .before .before .before .before .before .before .before .before .loop-test .taken) _
+    (c .before .before .before .before .before .before .before .before .before .line-end .ensures) _ _
+    (c .before .before .before .before .before .before .before .said-on .ensures) (c .before .before .before .before .before .score .given .1) _
+    (c .before .before .before .add .ensures) (c .before .if1 .left)
 
 returns-3 : tie.Need-returns-3 Inv-loop μ-loop
 returns-3 c = ends _ _ _ _ (c .before .loop .inv) (c .loop-test .left)

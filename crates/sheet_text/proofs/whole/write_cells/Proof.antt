@@ -25,7 +25,8 @@ same-length : tie.Need-same-length
 same-length c = search needs
 
 returns : tie.Need-returns
-returns c = rw (← taken _ _ _ _ (c .before .before .before .before .before .before .put-sheet .ensures) (enough Percentages _)) (c .before .before .lend .ensures)
+returns c =
+    rw (← taken _ _ _ _ (c .before .before .before .before .before .before .put-sheet .ensures) (enough Percentages _)) (c .before .before .lend .ensures)
 
 pub write-cells-spec : {M : Type 1} → statement M
 write-cells-spec =

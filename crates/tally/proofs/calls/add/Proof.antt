@@ -9,6 +9,7 @@ use mir.Val.{toZ, ofZ}
 use mir.Facts.{toZ-ofZ}
 use Rattle.laws.specs.Tally.{addRefusal}
 use Rattle.tally.specs.Tallies.{tallyOf, scoresIn, wellFormed}
+use Rattle.tally.specs.Steps.{sizeOf}
 use Rattle.tally.proofs.Answers.{own-empty, size-room, add-malformed, add-number, add-refused, add-joinable, add-accepted}
 use Rattle.tally.proofs.calls.add.Statement.{statement}
 use Rattle.tally.proofs.calls.add.Tie as tie
@@ -17,42 +18,50 @@ use Rattle.tally.proofs.calls.add.Tie as tie
 whole : (st : tie.Start) → toZ w16 (ofZ w16 (st .args .score)) ≡ st .args .score
 whole st = toZ-ofZ (st .fits .score)
 
-is-well : (c : tie.Else1) → wellFormed (c .before .before .args .t) ≡ true
-is-well c = sym (c .before .well-formed .ensures) ∙ not-false _ (c .if1 .left)
+-- past the check the tally is well formed, and its size is known
+is-good : (c : tie.Else1) → c .before .before .check .result .good ≡ true
+is-good c = not-false _ (c .if1 .left)
 
-number : (c : tie.After-first) → let a = c .before .before .before .before .before .before .args in c .first .result ≡ addRefusal (scoresIn (a .t)) (a .score)
+is-well : (c : tie.Else1) → wellFormed (c .before .before .before .args .t) ≡ true
+is-well c = sym (c .before .before .check .ensures .good) ∙ is-good c
+
+size-is : (c : tie.Else1) → c .before .before .check .result .size ≡ sizeOf (c .before .before .before .args .t)
+size-is c = c .before .before .check .ensures .size (is-good c)
+
+number : (c : tie.After-first) →
+    let a = c .before .before .before .before .before .before .before .args in
+    c .first .result ≡ addRefusal (scoresIn (a .t)) (a .score)
 number c =
     let full = c .before in
     let invalid = full .before in
-    let size = invalid .before in
-    let well = size .before in
-    let st = well .before .before in
-    add-number (st .args .t) (st .args .score) (is-well well) _ _ _ _ (size .size-of .ensures) (rw (whole st) at (invalid .score-refusal .ensures)) (full .room-refusal .ensures) (c .first .ensures)
+    let well = invalid .before .before in
+    let st = well .before .before .before in
+    add-number (st .args .t) (st .args .score) (is-well well) _ _ _ _ (size-is well) (rw (whole st) at (invalid .score-refusal .ensures))
+    (full .room-refusal .ensures)
+    (c .first .ensures)
 
-one-is : (c : tie.After-single) → let a = c .before .before .before .before .before .before .before .before .before .args in
+one-is : (c : tie.After-single) →
+    let a = c .before .before .before .before .before .before .before .before .before .before .args in
     c .single .result ≡ tallyOf (c .before .empty .result .board) (a .score ∷ [])
-one-is c = rw (whole (c .before .before .before .before .before .before .before .before .before)) at (c .single .ensures)
+one-is c = rw (whole (c .before .before .before .before .before .before .before .before .before .before)) at (c .single .ensures)
 
-well-formed-requires : tie.Need-well-formed-requires
-well-formed-requires c κs = search needs
+check-requires : tie.Need-check-requires
+check-requires c κs = search needs
 
 refuse-requires : tie.Need-refuse-requires
 refuse-requires c κs = search needs
 
 returns : tie.Need-returns
 returns c =
-    let well = c .before .before in
-    let a = well .before .args in
-    c .refuse .ensures ∙ add-malformed (a .t) (a .score) (sym (well .well-formed .ensures) ∙ not-true _ (c .before .if1 .taken))
-
-size-of-requires : tie.Need-size-of-requires
-size-of-requires c κs = is-well c
+    let checked = c .before .before .before in
+    let a = checked .before .args in
+    c .refuse .ensures ∙ add-malformed (a .t) (a .score) (sym (checked .check .ensures .good) ∙ not-true _ (c .before .if1 .taken))
 
 score-refusal-requires : tie.Need-score-refusal-requires
 score-refusal-requires c κs = search needs
 
 room-refusal-requires : tie.Need-room-refusal-requires
-room-refusal-requires c κs = size-room _ _ (is-well (c .before .before)) (c .before .size-of .ensures)
+room-refusal-requires c κs = let well = c .before .before in size-room _ _ (is-well well) (size-is well)
 
 first-requires : tie.Need-first-requires
 first-requires c κs = search needs
@@ -64,7 +73,7 @@ returns-2 : tie.Need-returns-2
 returns-2 c =
     let first = c .before .before in
     let well = first .before .before .before .before in
-    let a = well .before .before .args in
+    let a = well .before .before .before .args in
     c .refuse2 .ensures ∙ add-refused (a .t) (a .score) (is-well well) (first .first .result) (number first) (c .before .if2 .taken)
 
 empty-requires : tie.Need-empty-requires
@@ -76,26 +85,24 @@ single-requires c κs = own-empty _ _ (c .empty .ensures)
 joined-requires : tie.Need-joined-requires
 joined-requires c κs =
     let first = c .before .before .before in
-    let size = first .before .before .before in
-    let well = size .before in
-    add-joinable _ _ (is-well well) _ (size .size-of .ensures) _ _ (c .before .empty .ensures) (one-is c) (sym (number first) ∙ c .before .before .if2 .left)
+    let well = first .before .before .before .before in
+    add-joinable _ _ (is-well well) _ (size-is well) _ _ (c .before .empty .ensures) (one-is c) (sym (number first) ∙ c .before .before .if2 .left)
 
 returns-3 : tie.Need-returns-3
 returns-3 c =
     let single = c .before in
     let first = single .before .before .before in
-    let size = first .before .before .before in
-    let well = size .before in
-    add-accepted _ _ (is-well well) _ (size .size-of .ensures) _ _ (single .before .empty .ensures) (one-is single) (sym (number first) ∙ single .before .before .if2 .left) _ (c .joined .ensures)
+    let well = first .before .before .before .before in
+    add-accepted _ _ (is-well well) _ (size-is well) _ _ (single .before .empty .ensures) (one-is single)
+    (sym (number first) ∙ single .before .before .if2 .left) _ (c .joined .ensures)
 
 pub add-spec : {M : Type 1} → statement M
 add-spec =
     tie.close
     (tie.spec
-    well-formed-requires
+    check-requires
     refuse-requires
     returns
-    size-of-requires
     score-refusal-requires
     room-refusal-requires
     first-requires

@@ -37,7 +37,9 @@ valid-requires : tie.Need-valid-requires
 valid-requires c κs = search needs
 
 returns-2 : tie.Need-returns-2
-returns-2 c = points-invalid _ _ (is-well (c .before .before)) (sym (rw (whole (c .before .before .before .before)) at (c .before .valid .ensures)) ∙ not-true _ (c .if2 .taken))
+returns-2 c =
+    points-invalid _ _ (is-well (c .before .before))
+    (sym (rw (whole (c .before .before .before .before)) at (c .before .valid .ensures)) ∙ not-true _ (c .if2 .taken))
 
 standing-of-requires : tie.Need-standing-of-requires
 standing-of-requires c κs = is-well (c .before .before)
@@ -78,13 +80,20 @@ sub-ew-2 : tie.Need-sub-ew-2
 sub-ew-2 c =
     let e = c .before .before .before in
     let d = e .before .before in
-    omega (arith, ns-fits _ _ (is-well (d .before .before .before)) (is-valid (d .before)) _ (standing d) (e .if3 .left), c .before .before .wide .ensures, c .before .wide2 .ensures, c .wide3 .ensures)
+    omega (
+      arith,
+      ns-fits _ _ (is-well (d .before .before .before)) (is-valid (d .before)) _ (standing d) (e .if3 .left),
+      c .before .before .wide .ensures,
+      c .before .wide2 .ensures,
+      c .wide3 .ensures,
+    )
 
 returns-4 : tie.Need-returns-4
 returns-4 c =
     let e = c .before .before .before in
     let d = e .before .before in
-    points-found _ _ (is-well (d .before .before .before)) (is-valid (d .before)) _ (standing d) (e .if3 .left) _ _ _ (c .before .wide2 .ensures) (c .wide3 .ensures) (c .before .before .wide .ensures)
+    points-found _ _ (is-well (d .before .before .before)) (is-valid (d .before)) _ (standing d) (e .if3 .left) _ _ _ (c .before .wide2 .ensures)
+    (c .wide3 .ensures) (c .before .before .wide .ensures)
 
 pub matchpoints-spec : {M : Type 1} → statement M
 matchpoints-spec =

@@ -28,7 +28,8 @@ other : (c : tie.After-s Inv-loop μ-loop) →
     let x = getD (c .before .before .before .before .before .args .t1 .scores) (c .before .before .before .before .loop .i) (pos 0) in
     toZ w16 (ofZ w16 x) ≡ x
 other c =
-    let f : SFits w16 (getD (c .before .before .before .before .before .args .t1 .scores) (c .before .before .before .before .loop .i) (pos 0)) = search needs in
+    let f : SFits w16 (getD (c .before .before .before .before .before .args .t1 .scores) (c .before .before .before .before .loop .i) (pos 0)) =
+    search needs in
     toZ-ofZ f
 
 loop-holds : tie.Need-loop-holds Inv-loop μ-loop

@@ -1,0 +1,26 @@
+-- An auction each of whose calls is allowed, and the longest one: three passes, then every bid in its order, each doubled and redoubled after two passes.
+-- A history has the latest call first, as in `Auction`.
+-- Assumes nothing.
+use Prim.Native.Nat.{ℕ, zero, suc, _+_}
+use mathlib.Core.Path.{_≡_}
+use mathlib.Core.Bool.{true}
+use mathlib.Core.List.{List, [], _∷_}
+use Rattle.laws.specs.Auction.{pass, double, redouble, allowed}
+
+-- each call of the history is allowed after those before it
+unfoldable pub AllAllowed : ℕ → List ℕ → Type 0
+AllAllowed dealer [] = Unit {0}
+AllAllowed dealer (c ∷ h) = (allowed dealer h c ≡ true) × AllAllowed dealer h
+
+-- a bid after the calls h, doubled and redoubled, with two passes after each
+abbrev pub twicePassed : ℕ → List ℕ → List ℕ
+twicePassed bid h = pass ∷ pass ∷ redouble ∷ pass ∷ pass ∷ double ∷ pass ∷ pass ∷ bid ∷ h
+
+-- three passes, and the first n bids in their order, each doubled and redoubled
+unfoldable pub bidsInTurn : ℕ → List ℕ
+bidsInTurn zero = pass ∷ pass ∷ pass ∷ []
+bidsInTurn (suc n) = twicePassed (3 + n) (bidsInTurn n)
+
+-- all 35 bids, and a third pass after the last: an auction of 319 calls
+unfoldable pub longestAuction : List ℕ
+longestAuction = pass ∷ bidsInTurn 35

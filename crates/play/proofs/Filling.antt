@@ -1,0 +1,267 @@
+-- The loops that read a position's words from the lowest entry on: the winners filled in from the last trick, the revokes from the last card.
+-- What is still to be filled in, and what is filled in, are together the whole. Assumes nothing.
+use Prim.Native.Nat.{ℕ, zero, suc, _≤_, _<_, _+_, _-_, _/_, _%_, _^_}
+use mathlib.Core.Path.{_≡_, refl, sym, ap, _∙_}
+use mathlib.Core.Bool.{true, false}
+use mathlib.Core.List.{List, [], _∷_, _++_, append-nil, append-assoc}
+use native.Mathlib.Nat.{pow-suc, div-one}
+use native.Mathlib.Omega.{arith}
+use borrow.Author.Tests.{eqb-true, eqb-false, eq-eqb, ne-eqb, lt-ltb, le-ltb}
+use lib.Count.{ones, onesIn, ones-step, trailingZeros}
+use lib.Dec.{eqb}
+use lib.ListN.{length, set, drop, replicate, length-append, length-set}
+use lib.Pow.{shr-shr}
+use lib.Seq.{getD-set-same, drop-set-lt, drop-cons}
+use Rattle.laws.specs.Choice.{if_then_else_, howMany}
+use Rattle.laws.specs.Padded.{padded}
+use Rattle.laws.specs.Cards.{sideOf}
+use Rattle.laws.specs.Law44.{tricksWon}
+use Rattle.laws.proofs.Tests.{by-test}
+use Rattle.laws.proofs.Counts.{many-append}
+use Rattle.play.specs.declared.Play.{Play}
+use Rattle.play.specs.declared.Tricks.{Tricks}
+use Rattle.play.specs.declared.Revokes.{Revokes}
+use Rattle.play.specs.Told.{winnersIn, tricksOf, entriesIn, byteAfter, bytesIn, revokedIn, revokesIn}
+
+-- ---- arrays filled from the end
+pub padded-rest : {A : Type 0} (z : A) (n : ℕ) (l : List A) → length l ≤ n → l ++ drop (length l) (replicate n z) ≡ padded z n l
+unfolding padded
+padded-rest z zero [] h = refl
+padded-rest z (suc n) [] h = ap (λ (m : List _). z ∷ m) (padded-rest z n [] (omega arith))
+padded-rest z zero (x ∷ l) h = absurd (omega arith)
+padded-rest z (suc n) (x ∷ l) h = ap (λ (m : List _). x ∷ m) (padded-rest z n l (omega arith))
+
+-- one place more, before those that are filled
+pub drop-set : {A : Type 0} (l : List A) (i : ℕ) (x : A) → i < length l → drop i (set l i x) ≡ x ∷ drop (suc i) l
+drop-set l i x h =
+    drop-cons (set l i x) i x (omega (arith, length-set l i x)) ∙ rw (getD-set-same l i x x h, drop-set-lt (suc i) l i x (omega arith))
+
+fill-one : {A : Type 0} (before : List A) (x : A) (l : List A) (i : ℕ) → i < length l → (before ++ (x ∷ [])) ++ drop (suc i) l ≡ before ++ drop i (set l i x)
+fill-one before x l i h = append-assoc before (x ∷ []) (drop (suc i) l) ∙ ap (λ (m : List _). before ++ m) (sym (drop-set l i x h))
+
+-- ---- the winners
+pub winners-many : (n entries : ℕ) → length (winnersIn n entries) ≡ n
+unfolding winnersIn
+winners-many zero entries = refl
+winners-many (suc n) entries = length-append (winnersIn n (entries / 16)) _ ∙ omega (arith, winners-many n (entries / 16))
+
+-- a side's tricks with one more winner
+pub won-more : (side seat : ℕ) (ws : List ℕ) → tricksWon side (ws ++ (seat ∷ [])) ≡ tricksWon side ws + (if eqb (sideOf seat) side then 1 else 0)
+unfolding tricksWon howMany
+won-more side seat ws = many-append (λ seat. eqb (sideOf seat) side) ws (seat ∷ []) ∙ omega arith
+
+-- the two sides share the tricks
+pub sides-share : (ws : List ℕ) → tricksWon 0 ws + tricksWon 1 ws ≡ length ws
+unfolding tricksWon howMany
+sides-share [] = refl
+sides-share (s ∷ ws) =
+    let share = sides-share ws in
+    by-test (eqb (sideOf s) 0)
+    (λ (q : eqb (sideOf s) 0 ≡ true). rw (q, ne-eqb (sideOf s) 1 (λ e. omega (arith, eqb-true (sideOf s) 0 q))) (omega arith))
+    (λ (q : eqb (sideOf s) 0 ≡ false). rw (q, eq-eqb (sideOf s) 1 (omega (arith, eqb-false (sideOf s) 0 q))) (omega arith))
+
+odd : (n : ℕ) → (if eqb (sideOf n) 1 then 1 else 0) ≡ n % 2
+odd n =
+    by-test (eqb (sideOf n) 1)
+    (λ (q : eqb (sideOf n) 1 ≡ true). rw q (sym (eqb-true (sideOf n) 1 q)))
+    (λ (q : eqb (sideOf n) 1 ≡ false). rw q (omega (arith, eqb-false (sideOf n) 1 q)))
+
+-- i winners are still to be filled in, by the entries `rest`
+pub record Filled (count entries : ℕ) (winners : List ℕ) (rest east i : ℕ) : Type 0 where
+  pub few : i ≤ count
+  pub most : count ≤ 13
+  pub places : length winners ≡ 13
+  pub same : winnersIn i rest ++ drop i winners ≡ padded 0 13 (winnersIn count entries)
+  pub sides : east + tricksWon 1 (winnersIn i rest) ≡ tricksWon 1 (winnersIn count entries)
+  pub small : east + i ≤ count
+
+pub fill-begins : {count entries : ℕ} → count ≤ 13 → Filled count entries (replicate 13 0) entries 0 count
+fill-begins {count} {entries} h =
+    let n = winners-many count entries in
+    record {
+      few = omega arith;
+      most = h;
+      places = refl;
+      same = rw n at (padded-rest 0 13 (winnersIn count entries) (omega arith));
+      sides = omega arith;
+      small = omega arith;
+    }
+
+fill-one-more : {count entries : ℕ} {winners : List ℕ} {rest east by : ℕ} (i : ℕ) → Filled count entries winners rest east (suc i) → by ≡ rest / 4 % 4
+    → Filled count entries (set winners i by) (rest / 16) (east + by % 2) i
+unfolding winnersIn
+fill-one-more {count} {entries} {winners} {rest} {east} {by} i r e =
+    let before = winnersIn i (rest / 16) in
+    let whole : (before ++ (by ∷ [])) ++ drop (suc i) winners ≡ padded 0 13 (winnersIn count entries) = rw e (r .same) in
+    let sides : east + tricksWon 1 (before ++ (by ∷ [])) ≡ tricksWon 1 (winnersIn count entries) = rw e (r .sides) in
+    let more = won-more 1 by before in
+    let last = odd by in
+    record {
+      few = omega (arith, r .few);
+      most = r .most;
+      places = length-set winners i by ∙ r .places;
+      same = sym (fill-one before by winners i (omega (arith, r .few, r .most, r .places))) ∙ whole;
+      sides = omega (arith, sides, more, last);
+      small = omega (arith, r .small);
+    }
+
+pub fill-goes : {count entries : ℕ} {winners : List ℕ} {rest east i by : ℕ} → Filled count entries winners rest east i → 0 < i → by ≡ rest / 4 % 4
+    → Filled count entries (set winners (i - 1) by) (rest / 16) (east + by % 2) (i - 1)
+fill-goes {count} {entries} {winners} {rest} {east} {i} {by} r h e =
+    let back : i ≡ suc (i - 1) = omega arith in
+    fill-one-more (i - 1) (rw back at r) e
+
+pub fill-ends : {count entries : ℕ} {winners : List ℕ} {rest east i : ℕ} → Filled count entries winners rest east i → i ≤ 0
+    → _≡_ {A = Tricks} (record { count = count; won = (count - east) ∷ east ∷ []; winners = winners }) (tricksOf (winnersIn count entries))
+unfolding winnersIn tricksWon howMany
+fill-ends {count} {entries} {winners} {rest} {east} {i} r h =
+    let ws = winnersIn count entries in
+    let none : i ≡ 0 = omega arith in
+    let many = winners-many count entries in
+    let none-left = rw none at r in
+    let odd : tricksWon 1 ws ≡ east = omega (arith, none-left .sides) in
+    let even : tricksWon 0 ws ≡ count - east = omega (arith, sides-share ws, many, odd) in
+    rw (even, odd, many, ← none-left .same)
+
+-- ---- the revokes
+-- as many revokes as bits are set
+pub bytes-many : (entries played n bits later : ℕ) → bits < 2 ^ n → length (bytesIn entries played n bits later) ≡ ones bits
+unfolding bytesIn ones onesIn
+bytes-many entries played zero bits later h = let none : bits ≡ 0 = omega arith in rw none
+bytes-many entries played (suc n) bits later h =
+    let less : bits / 2 < 2 ^ n = omega (arith, rw pow-suc at h) in
+    let rest = bytesIn entries played n (bits / 2) (suc later) in
+    let many = bytes-many entries played n (bits / 2) (suc later) less in
+    by-test (eqb (bits % 2) 1)
+    (λ (q : eqb (bits % 2) 1 ≡ true). rw q (length-append rest _ ∙ omega (arith, many, ones-step bits, eqb-true (bits % 2) 1 q)))
+    (λ (q : eqb (bits % 2) 1 ≡ false). rw q (length-append rest [] ∙ omega (arith, many, ones-step bits, eqb-false (bits % 2) 1 q)))
+
+-- the lowest set bit is the last revoke; t cards after it are none
+pub record Lowest (entries played n bits later t : ℕ) : Type 0 where
+  pub below : t < n
+  pub rest : bits / 2 ^ t / 2 < 2 ^ (n - suc t)
+  pub split :
+      bytesIn entries played n bits later
+      ≡ bytesIn entries played (n - suc t) (bits / 2 ^ t / 2) (later + t + 1) ++ (byteAfter entries played (later + t) ∷ [])
+
+-- the bit is set
+lowest-set : (entries played n bits later : ℕ) → bits % 2 ≡ 1 → bits < 2 ^ suc n → Lowest entries played (suc n) bits later 0
+unfolding bytesIn
+lowest-set entries played n bits later e b =
+    let less : suc n - 1 ≡ n = omega arith in
+    let whole = div-one bits in
+    let next : later + 0 + 1 ≡ suc later = omega arith in
+    let here : later + 0 ≡ later = omega arith in
+    record {
+      below = omega arith;
+      rest = rw (less, whole) (omega (arith, rw pow-suc at b));
+      split = rw (less, whole, next, here, eq-eqb (bits % 2) 1 e);
+    }
+
+-- the bit is clear
+lowest-clear : (entries played n bits later t : ℕ) → bits % 2 ≡ 0 → Lowest entries played n (bits / 2) (suc later) t
+    → Lowest entries played (suc n) bits later (suc t)
+unfolding bytesIn
+lowest-clear entries played n bits later t e l =
+    let less : suc n - suc (suc t) ≡ n - suc t = omega arith in
+    let one : 1 + t ≡ suc t = omega arith in
+    let half : bits / 2 ^ suc t ≡ bits / 2 / 2 ^ t = sym (shr-shr bits 1 t ∙ ap (λ (x : ℕ). bits / 2 ^ x) one) in
+    let next : later + suc t + 1 ≡ suc later + t + 1 = omega arith in
+    let here : later + suc t ≡ suc later + t = omega arith in
+    record {
+      below = omega (arith, l .below);
+      rest = rw (less, half) (l .rest);
+      split = rw (less, half, next, here, ne-eqb (bits % 2) 1 (λ q. omega arith)) (append-nil _ ∙ l .split);
+    }
+
+pub lowest : (entries played n k bits later : ℕ) → n ≤ k → 0 < bits → bits < 2 ^ n → Lowest entries played n bits later (trailingZeros k bits)
+unfolding bytesIn trailingZeros
+lowest entries played zero k bits later hk h b = absurd (omega arith)
+lowest entries played (suc n) zero bits later hk h b = absurd (omega arith)
+lowest entries played (suc n) (suc k) bits later hk h b =
+    by-test (eqb (bits % 2) 1)
+    (λ (q : eqb (bits % 2) 1 ≡ true). rw (eqb-true (bits % 2) 1 q) (lowest-set entries played n bits later (eqb-true (bits % 2) 1 q) b))
+    (λ (q : eqb (bits % 2) 1 ≡ false).
+    let even : bits % 2 ≡ 0 = omega (arith, eqb-false (bits % 2) 1 q) in
+    rw even (lowest-clear entries played n bits later (trailingZeros k (bits / 2)) even
+    (lowest entries played n k (bits / 2) (suc later) (omega arith) (omega arith) (omega (arith, rw pow-suc at b)))))
+
+-- the revokes of the cards before `later` ones are still to be listed, by the bits `rest`; n of them
+pub record Listing (entries played bits : ℕ) (list : List ℕ) (rest n later : ℕ) : Type 0 where
+  pub few : later ≤ 64
+  pub below : rest < 2 ^ (64 - later)
+  pub many : n ≡ length (bytesIn entries played (64 - later) rest later)
+  pub room : n ≤ 36
+  pub places : length list ≡ 36
+  pub same : bytesIn entries played (64 - later) rest later ++ drop n list ≡ padded 0 36 (bytesIn entries played 64 bits 0)
+
+pub list-begins : {entries played bits n : ℕ} → bits < 2 ^ 64 → n ≡ ones bits → n ≤ 36 → Listing entries played bits (replicate 36 0) bits n 0
+list-begins {entries} {played} {bits} {n} b e h =
+    let m : length (bytesIn entries played 64 bits 0) ≡ n = bytes-many entries played 64 bits 0 b ∙ sym e in
+    record {
+      few = omega arith;
+      below = b;
+      many = sym m;
+      room = h;
+      places = refl;
+      same = rw m at (padded-rest 0 36 (bytesIn entries played 64 bits 0) (omega arith));
+    }
+
+module _ {entries played bits : ℕ} {list : List ℕ} {rest n later : ℕ} (r : Listing entries played bits list rest n later) (some : rest ≡ 0 → ⊥) where
+  abbrev low : ℕ
+  low = trailingZeros 64 rest
+
+  pub list-low : Lowest entries played (64 - later) rest later low
+  list-low = lowest entries played (64 - later) 64 rest later (omega arith) (omega (arith, some)) (r .below)
+
+  split-many : n ≡ suc (length (bytesIn entries played (64 - later - suc low) (rest / 2 ^ low / 2) (later + low + 1)))
+  split-many =
+      let before = bytesIn entries played (64 - later - suc low) (rest / 2 ^ low / 2) (later + low + 1) in
+      omega (arith, r .many, ap length (list-low .split), length-append before (byteAfter entries played (later + low) ∷ []))
+
+  pub list-one : 1 ≤ n
+  list-one = omega (arith, split-many)
+
+  pub list-goes : {byte : ℕ} → byte ≡ byteAfter entries played (later + low)
+      → Listing entries played bits (set list (n - 1) byte) (rest / 2 ^ low / 2) (n - 1) (later + low + 1)
+  list-goes {byte} e =
+      let l = list-low in
+      let fuel : 64 - (later + low + 1) ≡ 64 - later - suc low = omega arith in
+      let before = bytesIn entries played (64 - later - suc low) (rest / 2 ^ low / 2) (later + low + 1) in
+      let back : suc (n - 1) ≡ n = omega (arith, list-one) in
+      let whole : (before ++ (byte ∷ [])) ++ drop (suc (n - 1)) list ≡ padded 0 36 (bytesIn entries played 64 bits 0) = rw (e, back, ← l .split) (r .same) in
+      record {
+        few = omega (arith, l .below);
+        below = rw fuel (l .rest);
+        many = rw fuel (omega (arith, split-many));
+        room = omega (arith, r .room);
+        places = length-set list (n - 1) byte ∙ r .places;
+        same = rw fuel (sym (fill-one before byte list (n - 1) (omega (arith, r .places, r .room, list-one))) ∙ whole);
+      }
+
+pub none-in : (entries played n later : ℕ) → bytesIn entries played n 0 later ≡ []
+unfolding bytesIn
+none-in entries played zero later = refl
+none-in entries played (suc n) later = rw (none-in entries played n (suc later))
+
+pub list-ends : {entries played bits : ℕ} {list : List ℕ} {rest n later : ℕ} → Listing entries played bits list rest n later → rest ≡ 0
+    → list ≡ padded 0 36 (bytesIn entries played 64 bits 0)
+list-ends {entries} {played} {bits} {list} {rest} {n} {later} r e =
+    let none : bytesIn entries played (64 - later) rest later ≡ [] = rw e (none-in entries played (64 - later) later) in
+    let zero : n ≡ 0 = r .many ∙ rw none in
+    rw (zero, none) at (r .same)
+
+-- ---- the ways out
+pub too-many : (p : Play) → p .revoked < 2 ^ 64 → 36 < ones (p .revoked) → _≡_ {A = Revokes} (record { count = 0; list = replicate 36 0 }) (revokesIn p)
+unfolding revokesIn revokedIn padded
+too-many p b h =
+    let many = bytes-many (entriesIn p) (p .played) 64 (p .revoked) 0 b in
+    rw (many, lt-ltb 36 (ones (p .revoked)) h)
+
+pub as-listed : (p : Play) {entries n : ℕ} {list : List ℕ} → p .revoked < 2 ^ 64 → n ≤ 36 → n ≡ ones (p .revoked) → entries ≡ entriesIn p
+    → list ≡ padded 0 36 (bytesIn entries (p .played) 64 (p .revoked) 0)
+    → _≡_ {A = Revokes} (record { count = n; list = list }) (revokesIn p)
+unfolding revokesIn revokedIn
+as-listed p {entries} {n} {list} b h e q l =
+    let many = bytes-many (entriesIn p) (p .played) 64 (p .revoked) 0 b in
+    rw (many, ← e, le-ltb 36 n h, l, q)

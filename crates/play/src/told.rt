@@ -1,0 +1,99 @@
+// What a position tells at the end: the complete tricks with their winners, and the revokes.
+use crate::Play;
+use crate::Revokes;
+use crate::Tricks;
+use crate::words::entered;
+ghost use mathlib.Core.Path.{_≡_};
+ghost use Prim.Native.Nat.{_+_, _<_, _≤_, _*_, _^_};
+ghost use Rattle.play.specs.Told.{completeIn, tricksIn, entriesIn, byteAfter, revokesIn};
+
+fn narrow(x: u64) -> u8
+    requires { ⌜ x < 256 ⌝ }
+    ensures { λ r. ⌜ r ≡ x ⌝ }
+{
+    x as u8
+}
+
+impl Play {
+    // How many tricks are complete; there are thirteen.
+    fn complete(self) -> u8
+        ensures { λ r. ⌜ (r ≡ completeIn self) × (r ≤ 13) ⌝ }
+    {
+        if self.played < 52 {
+            return narrow(self.played / 4);
+        }
+        13
+    }
+
+    // The complete tricks.
+    pub fn tricks(self) -> Tricks
+        ensures { λ r. ⌜ r ≡ tricksIn self ⌝ }
+    {
+        let count = self.complete();
+        let mut winners = [0u8; 13];
+        let mut rest = self.tricks;
+        let mut east: u8 = 0;
+        let mut i = count;
+        while 0 < i {
+            i -= 1;
+            let by = narrow(rest / 4 % 4);
+            rest = rest / 16;
+            let at = i as usize;
+            winners[at] = by;
+            east += by % 2;
+        }
+        Tricks {
+            count,
+            won: [count - east, east],
+            winners,
+        }
+    }
+
+    // The entries of the tricks, with the trick under way where there is one; its winner is not told.
+    fn entries(self) -> u64
+        ensures { λ r. ⌜ r ≡ entriesIn self ⌝ }
+    {
+        if self.played % 4 == 0 {
+            return self.tricks;
+        }
+        entered(self.tricks, 0, self.led)
+    }
+}
+
+// The byte of a revoke at a card with so many cards after it, by the entries and the number of cards played.
+fn byte_after(entries: u64, played: u64, later: u64) -> u8
+    requires { ⌜ later < 64 ⌝ }
+    ensures { λ r. ⌜ r ≡ byteAfter entries played later ⌝ }
+{
+    let card = (played % 64 + 63 - later) % 64;
+    let from = ((played % 64 + 3) / 4 + 15 - card / 4) % 16;
+    let here = entries >> (4 * from);
+    narrow((card / 4 + 1) % 16 * 16 + (here / 64 % 4 + card % 4) % 4 * 4 + here % 4)
+}
+
+impl Play {
+    // The revokes, from the last card played to the first.
+    pub fn revokes(self) -> Revokes
+        ensures { λ r. ⌜ r ≡ revokesIn self ⌝ }
+    {
+        let mut list = [0u8; 36];
+        let entries = self.entries();
+        let played = self.played;
+        let mut rest = self.revoked;
+        let mut n = u64::count_ones(rest) as usize;
+        if 36 < n {
+            return Revokes { count: 0, list };
+        }
+        let count = n as u8;
+        let mut later: u64 = 0;
+        while rest != 0 {
+            let low = u64::trailing_zeros(rest) as u64;
+            rest = (rest >> low) / 2;
+            let byte = byte_after(entries, played, later + low);
+            later = later + low + 1;
+            n -= 1;
+            list[n] = byte;
+        }
+        Revokes { count, list }
+    }
+}

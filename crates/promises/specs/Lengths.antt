@@ -1,0 +1,43 @@
+-- How long an auction and a record can be, and the longest of each.
+-- A history has the latest call first; `calls` are in their order, as a record has them.
+-- Assumes nothing.
+use Prim.Native.Nat.{ℕ, zero, suc, _+_, _≤_, _<_}
+use mathlib.Core.Path.{_≡_}
+use mathlib.Core.Bool.{true}
+use mathlib.Core.List.{List, [], _∷_, reverse}
+use lib.ListN.{length, getD}
+use Rattle.laws.specs.Bytes.{Bytes}
+use Rattle.laws.specs.Auction.{isOver, allowed}
+use Rattle.laws.specs.Law68.{none}
+use Rattle.laws.specs.Record.{Parts, encode}
+use Rattle.laws.specs.Judge.{Outcome.accepted, judgeOf}
+use Rattle.laws.specs.Lawful.{firstOf, Lawful}
+use Rattle.laws.specs.Lengths.{AllAllowed, longestAuction}
+use Rattle.promises.specs.Demand2.{oneSuitEach}
+
+-- n tricks, from a rank on: a club, a diamond, a heart and a spade of one rank to each
+unfoldable pub ranksInTurn : ℕ → ℕ → List ℕ
+ranksInTurn zero rank = []
+ranksInTurn (suc n) rank = rank ∷ (13 + rank) ∷ (26 + rank) ∷ (39 + rank) ∷ ranksInTurn n (suc rank)
+
+-- each seat has a suit; after the longest auction West plays seven notrump redoubled, and North leads and wins every trick
+unfoldable pub longestParts : Parts
+longestParts = record { board = 1; table = 1; deal = oneSuitEach; calls = reverse longestAuction; cards = ranksInTurn 13 0; claim = none }
+
+pub record Lengths : Type 0 where
+  -- an auction each of whose calls is allowed after those before it has at most 319 calls
+  pub most-calls : (dealer : ℕ) (h : List ℕ) → AllAllowed dealer h → length h ≤ 319
+  -- the same where each call is allowed at its place
+  pub most-calls-in-order : (dealer : ℕ) (calls : List ℕ)
+      → ((k : ℕ) → k < length calls → allowed dealer (firstOf k calls) (getD calls k 0) ≡ true)
+      → length calls ≤ 319
+  -- one of 319 calls, whoever deals; it is over after them
+  pub longest-auction : (dealer : ℕ) → dealer < 4 → AllAllowed dealer longestAuction
+  pub longest-over : isOver longestAuction ≡ true
+  pub longest-calls : length longestAuction ≡ 319
+  -- an accepted record has at most 296 bytes
+  pub most-bytes : (bytes : List ℕ) → Bytes bytes → (answer list : ℕ) (p : Parts) → judgeOf bytes answer list ≡ accepted p → length bytes ≤ 296
+  -- one of 296 bytes, with that auction
+  pub longest-record : judgeOf (encode longestParts) 7 36 ≡ accepted longestParts
+  pub longest-lawful : Lawful longestParts
+  pub longest-bytes : length (encode longestParts) ≡ 296
