@@ -18,6 +18,7 @@ BLOCKS = 20000
 ARCHIVE = target/staticlib/libjudge.a
 TREE = target/bin/tree
 SHEET = target/bin/sheet
+CELLS = target/bin/cells
 MERGES = target/bin/try_merges
 
 CC = cc
@@ -43,7 +44,7 @@ rt-tool:
 tools: rt-tool
 	$(call need,$(CC) $(CXX) cargo valgrind)
 
-$(ARCHIVE) $(TREE) $(SHEET) $(MERGES): | rt-tool
+$(ARCHIVE) $(TREE) $(SHEET) $(CELLS) $(MERGES): | rt-tool
 
 SOURCES = crates.txt $(shell find crates -name '*.rt' -o -name '*.antt')
 
@@ -63,13 +64,15 @@ build/terminal: $(ARCHIVE) $(wildcard terminal/*) include/judge.h
 	@mkdir -p build
 	$(CC) $(CFLAGS) -Iinclude terminal/*.c $(ARCHIVE) -o $@
 
-demo: build/terminal $(SHEET)
+demo: build/terminal $(SHEET) $(CELLS)
 	@echo "Records that are accepted:"
 	@build/terminal $(sort $(filter-out samples/refused-%,$(wildcard samples/*.hex)))
 	@echo "Records that are refused:"
 	@build/terminal $(sort $(wildcard samples/refused-*.hex)); test $$? = 1
 	@echo "The sheet of a board:"
 	@$(SHEET) <samples/scores
+	@echo "The same with percentages:"
+	@$(CELLS) <samples/scores
 
 install: $(ARCHIVE)
 	@$(MAKE) --no-print-directory install-files
@@ -84,7 +87,7 @@ install-files:
 build/rust-built: $(ARCHIVE) FORCE | tools
 	$(CARGO) build --release --offline --locked --quiet
 
-outside: tools build/rust-built build/terminal $(TREE) $(SHEET)
+outside: tools build/rust-built build/terminal $(TREE) $(SHEET) $(CELLS)
 	$(CC) $(CFLAGS) -Iinclude tests/c/header.c $(ARCHIVE) -o build/header-c
 	valgrind --quiet --error-exitcode=1 build/header-c
 	$(CXX) $(CXXFLAGS) -Iinclude -x c++ tests/c/header.c -x none $(ARCHIVE) -o build/header-c++
@@ -98,7 +101,7 @@ outside: tools build/rust-built build/terminal $(TREE) $(SHEET)
 	$(CARGO) test --release --offline --locked --quiet --test examples --test refusals --test faults
 	$(RUST)/records --count $(RECORDS) $(SEED_WORDS)
 	$(RUST)/trees --program $(TREE) --count $(TREES) $(SEED_WORDS)
-	$(RUST)/sheets --program $(SHEET) --count $(SHEETS) $(SEED_WORDS)
+	$(RUST)/sheets --program $(SHEET) --cells $(CELLS) --count $(SHEETS) $(SEED_WORDS)
 	$(RUST)/blocks $(or $(SEED),64) $(BLOCKS) >build/blocks.records
 	$(CC) $(CFLAGS) -g -Iinclude tests/c/blocks.c $(ARCHIVE) -o build/blocks
 	valgrind --quiet --error-exitcode=1 --leak-check=full build/blocks build/blocks.records
@@ -106,10 +109,10 @@ outside: tools build/rust-built build/terminal $(TREE) $(SHEET)
 	build/stack build/blocks.records
 
 # Half the time for records, a quarter for trees and a quarter for sheets.
-fuzz: build/rust-built $(TREE) $(SHEET)
+fuzz: build/rust-built $(TREE) $(SHEET) $(CELLS)
 	$(RUST)/records --seconds $$(($(FUZZ_SECONDS) / 2)) $(SEED_WORDS)
 	$(RUST)/trees --program $(TREE) --seconds $$(($(FUZZ_SECONDS) / 4)) $(SEED_WORDS)
-	$(RUST)/sheets --program $(SHEET) --seconds $$(($(FUZZ_SECONDS) / 4)) $(SEED_WORDS)
+	$(RUST)/sheets --program $(SHEET) --cells $(CELLS) --seconds $$(($(FUZZ_SECONDS) / 4)) $(SEED_WORDS)
 
 bench: build/rust-built $(MERGES)
 	$(RUST)/bench --merges $(MERGES)

@@ -68,7 +68,7 @@ pub fn read(record: &[u8]) -> Result<Judgement, Refused> {
     }
     let Some(contract) = calls(&mut bits, score::dealer(board))? else {
         passed_out(&mut bits)?;
-        return Ok(Judgement { answer: pack(place, 0), revokes: 0, list: [0; MOST_REVOKES] });
+        return Ok(Judgement { answer: answer_bytes(place, 0), revokes: 0, list: [0; MOST_REVOKES] });
     };
     let mut play = Play::new(hands, contract.strain, contract.declarer);
     let claimed = cards(&mut bits, &mut play)?;
@@ -172,11 +172,11 @@ fn judgement(place: u64, contract: &Contract, play: &Play, claim: u8) -> Judgeme
     .fold(0, |word, &(value, width)| word << width | value);
     let mut list = [0; MOST_REVOKES];
     list[..revokes.len()].copy_from_slice(revokes);
-    Judgement { answer: pack(place, from_level), revokes: revokes.len(), list }
+    Judgement { answer: answer_bytes(place, from_level), revokes: revokes.len(), list }
 }
 
 /// The seven bytes: board and table, and the forty bits from the level on.
-fn pack(place: u64, from_level: u64) -> [u8; ANSWER_BYTES] {
+fn answer_bytes(place: u64, from_level: u64) -> [u8; ANSWER_BYTES] {
     let word = place << 40 | from_level;
     let bytes = word.to_be_bytes();
     bytes[1..].try_into().expect("seven of eight bytes")

@@ -10,7 +10,7 @@ pub struct Script {
 }
 
 /// Lines that are no call.
-const UNREADABLE: [&str; 18] = [
+const UNREADABLE: [&str; 24] = [
     "",
     " ",
     "add",
@@ -27,6 +27,12 @@ const UNREADABLE: [&str; 18] = [
     "fresh 000001",
     "merge 1",
     "matchpoints",
+    "cell",
+    "cell ",
+    "cell x",
+    "award",
+    "award -60",
+    "award 000060",
     "Add 10",
     "pop",
 ];
@@ -42,8 +48,10 @@ impl Script {
             Call::Add(_) => "add ",
             Call::Merge => "merge",
             Call::Matchpoints(_) => "matchpoints ",
+            Call::Cell(_) => "cell ",
+            Call::Award(_) => "award ",
         };
-        if let Call::Fresh(n) | Call::Add(n) | Call::Matchpoints(n) = call {
+        if let Call::Fresh(n) | Call::Add(n) | Call::Matchpoints(n) | Call::Cell(n) | Call::Award(n) = call {
             self.number(n);
         }
         self.text.push('\n');
@@ -70,6 +78,7 @@ impl Script {
         for k in 0..trees {
             script.one_tree();
             script.ask_matchpoints();
+            script.ask_award();
             if k + 1 < trees {
                 script.call(Call::Merge);
             }
@@ -132,6 +141,24 @@ impl Script {
         }
     }
 
+    /// A tally of so many results, all different, and the cell of each.
+    pub fn of_cells(random: &mut Random, results: usize) -> Self {
+        let mut script = Script::new(random);
+        script.call(Call::Fresh(7));
+        let mut scores: Vec<i32> = (0..results as i32).map(|k| 10 * k - 640).collect();
+        script.random.shuffle(&mut scores);
+        scores.iter().for_each(|&score| script.call(Call::Add(score)));
+        scores.iter().for_each(|&score| script.call(Call::Cell(score)));
+        script.runner.finish();
+        script
+    }
+
+    /// An award, most often of a number that can be awarded.
+    fn ask_award(&mut self) {
+        let percent = *self.random.pick(&[60, 50, 40, 60, 50, 40, 55, 0, 100, 41, 59, 99999]);
+        self.call(Call::Award(percent));
+    }
+
     /// Asks for every score of the top tally, which together give all its counts, and for some that are not in it.
     fn ask_matchpoints(&mut self) {
         let Some(top) = self.runner.stack.last() else { return };
@@ -143,6 +170,7 @@ impl Script {
         self.random.shuffle(&mut scores);
         for score in scores {
             self.call(Call::Matchpoints(score));
+            self.call(Call::Cell(score));
         }
     }
 
@@ -170,7 +198,8 @@ impl Script {
             }
             1 => (0..tallies.max(1)).for_each(|_| script.call(Call::Merge)),
             2 if tallies == 0 => script.call(Call::Add(10)),
-            3 if tallies == 0 => script.call(Call::Matchpoints(10)),
+            3 if tallies == 0 && script.random.percent(50) => script.call(Call::Matchpoints(10)),
+            3 if tallies == 0 => script.call(Call::Cell(10)),
             _ => {
                 let line = *script.random.pick(&UNREADABLE);
                 script.text += line;

@@ -1,4 +1,4 @@
-//! The sheet of one board: scores read one a line, each with its count and its matchpoints.
+//! The sheets of one board: scores read one a line, each with its count and its matchpoints or percentages.
 use crate::score;
 use crate::tally::{Tally, MOST_RESULTS};
 use std::fmt::Write;
@@ -17,23 +17,51 @@ fn score_of(line: &[u8]) -> Option<i32> {
     (well_formed && score::valid(score)).then_some(sign * score)
 }
 
-/// What the program `sheet` writes for an input.
-pub fn sheet(input: &[u8]) -> String {
+/// The tally of an input's lines, or the number of the first line that is refused.
+fn read(input: &[u8]) -> Result<Tally, usize> {
     let mut tally = Tally::fresh(1).expect("board 1 has a tally");
     let ended = input.strip_suffix(b"\n").unwrap_or(input);
     if !input.is_empty() {
         for (k, line) in ended.split(|&b| b == b'\n').enumerate() {
-            let score = score_of(line).filter(|_| k < MOST_RESULTS);
-            match score {
-                Some(score) => tally.add(score).expect("a valid score with room for it"),
-                None => return format!("line {} refused\n", k + 1),
-            }
+            let score = score_of(line).filter(|_| k < MOST_RESULTS).ok_or(k + 1)?;
+            tally.add(score).expect("a valid score with room for it");
         }
     }
-    let mut text = "NS-SCORE COUNT NS-MP EW-MP\n".to_string();
+    Ok(tally)
+}
+
+/// A table with a row for each score, and for each side's matchpoints what they are shown as.
+fn table(input: &[u8], header: &str, shown: impl Fn(u32, usize) -> String) -> String {
+    let tally = match read(input) {
+        Ok(tally) => tally,
+        Err(line) => return format!("line {line} refused\n"),
+    };
+    let mut text = format!("{header}\n");
     for (score, count) in tally.entries() {
         let (ns, ew) = tally.matchpoints(score).expect("a score of the tally");
-        writeln!(text, "{score} {count} {ns} {ew}").expect("a string takes any text");
+        let sides = [ns, ew].map(|points| shown(points, tally.results()));
+        writeln!(text, "{score} {count} {} {}", sides[0], sides[1]).expect("a string takes any text");
     }
     text
+}
+
+/// What the program `sheet` writes for an input.
+pub fn sheet(input: &[u8]) -> String {
+    table(input, "NS-SCORE COUNT NS-MP EW-MP", |points, _| points.to_string())
+}
+
+/// A percentage to two decimals, rounded half up from the exact fraction: half of the divisor or more left over rounds up.
+fn share(points: u32, results: usize) -> String {
+    if results == 1 {
+        return "ALONE".to_string();
+    }
+    let most = 2 * (results as u32 - 1);
+    let (whole, rest) = (10_000 * points / most, 10_000 * points % most);
+    let rounded = whole + u32::from(2 * rest >= most);
+    format!("{}.{:02}", rounded / 100, rounded % 100)
+}
+
+/// What the program `cells` writes for an input.
+pub fn cells(input: &[u8]) -> String {
+    table(input, "NS-SCORE COUNT NS-% EW-%", share)
 }

@@ -103,3 +103,38 @@ impl Tally {
         Ok((north_south, 2 * (self.results() as u32 - 1) - north_south))
     }
 }
+
+/// A cell of a page of results: a played result with the percentage of NS, an awarded one with its own, or a result alone on its board.
+#[derive(Clone, Copy, PartialEq, Debug)]
+pub enum Cell {
+    Played(f64),
+    Awarded(f64),
+    Alone,
+}
+
+impl Cell {
+    /// The cell of a result with these NS matchpoints, one of so many: one division of two whole numbers.
+    pub fn of(north_south: u32, results: usize) -> Cell {
+        match results {
+            1 => Cell::Alone,
+            n => Cell::Played(f64::from(100 * north_south) / f64::from(2 * (n as u32 - 1))),
+        }
+    }
+
+    /// An award of 60, 50 or 40 per cent; 20 for any other.
+    pub fn award(percent: i32) -> Result<Cell, u32> {
+        match percent {
+            60 | 50 | 40 => Ok(Cell::Awarded(f64::from(percent))),
+            _ => Err(20),
+        }
+    }
+
+    /// What the program `tree` writes for it: the float by its 64 bits.
+    pub fn line(&self) -> String {
+        match self {
+            Cell::Played(x) => format!("played {:016x}\n", x.to_bits()),
+            Cell::Awarded(x) => format!("awarded {:016x}\n", x.to_bits()),
+            Cell::Alone => "alone\n".to_string(),
+        }
+    }
+}

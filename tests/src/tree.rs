@@ -1,6 +1,6 @@
 //! Trees of tally calls by the rules of docs/RULES.md on lists of scores, and scripts of such calls as the program `tree` reads them.
 use crate::score;
-use crate::tally::{Tally, MOST_RESULTS};
+use crate::tally::{Cell, Tally, MOST_RESULTS};
 
 /// The most tallies on the program's stack.
 pub const MOST_ON_STACK: usize = 16;
@@ -11,6 +11,8 @@ pub enum Call {
     Add(i32),
     Merge,
     Matchpoints(i32),
+    Cell(i32),
+    Award(i32),
 }
 
 impl Call {
@@ -20,6 +22,8 @@ impl Call {
             Call::Add(score) => format!("add {score}\n"),
             Call::Merge => "merge\n".to_string(),
             Call::Matchpoints(score) => format!("matchpoints {score}\n"),
+            Call::Cell(score) => format!("cell {score}\n"),
+            Call::Award(percent) => format!("award {percent}\n"),
         }
     }
 }
@@ -79,6 +83,10 @@ impl Tree {
         };
         assert_eq!(self.tally.matchpoints(score), by_list, "the tally's matchpoints against the list's");
         by_list
+    }
+
+    fn cell(&self, score: i32) -> Result<Cell, u32> {
+        self.matchpoints(score).map(|(ns, _)| Cell::of(ns, self.list.len()))
     }
 
     /// The distinct scores, highest first, each with the number of times it stands in the list.
@@ -160,6 +168,8 @@ impl Runner {
                 let points = self.stack.last()?.matchpoints(score);
                 Some(points.map(|(ns, ew)| format!("{ns} {ew}\n")))
             }
+            Call::Cell(score) => Some(self.stack.last()?.cell(score).map(|cell| cell.line())),
+            Call::Award(percent) => Some(Cell::award(percent).map(|cell| cell.line())),
         }
     }
 

@@ -5,7 +5,7 @@ use outside::compare::Judge;
 use outside::law64::transferred;
 use outside::parts::Parts;
 use outside::score::contract_score;
-use outside::sheet::sheet;
+use outside::sheet::{cells, sheet};
 use outside::tally::Tally;
 use outside::{judge, proved};
 
@@ -270,6 +270,17 @@ fn longest_auction_and_record() {
     for judge in JUDGES {
         assert_eq!(judged(judge, &one_call_more).0, 8 * 1024 + 319);
     }
+}
+
+#[test]
+fn cells_of_four() {
+    assert_eq!(cells(b"420\n420\n-50\n450\n"), "NS-SCORE COUNT NS-% EW-%\n450 1 100.00 0.00\n420 2 50.00 50.00\n-50 1 0.00 100.00\n");
+    assert_eq!(cells(b"420\n"), "NS-SCORE COUNT NS-% EW-%\n420 1 ALONE ALONE\n");
+    assert_eq!(cells(b""), "NS-SCORE COUNT NS-% EW-%\n");
+    assert_eq!(cells(b"5\n"), "line 1 refused\n");
+    let seventeen: String = (0..17).map(|k| format!("{}\n", 10 * (k + 1))).collect();
+    assert!(cells(seventeen.as_bytes()).contains("\n20 1 6.25 93.75\n"));
+    assert!(cells(format!("10\n{seventeen}").replacen("170\n", "", 1).as_bytes()).contains("\n10 2 3.13 96.88\n"));
 }
 
 #[test]

@@ -8,7 +8,7 @@ use lib.Dec.{eqb}
 use Rattle.laws.specs.Cards.{sameSide}
 use Rattle.laws.specs.Auction.{pass, double, isBid, toCall, beforePasses, bidByOpponents, bidByOwnSide, doubledOwnBid, mayDouble, mayRedouble}
 use Rattle.laws.proofs.Tests.{by-test}
-use Rattle.auction.specs.Position.{stands, opening, afterCall, positionOf}
+use Rattle.auction.specs.Position.{stands, beforeCalls, afterCall, positionOf}
 use Rattle.auction.specs.Asked.{mayDoubleOf, mayRedoubleOf}
 use Rattle.auction.proofs.History.{turn-is}
 
@@ -51,7 +51,7 @@ by-kind c passed doubled bid other =
 module _ (d : ℕ) where
   -- a bid stands that is not doubled: the latest call but passes is a bid, and the position has its bidder
   bid-stands : (test : ℕ → Bool) (h : List ℕ) → (stands (positionOf d h) 0 && test (positionOf d h .bidder)) ≡ latestBid d test (beforePasses h)
-  unfolding stands positionOf opening afterCall beforePasses latestBid
+  unfolding stands positionOf beforeCalls afterCall beforePasses latestBid
   bid-stands test [] = refl
   bid-stands test (c ∷ h) =
       let more = bid-stands test h in
@@ -59,7 +59,7 @@ module _ (d : ℕ) where
 
   -- a bid stands that is doubled: the latest call but passes is a double of it
   double-stands : (s : ℕ) (h : List ℕ) → (stands (positionOf d h) 1 && sameSide (positionOf d h .bidder) s) ≡ doubledOwnBid d s (beforePasses h)
-  unfolding stands positionOf opening afterCall beforePasses doubledOwnBid
+  unfolding stands positionOf beforeCalls afterCall beforePasses doubledOwnBid
   double-stands s [] = refl
   double-stands s (c ∷ h) =
       let more = double-stands s h in

@@ -13,7 +13,7 @@ use Rattle.laws.specs.Choice.{if_then_else_}
 use Rattle.laws.specs.Cards.{noSeat, clockwise, sideOf}
 use Rattle.laws.specs.Auction.{isBid, strainOf, toCall, lastBid, lastBidder, bidsStrain, firstToBid, declarer}
 use Rattle.laws.proofs.Tests.{by-test}
-use Rattle.auction.specs.Position.{firstPlace, entryAt, seatAt, entered, opening, afterCall, positionOf}
+use Rattle.auction.specs.Position.{firstPlace, entryAt, seatAt, entered, beforeCalls, afterCall, positionOf}
 use Rattle.auction.proofs.History.{turned, turn-is, last-is, bidder-is}
 
 -- ---- the entries of a word
@@ -141,7 +141,7 @@ caller d h = omega arith
 module _ (d : ℕ) where
   -- the first player of a side to have bid a strain
   pub first-is : (side strain : ℕ) → side < 2 → strain < 5 → (h : List ℕ) → seatAt (positionOf d h .first) (side * 5 + strain) ≡ firstToBid d side strain h
-  unfolding positionOf opening afterCall firstToBid bidsStrain
+  unfolding positionOf beforeCalls afterCall firstToBid bidsStrain
   first-is side strain ls lt [] = nobody 0 (side * 5 + strain) (none-yet (side * 5 + strain))
   first-is side strain ls lt (c ∷ h) =
       let more = first-is side strain ls lt h in

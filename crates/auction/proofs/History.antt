@@ -10,7 +10,7 @@ use Rattle.laws.specs.Choice.{if_then_else_}
 use Rattle.laws.specs.Cards.{clockwise}
 use Rattle.laws.specs.Auction.{pass, double, redouble, isBid, toCall, lastBid, lastBidder, doubling, passesInARow, hasBid, isOver, passedOut}
 use Rattle.laws.proofs.Tests.{by-test}
-use Rattle.auction.specs.Position.{opening, afterCall, positionOf}
+use Rattle.auction.specs.Position.{beforeCalls, afterCall, positionOf}
 use Rattle.auction.specs.Asked.{overOf, passedOutOf}
 
 -- a choice by the test's opposite
@@ -26,31 +26,31 @@ twice-not false = refl
 module _ (d : ℕ) where
   -- whose turn it is
   pub turn-is : (h : List ℕ) → positionOf d h .turn ≡ toCall d h
-  unfolding positionOf opening afterCall toCall clockwise
+  unfolding positionOf beforeCalls afterCall toCall clockwise
   turn-is [] = omega arith
   turn-is (c ∷ h) = omega (arith, turn-is h)
 
   -- the last bid
   pub last-is : (h : List ℕ) → positionOf d h .last ≡ lastBid h
-  unfolding positionOf opening afterCall lastBid
+  unfolding positionOf beforeCalls afterCall lastBid
   last-is [] = refl
   last-is (c ∷ h) = ap (λ (x : ℕ). if isBid c then c else x) (last-is h)
 
   -- who made the last bid
   pub bidder-is : (h : List ℕ) → positionOf d h .bidder ≡ lastBidder d h
-  unfolding positionOf opening afterCall lastBidder
+  unfolding positionOf beforeCalls afterCall lastBidder
   bidder-is [] = refl
   bidder-is (c ∷ h) = ap₂ (λ (x y : ℕ). if isBid c then x else y) (turn-is h) (bidder-is h)
 
   -- the doubling of the last bid
   pub doubling-is : (h : List ℕ) → positionOf d h .doubling ≡ doubling h
-  unfolding positionOf opening afterCall doubling
+  unfolding positionOf beforeCalls afterCall doubling
   doubling-is [] = refl
   doubling-is (c ∷ h) = ap (λ (x : ℕ). if isBid c then 0 else if eqb c double then 1 else if eqb c redouble then 2 else x) (doubling-is h)
 
   -- the passes in a row, up to four
   pub passes-is : (h : List ℕ) → positionOf d h .passes ≡ min 4 (passesInARow h)
-  unfolding positionOf opening afterCall passesInARow
+  unfolding positionOf beforeCalls afterCall passesInARow
   passes-is [] = refl
   passes-is (c ∷ h) =
       by-test (eqb c pass)

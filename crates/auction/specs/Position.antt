@@ -30,8 +30,8 @@ unfoldable pub stands : Auction → ℕ → Bool
 stands a doubling = a .standing && eqb (a .doubling) doubling
 
 -- before the first call; a dealer's number counts modulo 4
-unfoldable pub opening : ℕ → Auction
-opening dealer =
+unfoldable pub beforeCalls : ℕ → Auction
+beforeCalls dealer =
     record {
       turn = dealer % 4;
       last = 0;
@@ -57,5 +57,5 @@ afterCall a c =
 
 -- after a history, the latest call first
 unfoldable pub positionOf : ℕ → List ℕ → Auction
-positionOf dealer [] = opening dealer
+positionOf dealer [] = beforeCalls dealer
 positionOf dealer (c ∷ h) = afterCall (positionOf dealer h) c

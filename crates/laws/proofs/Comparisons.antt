@@ -12,6 +12,7 @@ use lib.Signed.{ltZ}
 use Rattle.laws.specs.Choice.{if_then_else_, howMany}
 use Rattle.laws.specs.Law77.{validScore}
 use Rattle.laws.specs.Law78.{sameScore, occurrences, comparison, comparisons, others, nsMatchpoints, ewMatchpoints, matchpoints}
+use Rattle.laws.specs.Percentages.{mostMatchpoints}
 use Rattle.laws.proofs.Tests.{by-test}
 use Rattle.laws.proofs.Scores.{Order, less, same, more, order, not-below-self, is-self, same-true}
 
@@ -74,6 +75,11 @@ below-equal s (r ∷ l) =
     (λ (q : ltZ r s ≡ false). rw q (by-test (sameScore s r)
     (λ (p : sameScore s r ≡ true). rw p (omega (arith, below-equal s l)))
     (λ (p : sameScore s r ≡ false). rw p (omega (arith, below-equal s l)))))
+
+-- both sides together have the most that one can have
+pub both-most : (l : List ℤ) (s : ℤ) → 1 ≤ occurrences s l → nsMatchpoints l s + ewMatchpoints l s ≡ mostMatchpoints l
+unfolding ewMatchpoints mostMatchpoints
+both-most l s h = omega (arith, ns-counts s l h, below-equal s l)
 
 -- ---- lists of the same results give the same matchpoints
 pub same-points : (l m : List ℤ) → length l ≡ length m → ((test : ℤ → Bool) → howMany test l ≡ howMany test m) → (s : ℤ) → matchpoints l s ≡ matchpoints m s

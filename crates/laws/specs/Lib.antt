@@ -25,3 +25,5 @@ pub mod Lengths
 pub mod Tally
 pub mod Decimal
 pub mod Sheet
+pub mod Percentages
+pub mod CellSheet

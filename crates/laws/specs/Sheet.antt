@@ -89,14 +89,14 @@ row results score =
     (decimal (nsMatchpoints results score))
     (decimal (ewMatchpoints results score))
 
--- the rows of some scores
-unfoldable pub rows : List ℤ → List ℤ → List ℕ
-rows results [] = []
-rows results (s ∷ scores) = row results s ++ rows results scores
+-- the rows of some scores, given the row of each
+unfoldable pub rows : (ℤ → List ℕ) → List ℤ → List ℕ
+rows rowOf [] = []
+rows rowOf (s ∷ scores) = rowOf s ++ rows rowOf scores
 
 -- the table: the header, and a row for each distinct score, highest first
 unfoldable pub table : List ℤ → List ℕ
-table results = header ++ rows results (distinct results)
+table results = header ++ rows (row results) (distinct results)
 
 -- line k refused
 unfoldable pub refusal : ℕ → List ℕ
@@ -105,10 +105,10 @@ refusal k =
     ++ (32 ∷ 114 ∷ 101 ∷ 102 ∷ 117 ∷ 115 ∷ 101 ∷ 100 ∷ newline ∷ [])
 
 -- ---- the sheet
--- the sheet of some lines: where one is refused that alone, else the table of their scores
-unfoldable pub sheetOf : List (List ℕ) → List ℕ
-sheetOf lines = if eqb (refusedLine 1 lines) 0 then table (map scoreOf lines) else refusal (refusedLine 1 lines)
+-- what some lines give: where one is refused that alone, else a table of their scores
+unfoldable pub tabled : (List ℤ → List ℕ) → List (List ℕ) → List ℕ
+tabled tableOf lines = if eqb (refusedLine 1 lines) 0 then tableOf (map scoreOf lines) else refusal (refusedLine 1 lines)
 
 -- the sheet of a text
 unfoldable pub sheet : List ℕ → List ℕ
-sheet bytes = sheetOf (linesOf bytes)
+sheet bytes = tabled table (linesOf bytes)

@@ -6,7 +6,7 @@ use mathlib.Core.Logic.{_⊎_, inl, inr, ⊎-elim}
 use mathlib.Core.List.{List, [], _∷_, _++_}
 use lib.IntN.{ℤ}
 use lib.ListN.{length, length-append}
-use Rattle.laws.specs.Law78.{occurrences}
+use Rattle.laws.specs.Law78.{occurrences, matchpoints}
 use Rattle.laws.specs.Tally.{addRefusal, mergeRefusal, leaves, Tree, fresh, add, merge, CallOf, last}
 use Rattle.laws.specs.Tally.{in-add, in-first, in-second, boardOf, listOf, refusalOf, added, OneBoard, AllValid, SameScores}
 use Rattle.tally.specs.declared.Tally.{Tally}
@@ -113,6 +113,10 @@ called (merge t u) =
 refusal-left : (t : Tree) → answer t .refusal ≡ refusalOf t
 refusal-left t = ap (λ (a : Tallied). a .refusal) (called t) ∙ answer-number (refusalOf t) (tallyOf (boardOf t) (listOf t))
 
+-- matchpoints asked of it are those over the list
+pub points-left : (t : Tree) (s : ℤ) → matchpointsOf (left t) s ≡ matchpoints (listOf t) s
+points-left t s = ap (λ (x : Tally). matchpointsOf x s) (tally-left t) ∙ points-list (boardOf t) (listOf t) (sound t) s
+
 of-tree : (t : Tree) → OfTree t
 of-tree t =
     let b = boardOf t in
@@ -126,7 +130,7 @@ of-tree t =
       well = rw e (formed-tally b l (w .valid) (w .room) (w .board));
       counts = λ s. ap (λ (x : Tally). countIn x s) e ∙ count-tally b l w s;
       canonical = e;
-      points = λ s r h. h ∙ ap (λ (x : Tally). matchpointsOf x s) e ∙ points-list b l w s;
+      points = λ s r h. h ∙ points-left t s;
     }
 
 -- ---- the list has what the calls add, unless one of them is refused

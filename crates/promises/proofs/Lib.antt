@@ -11,3 +11,4 @@ pub mod Demand3
 pub mod TalliesMatchpoints
 pub mod Tallies
 pub mod Demand2Imps
+pub mod Percentages

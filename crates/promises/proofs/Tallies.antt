@@ -58,7 +58,7 @@ of-merge a b =
     with-none (if wellFormed a && wellFormed b then mergeRefusal (a .board) (scoresIn a) (b .board) (scoresIn b) else 17)
     (tallyOf (a .board) (scoresIn a ++ scoresIn b))
 
-none-malformed : wellFormed noTally ≡ false
+pub none-malformed : wellFormed noTally ≡ false
 unfolding wellFormed tallyOf tallyWith freshRefusal
 none-malformed = refl
 

@@ -8,3 +8,4 @@ pub mod Demand2Revokes
 pub mod Demand3
 pub mod Tallies
 pub mod Demand2Imps
+pub mod Percentages

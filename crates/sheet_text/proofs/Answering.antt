@@ -1,5 +1,5 @@
 -- The text of what calls answer: how long it is, and the loop that prints a tally's entries. Assumes nothing.
-use Prim.Native.Nat.{ℕ, zero, suc, _+_, _-_, _*_, _^_, _≤_, _<_}
+use Prim.Native.Nat.{ℕ, zero, suc, _+_, _-_, _*_, _/_, _%_, _^_, _≤_, _<_}
 use native.Mathlib.Numerals.{add-one}
 use native.Mathlib.Omega.{arith}
 use mathlib.Core.Path.{_≡_, refl, sym, ap, _∙_}
@@ -13,7 +13,7 @@ use mir.Val.{SFits}
 use Rattle.laws.specs.Decimal.{decimal, signedDecimal}
 use Rattle.laws.specs.Sheet.{refusal}
 use Rattle.tally.specs.declared.Tally.{Tally}
-use Rattle.sheet_text.specs.Answers.{refusedText, pointsText, entryText, placesText}
+use Rattle.sheet_text.specs.Answers.{refusedText, pointsText, hexDigit, hexDigits, bitsText, entryText, placesText}
 use Rattle.sheet_text.specs.Putting.{Put}
 use Rattle.sheet_text.proofs.Enough.{refusal-length}
 use Rattle.sheet_text.proofs.Printed.{length-3, length-by}
@@ -45,6 +45,24 @@ size-short (negsuc n) f = omega (arith, length-by 4 (suc n) (omega (arith, f .sf
 
 pub entry-short : (s : ℤ) (c : ℕ) → SFits w16 s → c < 256 → length (entryText s c) ≤ 11
 entry-short s c f h = omega (arith, entry-length s c, size-short s f, length-3 c (omega arith))
+
+-- ---- hexadecimal digits
+pub hex-length : (k n : ℕ) → length (hexDigits k n) ≡ k
+unfolding hexDigits
+hex-length zero n = refl
+hex-length (suc k) n = rw (length-append (hexDigits k (n / 16)) (hexDigit (n % 16) ∷ [])) (omega (arith, hex-length k (n / 16)))
+
+pub hex-none : (out : List ℕ) (at k n : ℕ) → k ≡ 0 → Put out at (hexDigits k n) out at
+unfolding hexDigits
+hex-none out at k n e = rw e (put-none out at)
+
+pub hex-more : (k n : ℕ) → (k ≡ 0 → ⊥) → hexDigits k n ≡ hexDigits (k - 1) (n / 16) ++ (hexDigit (n % 16) ∷ [])
+unfolding hexDigits
+hex-more zero n h = absurd (h refl)
+hex-more (suc k) n h = let e : suc k - 1 ≡ k = omega arith in rw e
+
+pub bits-length : (word : List ℕ) (bits : ℕ) → length (bitsText word bits) ≡ length word + 17
+bits-length word bits = simp length-append (omega (arith, hex-length 16 bits))
 
 -- ---- a tally's places
 -- the lines of the places from i on

@@ -7,7 +7,7 @@ use Rattle.laws.specs.Decimal.{startsWith, lastDigits, decimal, signedDecimal, 
 use Rattle.laws.specs.Law77.{validScore}
 use Rattle.laws.specs.Law78.{occurrences, comparison, comparisons, others, nsMatchpoints, ewMatchpoints}
 use Rattle.laws.specs.Sheet.{before, linesOf, isZero, isSize, scoreOf, isScore, refusedLine, insert}
-use Rattle.laws.specs.Sheet.{distinct, header, row, rows, table, refusal, sheetOf, sheet}
+use Rattle.laws.specs.Sheet.{distinct, header, row, rows, table, refusal, tabled, sheet}
 
 -- `420`, `420`, `-50`, `450`
 abbrev scores : List ℕ
@@ -22,7 +22,7 @@ printed =
     ∷ 32 ∷ 49 ∷ 32 ∷ 48 ∷ 32 ∷ 54 ∷ 10 ∷ []
 
 pub example : sheet scores ≡ printed
-unfolding before linesOf isZero isSize scoreOf isScore refusedLine insert distinct header row rows table refusal sheetOf sheet
+unfolding before linesOf isZero isSize scoreOf isScore refusedLine insert distinct header row rows table refusal tabled sheet
     startsWith lastDigits decimal signedDecimal allDigits isNumber valueAfter
     validScore occurrences comparison comparisons others nsMatchpoints ewMatchpoints howMany
 example = refl

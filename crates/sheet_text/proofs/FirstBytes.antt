@@ -1,4 +1,5 @@
--- A text and its first 769 bytes have the same sheet: 128 lines of at most 6 bytes with their newlines, and one byte more. Assumes nothing.
+-- A text and its first 769 bytes have the same sheet, with matchpoints or with percentages: 128 lines of at most 6 bytes with their newlines, and one
+-- byte more. Assumes nothing.
 use Prim.Native.Nat.{ℕ, zero, suc, _+_, _-_, _*_, _≤_, _<_}
 use native.Mathlib.Omega.{arith}
 use mathlib.Core.Path.{_≡_, refl, sym, ap, _∙_}
@@ -6,13 +7,18 @@ use mathlib.Core.Bool.{Bool, true, false, not, _&&_, _||_}
 use mathlib.Core.List.{List, [], _∷_, map}
 use borrow.Author.Tests.{leb-true, eqb-true, eqb-false, ltb-true, ltb-false, lt-ltb, le-ltb, leb-false, ne-eqb, eq-eqb}
 use lib.Dec.{ltb, leb, eqb}
+use lib.IntN.{ℤ}
 use lib.ListN.{length, take, drop, length-take, length-drop}
 use lib.Seq.{take-all, take-take, take-nil, drop-nil, length-take-le}
 use Rattle.laws.specs.Choice.{if_then_else_}
 use Rattle.laws.specs.Decimal.{minus, zeroDigit, startsWith, isNumber}
 use Rattle.laws.specs.Law77.{validScore}
-use Rattle.laws.specs.Sheet.{linesOf, isZero, isSize, unsigned, scoreOf, isScore, refusedLine, sheetOf, sheet}
+use Rattle.laws.specs.Sheet.{linesOf, isZero, isSize, unsigned, scoreOf, isScore, refusedLine, table, tabled, sheet}
+use Rattle.laws.specs.CellSheet.{cellTable, cellSheet}
 use Rattle.laws.proofs.Tests.{by-test, and-left, and-right, or-left, or-right, not-both}
+use Rattle.sheet_text.specs.declared.columns.Columns.{Columns}
+use Rattle.sheet_text.specs.declared.columns.Columns.the-variants.{Matchpoints, Percentages}
+use Rattle.sheet_text.specs.Columns.{sheetAs}
 use Rattle.sheet_text.specs.Reading.{lineLength}
 use Rattle.sheet_text.proofs.Lines.{first-line, line-within}
 use Rattle.sheet_text.proofs.Enough.{not-not}
@@ -191,11 +197,16 @@ same-refused (suc m) k n s one e h =
     (λ (y : ltb n (length s) ≡ false). rw (take-all n s (ltb-false n (length s) y)))
 
 -- ---- the theorem
-pub first-bytes : (bytes : List ℕ) → sheet bytes ≡ sheet (take 769 bytes)
-unfolding sheet sheetOf
-first-bytes bytes =
+first-tabled : (tableOf : List ℤ → List ℕ) (bytes : List ℕ) → tabled tableOf (linesOf bytes) ≡ tabled tableOf (linesOf (take 769 bytes))
+unfolding tabled
+first-tabled tableOf bytes =
     let same = same-refused 128 1 769 bytes (omega arith) (omega arith) (omega arith) in
     by-test (eqb (refusedLine 1 (linesOf bytes)) 0)
     (λ (q : eqb (refusedLine 1 (linesOf bytes)) 0 ≡ true).
     rw (take-all 769 bytes (omega (arith, taken-short 128 1 bytes (omega arith) (omega arith) (eqb-true (refusedLine 1 (linesOf bytes)) 0 q)))))
     (λ (q : eqb (refusedLine 1 (linesOf bytes)) 0 ≡ false). rw (← same, q))
+
+pub first-bytes : (k : Columns) (bytes : List ℕ) → sheetAs k bytes ≡ sheetAs k (take 769 bytes)
+unfolding sheet cellSheet
+first-bytes Matchpoints bytes = first-tabled table bytes
+first-bytes Percentages bytes = first-tabled cellTable bytes

@@ -15,21 +15,26 @@ use mir.Val.{toZ, ofZ}
 use mir.Facts.{toZ-ofZ}
 use Rattle.laws.specs.Choice.{if_then_else_}
 use Rattle.laws.specs.Law77.{validScore}
-use Rattle.laws.specs.Sheet.{linesOf, scoreOf, isScore, isZero, isSize, unsigned, refusedLine, table, refusal, sheetOf, sheet}
+use Rattle.laws.specs.Sheet.{linesOf, scoreOf, isScore, isZero, isSize, unsigned, refusedLine, table, refusal, tabled, sheet}
+use Rattle.laws.specs.CellSheet.{cellTable, cellSheet}
 use Rattle.laws.specs.Tally.{addRefusal, AllValid, freshRefusal}
 use Rattle.laws.proofs.Tests.{by-test, and-right}
 use Rattle.tally.specs.declared.Tally.{Tally}
 use Rattle.tally.specs.declared.Tallied.{Tallied}
-use Rattle.tally.specs.Tallies.{tallyOf, scoresIn, wellFormed, freshOf, addOf, answerOf}
+use Rattle.tally.specs.Entries.{entriesOf}
+use Rattle.tally.specs.Tallies.{entriesIn, tallyOf, scoresIn, wellFormed, freshOf, addOf, answerOf}
 use Rattle.tally.proofs.Formed.{formed, formed-tally, entries-scores}
 use Rattle.tally.proofs.Lists.{valid-append}
 use Rattle.tally.proofs.OfLists.{Sound, add-list}
 use Rattle.tally.proofs.Refusing.{add-allowed, allowed-add}
-use Rattle.tally.proofs.Tables.{table-tally}
+use Rattle.tally.proofs.Tables.{table-tally, cell-table-tally}
 use Rattle.sheet_text.specs.declared.Said.{Said}
 use Rattle.sheet_text.specs.declared.Said.the-variants.{Score, Nothing}
 use Rattle.sheet_text.specs.declared.whole.Results.{Results}
 use Rattle.sheet_text.specs.Reading.{lineLength, saidOn}
+use Rattle.sheet_text.specs.declared.columns.Columns.{Columns}
+use Rattle.sheet_text.specs.declared.columns.Columns.the-variants.{Matchpoints, Percentages}
+use Rattle.sheet_text.specs.Columns.{tableAs, sheetAs}
 use Rattle.sheet_text.specs.Whole.{Found}
 use Rattle.sheet_text.proofs.Enough.{Taken, all-taken, refused-low}
 use Rattle.sheet_text.proofs.Rows.{valid-fits}
@@ -171,9 +176,14 @@ module _ (bytes : List ℕ) (t : Tally) (k at : ℕ) (w : Read bytes t k at) whe
 
 -- ---- the sheet by what was found
 module _ (bytes : List ℕ) (r : Results) (f : Found bytes r) where
-  pub sheet-refused : (r .refused ≡ 0 → ⊥) → sheet bytes ≡ refusal (r .refused)
-  unfolding sheet sheetOf
-  sheet-refused h = rw (← f .refused, ne-eqb (r .refused) 0 h)
+  tabled-refused : (tableOf : List ℤ → List ℕ) → (r .refused ≡ 0 → ⊥) → tabled tableOf (linesOf bytes) ≡ refusal (r .refused)
+  unfolding tabled
+  tabled-refused tableOf h = rw (← f .refused, ne-eqb (r .refused) 0 h)
+
+  pub sheet-refused : (k : Columns) → (r .refused ≡ 0 → ⊥) → sheetAs k bytes ≡ refusal (r .refused)
+  unfolding sheet cellSheet
+  sheet-refused Matchpoints h = tabled-refused table h
+  sheet-refused Percentages h = tabled-refused cellTable h
 
   pub refused-few : r .refused ≤ 129
   refused-few = rw (f .refused) (refused-low 1 (linesOf bytes) (omega arith))
@@ -189,9 +199,14 @@ module _ (bytes : List ℕ) (r : Results) (f : Found bytes r) where
     pub well : wellFormed (r .tally) ≡ true
     well = rw (f .tally h) (formed-tally 1 (map scoreOf (linesOf bytes)) (sound .valid) (sound .room) (sound .board))
 
-    pub sheet-table : sheet bytes ≡ table (scoresIn (r .tally))
-    unfolding sheet sheetOf
-    sheet-table =
-        rw (← f .refused, h, f .tally h)
-        (sym (table-tally 1 (map scoreOf (linesOf bytes)) sound (entries-scores (tallyOf 1 (map scoreOf (linesOf bytes)))
-        (formed (tallyOf 1 (map scoreOf (linesOf bytes))) (rw (f .tally h) at well)))))
+    own : let t = tallyOf 1 (map scoreOf (linesOf bytes)) in entriesOf (scoresIn t) ≡ entriesIn t
+    own = entries-scores (tallyOf 1 (map scoreOf (linesOf bytes))) (formed (tallyOf 1 (map scoreOf (linesOf bytes))) (rw (f .tally h) at well))
+
+    tabled-table : (tableOf : List ℤ → List ℕ) → tabled tableOf (linesOf bytes) ≡ tableOf (map scoreOf (linesOf bytes))
+    unfolding tabled
+    tabled-table tableOf = rw (← f .refused, h)
+
+    pub sheet-table : (k : Columns) → sheetAs k bytes ≡ tableAs k (scoresIn (r .tally))
+    unfolding sheet cellSheet
+    sheet-table Matchpoints = rw (f .tally h) (tabled-table table ∙ sym (table-tally 1 (map scoreOf (linesOf bytes)) sound own))
+    sheet-table Percentages = rw (f .tally h) (tabled-table cellTable ∙ sym (cell-table-tally 1 (map scoreOf (linesOf bytes)) sound own))

@@ -5,18 +5,22 @@ use native.Mathlib.Omega.{arith}
 use mathlib.Core.Path.{_≡_, refl, sym, ap, _∙_}
 use mathlib.Core.Bool.{Bool, true, false}
 use mathlib.Core.List.{List, [], _∷_, _++_, map, append-assoc, append-nil}
-use borrow.Author.Tests.{ne-eqb}
+use borrow.Author.Tests.{eqb-true, eqb-false, eq-eqb, ne-eqb}
+use lib.Dec.{eqb}
 use lib.IntN.{ℤ, pos, natAbs}
 use lib.ListN.{length, getD, length-append}
 use mir.Syntax.{w16}
 use mir.Val.{SFits, toZ, ofZ}
 use mir.Facts.{toZ-ofZ}
-use Rattle.laws.specs.Decimal.{decimal, signedDecimal}
 use Rattle.laws.specs.Refusals.{refused, answered}
 use Rattle.laws.specs.Law77.{validScore}
 use Rattle.laws.specs.Law78.{sameScore, occurrences, nsMatchpoints, ewMatchpoints, matchpoints}
-use Rattle.laws.specs.Sheet.{fields, header, distinct, row, rows, table}
+use Rattle.laws.specs.CellSheet.{share, cellRow, cellTable}
+use Rattle.laws.specs.Percentages.{mostMatchpoints}
+use Rattle.laws.specs.Sheet.{row, rows, table}
+use Rattle.laws.proofs.Comparisons.{below-equal, both-most}
 use Rattle.laws.proofs.Integers.{mag-le-size}
+use Rattle.laws.proofs.Tests.{by-test}
 use Rattle.score.proofs.Validity.{valid-size}
 use Rattle.tally.specs.declared.Tally.{Tally}
 use Rattle.score.specs.declared.Matchpoints.{Matchpoints}
@@ -28,18 +32,48 @@ use Rattle.tally.specs.Tallies.{entriesIn, scoresIn, wellFormed, ceiling}
 use Rattle.tally.proofs.Ordered.{countOf}
 use Rattle.tally.proofs.Lists.{in-expand}
 use Rattle.tally.proofs.Told.{same-ns, same-ew}
-use Rattle.tally.proofs.Formed.{formed, entries-scores}
+use Rattle.tally.proofs.Formed.{formed, entries-scores, room-scores}
 use Rattle.tally.proofs.Places.{entriesAt, entries-used, entries-unused, entries-end}
+use Rattle.sheet_text.specs.declared.columns.Columns.{Columns}
+use Rattle.sheet_text.specs.declared.columns.Columns.the-variants.{Matchpoints as ByPoints, Percentages as ByPercentages}
+use Rattle.sheet_text.specs.Columns.{shareText, rowText, headerAs, rowAs, tableAs}
 use Rattle.sheet_text.specs.Putting.{Put}
 use Rattle.sheet_text.proofs.Puts.{then, put-length, put-none}
 use Rattle.tally.proofs.Tables.{distinct-entries, Suffix, entry-valid, entry-count, entry-some, suffix-next}
 
+-- ---- a row by its numbers
+-- there are no matchpoints to be had exactly where there is one result
+none-alone : (l : List ℤ) (s : ℤ) → 1 ≤ occurrences s l → eqb (mostMatchpoints l) 0 ≡ eqb (length l) 1
+unfolding mostMatchpoints
+none-alone l s h =
+    by-test (eqb (length l) 1)
+    (λ (q : eqb (length l) 1 ≡ true). let n = eqb-true (length l) 1 q in rw (q, eq-eqb (2 * (length l - 1)) 0 (omega arith)))
+    (λ (q : eqb (length l) 1 ≡ false).
+    let n = eqb-false (length l) 1 q in
+    rw (q, ne-eqb (2 * (length l - 1)) 0 (λ e. n (omega (arith, below-equal s l)))))
+
+share-is : (l : List ℤ) (s : ℤ) (points other : ℕ) → 1 ≤ occurrences s l → points + other ≡ mostMatchpoints l
+    → share l points ≡ shareText points (points + other)
+unfolding share shareText
+share-is l s points other h e = rw (e, none-alone l s h)
+
+pub row-numbers : (k : Columns) (l : List ℤ) (s : ℤ) → 1 ≤ occurrences s l
+    → rowAs k l s ≡ rowText k s (occurrences s l) (nsMatchpoints l s) (ewMatchpoints l s)
+unfolding row cellRow
+row-numbers ByPoints l s h = refl
+row-numbers ByPercentages l s h =
+    let both = both-most l s h in
+    let ns = nsMatchpoints l s in
+    let ew = ewMatchpoints l s in
+    rw (share-is l s ns ew h both, share-is l s ew ns h (omega arith))
+
+-- ---- the rows one by one
 -- the rows of the entries from place i on
-abbrev pub rowsFrom : Tally → ℕ → List ℕ
-rowsFrom t i = rows (scoresIn t) (map score (entriesAt (t .scores) (t .counts) i))
+abbrev pub rowsFrom : Columns → Tally → ℕ → List ℕ
+rowsFrom k t i = rows (rowAs k (scoresIn t)) (map score (entriesAt (t .scores) (t .counts) i))
 
 -- the rows before place i are put, and there is room for the others
-pub record Printed (t : Tally) (out₀ : List ℕ) (at₀ : ℕ) (out : List ℕ) (at i : ℕ) : Type 0 where
+pub record Printed (k : Columns) (t : Tally) (out₀ : List ℕ) (at₀ : ℕ) (out : List ℕ) (at i : ℕ) : Type 0 where
   pub places : i ≤ 128
   pub scores : length (t .scores) ≡ 128
   pub counts : length (t .counts) ≡ 128
@@ -48,21 +82,17 @@ pub record Printed (t : Tally) (out₀ : List ℕ) (at₀ : ℕ) (out : List ℕ
   pub put : Put out₀ at₀ done out at
   pub top : ℤ
   pub suffix : Suffix (entriesIn t) (entriesAt (t .scores) (t .counts) i) top
-  pub whole : rowsFrom t 0 ≡ done ++ rowsFrom t i
-  pub room : at + length (rowsFrom t i) ≤ length out
+  pub whole : rowsFrom k t 0 ≡ done ++ rowsFrom k t i
+  pub room : at + length (rowsFrom k t i) ≤ length out
 
-pub table-rows : (t : Tally) → wellFormed t ≡ true → table (scoresIn t) ≡ header ++ rowsFrom t 0
-unfolding table
-table-rows t w = rw (distinct-entries (scoresIn t), entries-scores t (formed t w))
+pub table-rows : (k : Columns) (t : Tally) → wellFormed t ≡ true → tableAs k (scoresIn t) ≡ headerAs k ++ rowsFrom k t 0
+unfolding table cellTable
+table-rows ByPoints t w = rw (distinct-entries (scoresIn t), entries-scores t (formed t w))
+table-rows ByPercentages t w = rw (distinct-entries (scoresIn t), entries-scores t (formed t w))
 
-pub header-room : (n room : ℕ) → length header + n ≤ room → 27 ≤ room
-unfolding header
-header-room n room h = omega arith
-
-pub begins : (t : Tally) (out : List ℕ) (at : ℕ) → length (t .scores) ≡ 128 → length (t .counts) ≡ 128 → wellFormed t ≡ true → at ≡ 27
-    → length (table (scoresIn t)) ≤ length out → Printed t out at out at 0
-unfolding header
-begins t out at ss cs w e h =
+pub begins : (k : Columns) (t : Tally) (out : List ℕ) (at : ℕ) → length (t .scores) ≡ 128 → length (t .counts) ≡ 128 → wellFormed t ≡ true
+    → at ≡ 0 + length (headerAs k) → length (tableAs k (scoresIn t)) ≤ length out → Printed k t out at out at 0
+begins k t out at ss cs w e h =
     record {
       places = omega arith;
       scores = ss;
@@ -71,27 +101,27 @@ begins t out at ss cs w e h =
       done = [];
       put = put-none out at;
       top = ceiling;
-      suffix = record { ordered = formed t w .ordered; same = λ (y : ℤ) k. refl };
+      suffix = record { ordered = formed t w .ordered; same = λ (y : ℤ) e. refl };
       whole = refl;
-      room = omega (arith, rw (table-rows t w, length-append header (rowsFrom t 0)) at h);
+      room = omega (arith, rw (table-rows k t w, length-append (headerAs k) (rowsFrom k t 0)) at h);
     }
 
 -- a valid score fits the code's type
 pub valid-fits : (z : ℤ) → validScore z ≡ true → SFits w16 z
 valid-fits z v = record { sfits = omega (arith, valid-size z v, mag-le-size z) }
 
-module _ (t : Tally) (out₀ : List ℕ) (at₀ : ℕ) (out : List ℕ) (at i : ℕ) (w : Printed t out₀ at₀ out at i) where
+module _ (k : Columns) (t : Tally) (out₀ : List ℕ) (at₀ : ℕ) (out : List ℕ) (at i : ℕ) (w : Printed k t out₀ at₀ out at i) where
   -- the last row is put
-  ended : entriesAt (t .scores) (t .counts) i ≡ [] → Put out₀ at₀ (rowsFrom t 0) out at
+  ended : entriesAt (t .scores) (t .counts) i ≡ [] → Put out₀ at₀ (rowsFrom k t 0) out at
   unfolding rows
   ended e =
-      let d : rowsFrom t 0 ≡ w .done = w .whole ∙ rw e (append-nil (w .done)) in
+      let d : rowsFrom k t 0 ≡ w .done = w .whole ∙ rw e (append-nil (w .done)) in
       rw d (w .put)
 
-  pub ends : i < 128 → getD (t .counts) i 0 ≡ 0 → Put out₀ at₀ (rowsFrom t 0) out at
+  pub ends : i < 128 → getD (t .counts) i 0 ≡ 0 → Put out₀ at₀ (rowsFrom k t 0) out at
   ends h z = ended (entries-unused (t .scores) (t .counts) i (omega (arith, w .scores)) (omega (arith, w .counts)) z)
 
-  pub full : 128 ≤ i → Put out₀ at₀ (rowsFrom t 0) out at
+  pub full : 128 ≤ i → Put out₀ at₀ (rowsFrom k t 0) out at
   full h = ended (entries-end (t .scores) (t .counts) i (omega (arith, w .scores)))
 
   module _ (h : i < 128) (u : getD (t .counts) i 0 ≡ 0 → ⊥) where
@@ -136,26 +166,32 @@ module _ (t : Tally) (out₀ : List ℕ) (at₀ : ℕ) (out : List ℕ) (at i : 
           let told = sym (ap pointsAnswer q) ∙ found in
           (same-ns _ _ told, same-ew _ _ told)
 
+    once : 1 ≤ occurrences at-i (scoresIn t)
+    once = omega (arith, counted, entry-some _ _ _ _ here)
+
+    -- the matchpoints of both sides are of at most 128 results
+    pub few : (n e : ℕ) → n ≡ nsMatchpoints (scoresIn t) at-i → e ≡ ewMatchpoints (scoresIn t) at-i → n + e ≤ 254
+    unfolding mostMatchpoints
+    few n e is-n is-e = omega (arith, both-most (scoresIn t) at-i once, room-scores t (formed t (w .well)))
+
     -- its row
-    its-row : rowsFrom t i
-        ≡ fields (signedDecimal at-i) (decimal of-i) (decimal (nsMatchpoints (scoresIn t) at-i)) (decimal (ewMatchpoints (scoresIn t) at-i))
-        ++ rowsFrom t (suc i)
-    unfolding rows row
-    its-row = rw (used, counted)
+    its-row : rowsFrom k t i ≡ rowText k at-i of-i (nsMatchpoints (scoresIn t) at-i) (ewMatchpoints (scoresIn t) at-i) ++ rowsFrom k t (suc i)
+    unfolding rows
+    its-row = rw (used, row-numbers k (scoresIn t) at-i once, counted)
 
     module _ (n e : ℕ) (is-n : n ≡ nsMatchpoints (scoresIn t) at-i) (is-e : e ≡ ewMatchpoints (scoresIn t) at-i) where
       abbrev text : List ℕ
-      text = fields (signedDecimal at-i) (decimal of-i) (decimal n) (decimal e)
+      text = rowText k at-i of-i n e
 
-      row-is : rowsFrom t i ≡ text ++ rowsFrom t (suc i)
+      row-is : rowsFrom k t i ≡ text ++ rowsFrom k t (suc i)
       row-is = its-row ∙ rw (is-n, is-e)
 
       pub row-room : at + length text ≤ length out
-      row-room = omega (arith, ap length row-is ∙ length-append text (rowsFrom t (suc i)), w .room)
+      row-room = omega (arith, ap length row-is ∙ length-append text (rowsFrom k t (suc i)), w .room)
 
-      pub goes : (out′ : List ℕ) (at′ : ℕ) → Put out at text out′ at′ → Printed t out₀ at₀ out′ at′ (i + 1)
+      pub goes : (out′ : List ℕ) (at′ : ℕ) → Put out at text out′ at′ → Printed k t out₀ at₀ out′ at′ (i + 1)
       goes out′ at′ p =
-          let l = ap length row-is ∙ length-append text (rowsFrom t (suc i)) in
+          let l = ap length row-is ∙ length-append text (rowsFrom k t (suc i)) in
           rw (add-one i)
           (record {
             places = omega arith;
@@ -166,6 +202,6 @@ module _ (t : Tally) (out₀ : List ℕ) (at₀ : ℕ) (out : List ℕ) (at i : 
             put = then (w .put) p;
             top = at-i;
             suffix = suffix-next _ _ _ _ here;
-            whole = w .whole ∙ rw row-is (sym (append-assoc (w .done) text (rowsFrom t (suc i))));
+            whole = w .whole ∙ rw row-is (sym (append-assoc (w .done) text (rowsFrom k t (suc i))));
             room = omega (arith, l, w .room, p .place, put-length p);
           })

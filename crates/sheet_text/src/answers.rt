@@ -10,9 +10,9 @@ use super::whole::put_refusal;
 use tally::Tally;
 use tree_stack::Said;
 ghost use mathlib.Core.Path.{_≡_};
-ghost use Prim.Native.Nat.{_+_, _≤_};
+ghost use Prim.Native.Nat.{_+_, _≤_, _<_};
 ghost use lib.ListN.{length};
-ghost use Rattle.sheet_text.specs.Answers.{refusedText, pointsText, saidText, entryText, tallyText};
+ghost use Rattle.sheet_text.specs.Answers.{refusedText, pointsText, hexDigit, hexDigits, bitsText, saidText, entryText, tallyText};
 ghost use Rattle.sheet_text.specs.Putting.{Put, written, lengthWithin, leftIn};
 
 fn put_refused(out: &mut [u8], n: u8) -> usize
@@ -33,6 +33,39 @@ fn put_points(out: &mut [u8], ns: u32, ew: u32) -> usize
     put_byte(out, end, 10)
 }
 
+// A number below 16 as a hexadecimal digit.
+fn hex_digit(n: u64) -> u8
+    requires { ⌜ n < 16 ⌝ }
+    ensures { λ r. ⌜ r ≡ hexDigit n ⌝ }
+{
+    if n < 10 {
+        return 48 + n as u8;
+    }
+    87 + n as u8
+}
+
+fn put_hex(out: &mut [u8], at: usize, digits: u32, n: u64) -> usize
+    requires { ⌜ at + digits ≤ length (now out) ⌝ }
+    ensures { λ r. ⌜ Put (now (out .entry)) at (hexDigits digits n) (now (out .exit)) r ⌝ }
+{
+    if digits == 0 {
+        return at;
+    }
+    let next = put_hex(out, at, digits - 1, n / 16);
+    let last = hex_digit(n % 16);
+    put_byte(out, next, last)
+}
+
+// A word and 64 bits.
+fn put_bits(out: &mut [u8], word: &[u8], bits: u64) -> usize
+    requires { ⌜ length (now word) + 17 ≤ length (now out) ⌝ }
+    ensures { λ r. ⌜ Put (now (out .entry)) 0 (bitsText (now (word .entry)) bits) (now (out .exit)) r ⌝ }
+{
+    let first = put_bytes(out, 0, word);
+    let end = put_hex(out, first, 16, bits);
+    put_byte(out, end, 10)
+}
+
 fn put_said(out: &mut [u8], said: Said, line: u64) -> usize
     requires { ⌜ 34 ≤ length (now out) ⌝ }
     ensures { λ r. ⌜ Put (now (out .entry)) 0 (saidText said line) (now (out .exit)) r × (length (saidText said line) ≤ 34) ⌝ }
@@ -41,6 +74,9 @@ fn put_said(out: &mut [u8], said: Said, line: u64) -> usize
         Said::Done => put_bytes(out, 0, b"ok\n"),
         Said::Refused(n) => put_refused(out, n),
         Said::Points(ns, ew) => put_points(out, ns, ew),
+        Said::Played(bits) => put_bits(out, b"played ", bits),
+        Said::Awarded(bits) => put_bits(out, b"awarded ", bits),
+        Said::Alone => put_bytes(out, 0, b"alone\n"),
         Said::Stopped => put_refusal(out, line),
     }
 }

@@ -1,6 +1,8 @@
 // The sheet of a text of scores. Here: a line and the score on it are read, and the parts of the sheet are put into bytes at a place; each answers the
-// place after what it put. `whole` has the results of all lines, the table, and the sheet; `answers` the text of what the calls of a script answer.
+// place after what it put. `whole` has the results of all lines, the table, and the sheets; `columns` what a table gives for each side; `answers` the
+// text of what the calls of a script answer.
 mod answers;
+mod columns;
 mod whole;
 
 pub use answers::write_said;
@@ -10,6 +12,7 @@ use decimal::read_number;
 use score::valid;
 pub use whole::Outcome;
 pub use whole::write;
+pub use whole::write_cells;
 ghost use mathlib.Core.Path.{_≡_};
 ghost use mathlib.Core.List.{[], _∷_};
 ghost use Prim.Native.Nat.{_+_, _≤_, _<_};

@@ -1,5 +1,8 @@
-// The results of all lines, the table, and the sheet.
+// The results of all lines, the table, and the sheets with matchpoints and with percentages.
 use super::Said;
+use super::columns::Columns;
+use super::columns::put_header;
+use super::columns::put_side;
 use super::line_end;
 use super::put_byte;
 use super::put_bytes;
@@ -13,9 +16,10 @@ ghost use mathlib.Core.Path.{_≡_};
 ghost use mathlib.Core.Bool.{true};
 ghost use Prim.Native.Nat.{_+_, _≤_};
 ghost use lib.ListN.{length};
-ghost use Rattle.laws.specs.Decimal.{decimal, signedDecimal};
-ghost use Rattle.laws.specs.Sheet.{fields, table, refusal, sheet};
+ghost use Rattle.laws.specs.CellSheet.{cellSheet};
+ghost use Rattle.laws.specs.Sheet.{refusal, sheet};
 ghost use Rattle.tally.specs.Tallies.{scoresIn, wellFormed};
+ghost use Rattle.sheet_text.specs.Columns.{rowText, tableAs, sheetAs, roomAs};
 ghost use Rattle.sheet_text.specs.Putting.{Put, written, lengthWithin, leftIn};
 ghost use Rattle.sheet_text.specs.Whole.{Found};
 
@@ -72,23 +76,31 @@ fn results_of(bytes: &[u8]) -> Results
     }
 }
 
-fn put_row(out: &mut [u8], at: usize, score: i16, count: u32, ns: u32, ew: u32) -> usize
-    requires { ⌜ at + length (fields (signedDecimal score) (decimal count) (decimal ns) (decimal ew)) ≤ length (now out) ⌝ }
-    ensures { λ r. ⌜ Put (now (out .entry)) at (fields (signedDecimal score) (decimal count) (decimal ns) (decimal ew)) (now (out .exit)) r ⌝ }
+fn put_row(
+    out: &mut [u8],
+    at: usize,
+    columns: Columns,
+    score: i16,
+    count: u32,
+    ns: u32,
+    ew: u32,
+) -> usize
+    requires { ⌜ (at + length (rowText columns score count ns ew) ≤ length (now out)) × (ns + ew ≤ 254) ⌝ }
+    ensures { λ r. ⌜ Put (now (out .entry)) at (rowText columns score count ns ew) (now (out .exit)) r ⌝ }
 {
     let a = put_score(out, at, score);
     let b = put_field(out, a, count);
-    let c = put_field(out, b, ns);
-    let d = put_field(out, c, ew);
+    let c = put_side(out, b, columns, ns, ew);
+    let d = put_side(out, c, columns, ew, ns);
     put_byte(out, d, 10)
 }
 
 // The table of a tally that is well formed.
-fn put_table(out: &mut [u8], t: Tally) -> usize
-    requires { ⌜ (length (table (scoresIn t)) ≤ length (now out)) × (wellFormed t ≡ true) ⌝ }
-    ensures { λ r. ⌜ Put (now (out .entry)) 0 (table (scoresIn t)) (now (out .exit)) r ⌝ }
+fn put_table(out: &mut [u8], t: Tally, columns: Columns) -> usize
+    requires { ⌜ (length (tableAs columns (scoresIn t)) ≤ length (now out)) × (wellFormed t ≡ true) ⌝ }
+    ensures { λ r. ⌜ Put (now (out .entry)) 0 (tableAs columns (scoresIn t)) (now (out .exit)) r ⌝ }
 {
-    let mut at = put_bytes(out, 0, b"NS-SCORE COUNT NS-MP EW-MP\n");
+    let mut at = put_header(out, columns);
     let mut i: usize = 0;
     while i < 128 {
         let count = t.counts[i];
@@ -100,7 +112,7 @@ fn put_table(out: &mut [u8], t: Tally) -> usize
         let MatchpointAnswer::Points { ns, ew } = points else {
             return at;
         };
-        at = put_row(out, at, score, count as u32, ns.0, ew.0);
+        at = put_row(out, at, columns, score, count as u32, ns.0, ew.0);
         i += 1;
     }
     at
@@ -115,10 +127,10 @@ pub(crate) fn put_refusal(out: &mut [u8], k: u64) -> usize
     put_bytes(out, end, b" refused\n")
 }
 
-// The sheet, where there is room for every sheet.
-fn put_sheet(out: &mut [u8], bytes: &[u8]) -> usize
-    requires { ⌜ 2331 ≤ length (now out) ⌝ }
-    ensures { λ r. ⌜ Put (now (out .entry)) 0 (sheet (now (bytes .entry))) (now (out .exit)) r ⌝ }
+// A sheet, where there is room for every one.
+fn put_sheet(out: &mut [u8], bytes: &[u8], columns: Columns) -> usize
+    requires { ⌜ roomAs columns ≤ length (now out) ⌝ }
+    ensures { λ r. ⌜ Put (now (out .entry)) 0 (sheetAs columns (now (bytes .entry))) (now (out .exit)) r ⌝ }
 {
     let results = results_of(bytes);
     let refused = results.refused;
@@ -126,7 +138,7 @@ fn put_sheet(out: &mut [u8], bytes: &[u8]) -> usize
         return put_refusal(out, refused as u64);
     }
     let t = results.tally;
-    put_table(out, t)
+    put_table(out, t, columns)
 }
 
 // Copies a text to lent bytes where it fits them.
@@ -148,6 +160,16 @@ pub fn write(bytes: &[u8], out: &mut [u8]) -> Outcome
     ensures bytes { λ r. ⌜ now (out .exit) ≡ leftIn (now (out .entry)) (sheet (now (bytes .entry))) ⌝ }
 {
     let mut text = [0u8; 2331];
-    let n = put_sheet(&mut text, bytes);
+    let n = put_sheet(&mut text, bytes, Columns::Matchpoints);
+    lend(&text[..n], out)
+}
+
+// Writes the sheet with percentages of a text of scores to lent bytes. 3097 bytes are enough for every one.
+pub fn write_cells(bytes: &[u8], out: &mut [u8]) -> Outcome
+    ensures answer { λ r. ⌜ written r ≡ lengthWithin (cellSheet (now (bytes .entry))) (length (now (out .entry))) ⌝ }
+    ensures bytes { λ r. ⌜ now (out .exit) ≡ leftIn (now (out .entry)) (cellSheet (now (bytes .entry))) ⌝ }
+{
+    let mut text = [0u8; 3097];
+    let n = put_sheet(&mut text, bytes, Columns::Percentages);
     lend(&text[..n], out)
 }

@@ -1,4 +1,4 @@
--- The table of the sheet by the entries of a tally, one after the other. Assumes nothing.
+-- The tables of the sheets by the entries of a tally, one after the other. Assumes nothing.
 use Prim.Native.Nat.{ℕ, zero, suc, _+_, _-_, _*_, _≤_, _<_}
 use native.Mathlib.Omega.{arith}
 use mathlib.Core.Path.{_≡_, refl, sym, ap, _∙_}
@@ -13,6 +13,8 @@ use Rattle.laws.specs.Choice.{if_then_else_, howMany}
 use Rattle.laws.specs.Law77.{validScore}
 use Rattle.laws.specs.Law78.{sameScore, occurrences, comparisons, others, nsMatchpoints, ewMatchpoints, matchpoints}
 use Rattle.laws.specs.Refusals.{answered}
+use Rattle.laws.specs.CellSheet.{share, cellRow, cellTable}
+use Rattle.laws.specs.Percentages.{mostMatchpoints}
 use Rattle.laws.specs.Sheet.{insert, distinct, row, rows, table}
 use Rattle.laws.specs.Tally.{AllValid}
 use Rattle.laws.proofs.Comparisons.{lower, ns-counts}
@@ -59,6 +61,11 @@ absent s (r ∷ l) e =
     (λ (q : sameScore s r ≡ true). absurd (omega (arith, rw q at e)))
     (λ (q : sameScore s r ≡ false). rw (q, absent s l (omega (arith, rw q at e))))
 
+rows-alike : (f g : ℤ → List ℕ) → ((s : ℤ) → f s ≡ g s) → (ss : List ℤ) → rows f ss ≡ rows g ss
+unfolding rows
+rows-alike f g alike [] = refl
+rows-alike f g alike (s ∷ ss) = rw (alike s, rows-alike f g alike ss)
+
 module _ (l m : List ℤ) (same-length : length l ≡ length m) (counts : (test : ℤ → Bool) → howMany test l ≡ howMany test m) where
   same-occurrences : (s : ℤ) → occurrences s l ≡ occurrences s m
   unfolding occurrences
@@ -80,14 +87,18 @@ module _ (l m : List ℤ) (same-length : length l ≡ length m) (counts : (test 
   unfolding row ewMatchpoints
   same-row s = rw (same-occurrences s, same-ns s, same-length)
 
-  same-rows : (ss : List ℤ) → rows l ss ≡ rows m ss
-  unfolding rows
-  same-rows [] = refl
-  same-rows (s ∷ ss) = rw (same-row s, same-rows ss)
+  same-cells : (s : ℤ) → cellRow l s ≡ cellRow m s
+  unfolding cellRow share ewMatchpoints mostMatchpoints
+  same-cells s = rw (same-occurrences s, same-ns s, same-length)
 
-  pub same-table : distinct l ≡ distinct m → table l ≡ table m
-  unfolding table
-  same-table e = rw (e, same-rows (distinct m))
+  module _ (e : distinct l ≡ distinct m) where
+    pub same-table : table l ≡ table m
+    unfolding table
+    same-table = rw (e, rows-alike (row l) (row m) same-row (distinct m))
+
+    pub same-cell-table : cellTable l ≡ cellTable m
+    unfolding cellTable
+    same-cell-table = rw (e, rows-alike (cellRow l) (cellRow m) same-cells (distinct m))
 
 -- the scores that a tally holds have the table of the list that it was made of
 module _ (b : ℕ) (l : List ℤ) (w : Sound b l) where
@@ -95,10 +106,16 @@ module _ (b : ℕ) (l : List ℤ) (w : Sound b l) where
   unfolding scoresIn
   own-counts test = in-expand test (entriesIn (tallyOf b l)) ∙ ap (inEntries test) (entries-tally b l (w .valid) (w .room)) ∙ in-list test l
 
-  pub table-tally : entriesOf (scoresIn (tallyOf b l)) ≡ entriesIn (tallyOf b l) → table (scoresIn (tallyOf b l)) ≡ table l
-  table-tally own =
-      same-table (scoresIn (tallyOf b l)) l (length-tally b l (w .valid) (w .room)) own-counts
-      (distinct-entries (scoresIn (tallyOf b l)) ∙ ap (map score) (own ∙ entries-tally b l (w .valid) (w .room)) ∙ sym (distinct-entries l))
+  module _ (own : entriesOf (scoresIn (tallyOf b l)) ≡ entriesIn (tallyOf b l)) where
+    own-distinct : distinct (scoresIn (tallyOf b l)) ≡ distinct l
+    own-distinct =
+        distinct-entries (scoresIn (tallyOf b l)) ∙ ap (map score) (own ∙ entries-tally b l (w .valid) (w .room)) ∙ sym (distinct-entries l)
+
+    pub table-tally : table (scoresIn (tallyOf b l)) ≡ table l
+    table-tally = same-table (scoresIn (tallyOf b l)) l (length-tally b l (w .valid) (w .room)) own-counts own-distinct
+
+    pub cell-table-tally : cellTable (scoresIn (tallyOf b l)) ≡ cellTable l
+    cell-table-tally = same-cell-table (scoresIn (tallyOf b l)) l (length-tally b l (w .valid) (w .room)) own-counts own-distinct
 
 -- ---- the entries from a place on
 -- entries at the end of others: they fall from below `top`, and no earlier entry has a score below it

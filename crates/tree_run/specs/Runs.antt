@@ -10,7 +10,7 @@ use Rattle.tally.specs.Tallies.{noTally}
 use Rattle.tree_script.specs.declared.Call.{Call}
 use Rattle.tree_script.specs.declared.Call.the-variants.{Unreadable}
 use Rattle.tree_stack.specs.declared.Said.{Said}
-use Rattle.tree_stack.specs.declared.Said.the-variants.{Done, Refused, Points, Stopped}
+use Rattle.tree_stack.specs.declared.Said.the-variants.{Done, Refused, Points, Played, Awarded, Alone, Stopped}
 use Rattle.tree_run.specs.declared.Run.{Run}
 use Rattle.tree_run.specs.declared.Reply.{Reply}
 use Rattle.tree_run.specs.declared.Reply.the-variants.{Nothing, Answer}
@@ -39,6 +39,9 @@ abbrev pub isStopped : Said → Bool
 isStopped Done = false
 isStopped (Refused n) = false
 isStopped (Points ns ew) = false
+isStopped (Played bits) = false
+isStopped (Awarded bits) = false
+isStopped Alone = false
 isStopped Stopped = true
 
 -- a byte at the end of the line; a line of more than 18 bytes is longer than any call, and its length stays 19

@@ -75,6 +75,9 @@ fn is_stopped(said: Said) -> bool
         Said::Done => false,
         Said::Refused(_) => false,
         Said::Points(_, _) => false,
+        Said::Played(_) => false,
+        Said::Awarded(_) => false,
+        Said::Alone => false,
         Said::Stopped => true,
     }
 }

@@ -25,7 +25,7 @@ use Rattle.tree_script.specs.declared.Call.the-variants.{Fresh, Add, Mer
 use Rattle.tree_script.specs.declared.Score.{Score}
 use Rattle.tree_script.specs.declared.Score.the-variants.{Of, Nothing}
 use Rattle.tree_script.specs.Calls.{isPrefix, boardIn, plusIn, minusIn, freshOn, scoreOn}
-use Rattle.tree_script.specs.Calls.{withScore, freshWord, addWord, matchpointsWord, mergeWord, callOn}
+use Rattle.tree_script.specs.Calls.{withScore, freshWord, addWord, matchpointsWord, mergeWord, tallyCallOn}
 
 -- ---- a word at the start
 module _ (word s : List ℕ) (i : ℕ) (more : i < length word) where
@@ -123,29 +123,29 @@ module _ (s : List ℕ) where
 
 -- ---- the ladder of words
 module _ (s : List ℕ) where
-  pub to-fresh : isPrefix freshWord s ≡ true → freshOn (drop 6 s) ≡ callOn s
-  unfolding callOn
+  pub to-fresh : isPrefix freshWord s ≡ true → freshOn (drop 6 s) ≡ tallyCallOn s
+  unfolding tallyCallOn
   to-fresh p = rw p
 
   module _ (no-fresh : isPrefix freshWord s ≡ false) where
-    pub to-add : isPrefix addWord s ≡ true → withScore Add (scoreOn (drop 4 s)) ≡ callOn s
-    unfolding callOn
+    pub to-add : isPrefix addWord s ≡ true → withScore Add (scoreOn (drop 4 s)) ≡ tallyCallOn s
+    unfolding tallyCallOn
     to-add p = rw (no-fresh, p)
 
     module _ (no-add : isPrefix addWord s ≡ false) where
-      pub to-matchpoints : isPrefix matchpointsWord s ≡ true → withScore Matchpoints (scoreOn (drop 12 s)) ≡ callOn s
-      unfolding callOn
+      pub to-matchpoints : isPrefix matchpointsWord s ≡ true → withScore Matchpoints (scoreOn (drop 12 s)) ≡ tallyCallOn s
+      unfolding tallyCallOn
       to-matchpoints p = rw (no-fresh, no-add, p)
 
       module _ (no-matchpoints : isPrefix matchpointsWord s ≡ false) where
-        pub other-length : (length s ≡ 5 → ⊥) → Unreadable ≡ callOn s
-        unfolding callOn
+        pub other-length : (length s ≡ 5 → ⊥) → Unreadable ≡ tallyCallOn s
+        unfolding tallyCallOn
         other-length h = rw (no-fresh, no-add, no-matchpoints, ne-eqb (length s) 5 h)
 
-        pub to-merge : length s ≡ 5 → isPrefix mergeWord s ≡ true → Merge ≡ callOn s
-        unfolding callOn
+        pub to-merge : length s ≡ 5 → isPrefix mergeWord s ≡ true → Merge ≡ tallyCallOn s
+        unfolding tallyCallOn
         to-merge h p = rw (no-fresh, no-add, no-matchpoints, eq-eqb (length s) 5 h, p)
 
-        pub to-nothing : length s ≡ 5 → isPrefix mergeWord s ≡ false → Unreadable ≡ callOn s
-        unfolding callOn
+        pub to-nothing : length s ≡ 5 → isPrefix mergeWord s ≡ false → Unreadable ≡ tallyCallOn s
+        unfolding tallyCallOn
         to-nothing h p = rw (no-fresh, no-add, no-matchpoints, eq-eqb (length s) 5 h, p)

@@ -9,7 +9,7 @@ use lib.ListN.{length, drop}
 use Rattle.laws.specs.Choice.{if_then_else_}
 use Rattle.laws.specs.Decimal.{minus, isNumber, value}
 use Rattle.tree_script.specs.declared.Call.{Call}
-use Rattle.tree_script.specs.declared.Call.the-variants.{Fresh, Add, Merge, Matchpoints, Unreadable}
+use Rattle.tree_script.specs.declared.Call.the-variants.{Fresh, Add, Merge, Matchpoints, Cell, Award, Unreadable}
 use Rattle.tree_script.specs.declared.Score.{Score}
 use Rattle.tree_script.specs.declared.Score.the-variants.{Of, Nothing}
 
@@ -63,11 +63,30 @@ matchpointsWord = 109 ∷ 97 ∷ 116 ∷ 99 ∷ 104 ∷ 112 ∷ 111 ∷ 105 ∷ 
 abbrev pub mergeWord : List ℕ
 mergeWord = 109 ∷ 101 ∷ 114 ∷ 103 ∷ 101 ∷ []
 
--- the call on a line: `fresh B`, `add S`, `matchpoints S` or `merge`
-unfoldable pub callOn : List ℕ → Call
-callOn line =
+-- `cell `
+abbrev pub cellWord : List ℕ
+cellWord = 99 ∷ 101 ∷ 108 ∷ 108 ∷ 32 ∷ []
+
+-- `award `
+abbrev pub awardWord : List ℕ
+awardWord = 97 ∷ 119 ∷ 97 ∷ 114 ∷ 100 ∷ 32 ∷ []
+
+-- a percentage to be awarded: one to five digits
+unfoldable pub awardOn : List ℕ → Call
+awardOn bytes = if isNumber bytes then Award (value bytes) else Unreadable
+
+-- a call that makes a tally or asks for matchpoints: `fresh B`, `add S`, `matchpoints S` or `merge`
+unfoldable pub tallyCallOn : List ℕ → Call
+tallyCallOn line =
     if isPrefix freshWord line then freshOn (drop 6 line)
     else if isPrefix addWord line then withScore Add (scoreOn (drop 4 line))
     else if isPrefix matchpointsWord line then withScore Matchpoints (scoreOn (drop 12 line))
     else if eqb (length line) 5 && isPrefix mergeWord line then Merge
     else Unreadable
+
+-- the call on a line: `cell S`, `award N`, or one of the others
+unfoldable pub callOn : List ℕ → Call
+callOn line =
+    if isPrefix cellWord line then withScore Cell (scoreOn (drop 5 line))
+    else if isPrefix awardWord line then awardOn (drop 6 line)
+    else tallyCallOn line

@@ -2,14 +2,16 @@
 use decimal::Number;
 use decimal::read_number;
 ghost use mathlib.Core.Path.{_≡_};
-ghost use Rattle.tree_script.specs.Calls.{isPrefix, boardIn, plusIn, minusIn, freshOn, scoreOn, withScore, callOn};
+ghost use Rattle.tree_script.specs.Calls.{isPrefix, boardIn, plusIn, minusIn, freshOn, scoreOn, withScore, awardOn, tallyCallOn, callOn};
 
-// A call that a line asks for, with its board or its score; or that no call can be read.
+// A call that a line asks for, with its board, its score or its percentage; or that no call can be read.
 pub enum Call {
     Fresh(u8),
     Add(i16),
     Merge,
     Matchpoints(i16),
+    Cell(i16),
+    Award(u32),
     Unreadable,
 }
 
@@ -112,9 +114,29 @@ fn matchpoints_on(bytes: &[u8]) -> Call
     Call::Matchpoints(s)
 }
 
-// The call on a line.
-pub fn read_call(line: &[u8]) -> Call
-    ensures { λ r. ⌜ r ≡ callOn (now (line .entry)) ⌝ }
+// A score whose cell is asked.
+fn cell_on(bytes: &[u8]) -> Call
+    ensures { λ r. ⌜ r ≡ withScore Call.Cell (scoreOn (now (bytes .entry))) ⌝ }
+{
+    let Score::Of(s) = score_on(bytes) else {
+        return Call::Unreadable;
+    };
+    Call::Cell(s)
+}
+
+// A percentage to be awarded.
+fn award_on(bytes: &[u8]) -> Call
+    ensures { λ r. ⌜ r ≡ awardOn (now (bytes .entry)) ⌝ }
+{
+    let Number::Is(n) = read_number(bytes) else {
+        return Call::Unreadable;
+    };
+    Call::Award(n)
+}
+
+// A call that makes a tally or asks for matchpoints.
+fn tally_call(line: &[u8]) -> Call
+    ensures { λ r. ⌜ r ≡ tallyCallOn (now (line .entry)) ⌝ }
 {
     if starts(line, b"fresh ") {
         return fresh_on(&line[6..]);
@@ -132,4 +154,17 @@ pub fn read_call(line: &[u8]) -> Call
         return Call::Merge;
     }
     Call::Unreadable
+}
+
+// The call on a line.
+pub fn read_call(line: &[u8]) -> Call
+    ensures { λ r. ⌜ r ≡ callOn (now (line .entry)) ⌝ }
+{
+    if starts(line, b"cell ") {
+        return cell_on(&line[5..]);
+    }
+    if starts(line, b"award ") {
+        return award_on(&line[6..]);
+    }
+    tally_call(line)
 }

@@ -7,10 +7,11 @@ use borrow.Author.Tests.{lt-ltb, le-ltb}
 use lib.Dec.{ltb}
 use lib.IntN.{ℤ}
 use Rattle.laws.specs.Choice.{if_then_else_}
+use Rattle.percentages.specs.Cells.{cellOfTally}
 use Rattle.tally.specs.Tallies.{addOf, mergeOf}
 use Rattle.tally.specs.Points.{matchpointsOf}
 use Rattle.tree_stack.specs.declared.Stack.{Stack}
-use Rattle.tree_stack.specs.Stacks.{tallyAt, stopped, landed, lacks, lowered, saidOf, addStep, mergeStep, matchpointsStep}
+use Rattle.tree_stack.specs.Stacks.{tallyAt, stopped, landed, lacks, lowered, saidOf, addStep, mergeStep, matchpointsStep, saidCell, cellStep}
 
 -- too few tallies, too many, or enough
 pub few : (s : Stack) (n : ℕ) → s .used < n → lacks s n ≡ true
@@ -51,6 +52,19 @@ module _ (s : Stack) (z : ℤ) where
       → record { stack = s; said = saidOf (matchpointsOf (tallyAt s (s .used - 1)) z) } ≡ matchpointsStep s z
   unfolding matchpointsStep
   points-said h k = rw (enough s 1 h k)
+
+  pub cell-short : s .used < 1 → stopped s ≡ cellStep s z
+  unfolding cellStep
+  cell-short h = rw (few s 1 h)
+
+  pub cell-long : 16 < s .used → stopped s ≡ cellStep s z
+  unfolding cellStep
+  cell-long h = rw (many s 1 h)
+
+  pub cell-said : 1 ≤ s .used → s .used ≤ 16
+      → record { stack = s; said = saidCell (cellOfTally (tallyAt s (s .used - 1)) z) } ≡ cellStep s z
+  unfolding cellStep
+  cell-said h k = rw (enough s 1 h k)
 
 module _ (s : Stack) where
   pub merge-short : s .used < 2 → stopped s ≡ mergeStep s

@@ -3,20 +3,23 @@ use Prim.Native.Nat.{ℕ, _+_, _-_}
 use mathlib.Core.Bool.{Bool, _||_}
 use mathlib.Core.List.{[]}
 use lib.Dec.{ltb, eqb}
+use lib.Ieee.{binary64, toBits}
 use lib.IntN.{ℤ}
 use lib.ListN.{set, getD}
 use Rattle.laws.specs.Choice.{if_then_else_}
 use Rattle.laws.specs.Law78.{Points as BothSides}
+use Rattle.laws.specs.Percentages.{played, awarded, alone, award, Cell as Entered}
 use Rattle.laws.specs.Refusals.{Answer, refused, answered}
+use Rattle.percentages.specs.Cells.{cellOfTally}
 use Rattle.tally.specs.declared.Tally.{Tally}
 use Rattle.tally.specs.declared.Tallied.{Tallied}
 use Rattle.tally.specs.Tallies.{freshOf, addOf, mergeOf}
 use Rattle.tally.specs.Points.{matchpointsOf}
 use Rattle.tree_script.specs.declared.Call.{Call}
-use Rattle.tree_script.specs.declared.Call.the-variants.{Fresh, Add, Merge, Matchpoints, Unreadable}
+use Rattle.tree_script.specs.declared.Call.the-variants.{Fresh, Add, Merge, Matchpoints, Cell, Award, Unreadable}
 use Rattle.tree_stack.specs.declared.Stack.{Stack}
 use Rattle.tree_stack.specs.declared.Said.{Said}
-use Rattle.tree_stack.specs.declared.Said.the-variants.{Done, Refused, Points, Stopped}
+use Rattle.tree_stack.specs.declared.Said.the-variants.{Done, Refused, Points, Played, Awarded, Alone, Stopped}
 use Rattle.tree_stack.specs.declared.Step.{Step}
 
 -- the tally at a place of the stack; past the places of the stack, one that has none itself
@@ -66,10 +69,29 @@ matchpointsStep s score =
     if lacks s 1 then stopped s
     else record { stack = s; said = saidOf (matchpointsOf (tallyAt s (s .used - 1)) score) }
 
+-- an answer for a cell, as it is said: its float by its 64 bits
+abbrev pub saidCell : Answer Entered → Said
+saidCell (refused n) = Refused n
+saidCell (answered (played x)) = Played (toBits binary64 x)
+saidCell (answered (awarded x)) = Awarded (toBits binary64 x)
+saidCell (answered alone) = Alone
+
+-- `cell S`: asked of the top tally
+unfoldable pub cellStep : Stack → ℤ → Step
+cellStep s score =
+    if lacks s 1 then stopped s
+    else record { stack = s; said = saidCell (cellOfTally (tallyAt s (s .used - 1)) score) }
+
+-- `award N`: asked of no tally
+abbrev pub awardStep : Stack → ℕ → Step
+awardStep s percent = record { stack = s; said = saidCell (award percent) }
+
 -- a call on a stack: its own step; a line that cannot be read ends the run
 unfoldable pub stepOf : Stack → Call → Step
 stepOf s (Fresh board) = freshStep s board
 stepOf s (Add score) = addStep s score
 stepOf s Merge = mergeStep s
 stepOf s (Matchpoints score) = matchpointsStep s score
+stepOf s (Cell score) = cellStep s score
+stepOf s (Award percent) = awardStep s percent
 stepOf s Unreadable = stopped s

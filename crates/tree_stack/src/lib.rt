@@ -1,13 +1,17 @@
 // A stack of at most 16 tallies, and the calls on it.
 use laws::ACCEPTED;
+use percentages::Cell;
+use percentages::CellAnswer;
 use tally::MatchpointAnswer;
 use tally::Tallied;
 use tally::Tally;
 use tree_script::Call;
 ghost use mathlib.Core.Path.{_≡_};
 ghost use Prim.Native.Nat.{_<_};
+ghost use Rattle.laws.specs.Refusals.{answered};
+ghost use Rattle.percentages.specs.Cells.{entered, cellAnswer, Numbered};
 ghost use Rattle.tally.specs.Points.{pointsAnswer};
-ghost use Rattle.tree_stack.specs.Stacks.{stopped, landed, saidOf, freshStep, addStep, mergeStep, matchpointsStep, stepOf};
+ghost use Rattle.tree_stack.specs.Stacks.{stopped, landed, saidOf, freshStep, addStep, mergeStep, matchpointsStep, saidCell, cellStep, awardStep, stepOf};
 
 // The first `used` of 16 places hold tallies, the top last.
 pub struct Stack {
@@ -15,11 +19,14 @@ pub struct Stack {
     pub used: usize,
 }
 
-// What a call answers: that it is done, a refusal, the matchpoints of both sides; or that the run ends there.
+// What a call answers: that it is done, a refusal, the matchpoints of both sides, a cell with the 64 bits of its float; or that the run ends there.
 pub enum Said {
     Done,
     Refused(u8),
     Points(u32, u32),
+    Played(u64),
+    Awarded(u64),
+    Alone,
     Stopped,
 }
 
@@ -134,6 +141,59 @@ fn matchpoints_step(s: Stack, score: i16) -> Step
     }
 }
 
+// A cell, as it is said.
+fn said_entered(cell: Cell) -> Said
+    requires { ⌜ Numbered (answered (entered cell)) ⌝ }
+    ensures { λ r. ⌜ r ≡ saidCell (answered (entered cell)) ⌝ }
+{
+    match cell {
+        Cell::Played(x) => Said::Played(f64::to_bits(x)),
+        Cell::Awarded(x) => Said::Awarded(f64::to_bits(x)),
+        Cell::Alone => Said::Alone,
+    }
+}
+
+// An answer for a cell, as it is said.
+fn said_cell(answer: CellAnswer) -> Said
+    requires { ⌜ Numbered (cellAnswer answer) ⌝ }
+    ensures { λ r. ⌜ r ≡ saidCell (cellAnswer answer) ⌝ }
+{
+    match answer {
+        CellAnswer::Refused(n) => Said::Refused(n),
+        CellAnswer::Is(cell) => said_entered(cell),
+    }
+}
+
+// The cell of a score in the top tally.
+fn cell_step(s: Stack, score: i16) -> Step
+    ensures { λ r. ⌜ r ≡ cellStep s score ⌝ }
+{
+    let n = s.used;
+    if n < 1 {
+        return stop(s);
+    }
+    if 16 < n {
+        return stop(s);
+    }
+    let top = s.tallies[n - 1];
+    let said = said_cell(percentages::cell_of(top, score));
+    Step {
+        stack: s,
+        said: said,
+    }
+}
+
+// An award, which no tally takes.
+fn award_step(s: Stack, percent: u32) -> Step
+    ensures { λ r. ⌜ r ≡ awardStep s percent ⌝ }
+{
+    let said = said_cell(percentages::award(percent));
+    Step {
+        stack: s,
+        said: said,
+    }
+}
+
 // A call on a stack. A line that cannot be read, and a stack that is too short or too full, end the run.
 pub fn make_call(s: Stack, call: Call) -> Step
     ensures { λ r. ⌜ r ≡ stepOf s call ⌝ }
@@ -143,6 +203,8 @@ pub fn make_call(s: Stack, call: Call) -> Step
         Call::Add(score) => add_step(s, score),
         Call::Merge => merge_step(s),
         Call::Matchpoints(score) => matchpoints_step(s, score),
+        Call::Cell(score) => cell_step(s, score),
+        Call::Award(percent) => award_step(s, percent),
         Call::Unreadable => stop(s),
     }
 }

@@ -67,6 +67,8 @@ fn short() {
     script(b"add to nothing", b"add 10\nfresh 3\n");
     script(b"merge of one", b"fresh 3\nadd 10\nmerge\nadd 20\n");
     script(b"matchpoints of nothing", b"fresh 128\nmatchpoints 10\n");
+    script(b"cell of nothing", b"cell 10\nfresh 3\n");
+    script(b"award of nothing", b"award 60\n");
 }
 
 fn main() {
@@ -80,4 +82,5 @@ fn main() {
     file(b"b_before_a");
     file(b"every_refusal");
     file(b"results_129");
+    file(b"cells");
 }

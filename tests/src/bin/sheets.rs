@@ -1,7 +1,7 @@
-//! Compares the proved program `sheet` with the independent one, on scores and on lines that are no scores.
+//! Compares the proved programs `sheet` and `cells` with the independent ones, on scores and on lines that are no scores.
 use outside::random::Random;
 use outside::run::{output_of, stop, Words};
-use outside::sheet::sheet;
+use outside::sheet::{cells, sheet};
 
 /// Lines that are no score.
 const BAD: [&str; 20] = [
@@ -14,21 +14,27 @@ fn main() {
     let mut random = Random::new(words.seed());
     let limit = words.limit(3_000);
     let program = words.text("--program").unwrap_or_else(|| stop("--program needs the path of the program sheet"));
+    let percentages = words.text("--cells").unwrap_or_else(|| stop("--cells needs the path of the program cells"));
     let (mut sheets, mut refused) = (0, 0);
     while !limit.reached(sheets) {
         let input = input(&mut random);
         let due = sheet(&input);
-        let output = output_of(program, &input);
-        if output != due.as_bytes() {
-            let (input, output) = (String::from_utf8_lossy(&input), String::from_utf8_lossy(&output));
-            stop(&format!("a difference: wrote\n{output}to be\n{due}for the input\n{input}"));
-        }
+        compare(program, &input, &due);
+        compare(percentages, &input, &cells(&input));
         refused += u64::from(due.ends_with("refused\n"));
         sheets += 1;
     }
     println!("{sheets} sheets, no difference; {refused} of them refused at a line");
     if limit.counted() && (refused < 100 || sheets - refused < 100) {
         stop("fewer than a hundred sheets with a table, or without one");
+    }
+}
+
+fn compare(program: &str, input: &[u8], due: &str) {
+    let output = output_of(program, input);
+    if output != due.as_bytes() {
+        let (input, output) = (String::from_utf8_lossy(input), String::from_utf8_lossy(&output));
+        stop(&format!("a difference: {program} wrote\n{output}to be\n{due}for the input\n{input}"));
     }
 }
 

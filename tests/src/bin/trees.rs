@@ -1,7 +1,9 @@
-//! Compares the proved program `tree` with the rules for trees in docs/RULES.md, on scripts of random trees.
+//! Compares the proved program `tree` with the rules for trees in docs/RULES.md, on scripts of random trees; and its percentages, bit by bit, with one
+//! division for every number of results.
 use outside::random::Random;
 use outside::run::{output_of, stop, Words};
 use outside::scripts::Script;
+use outside::tally::MOST_RESULTS;
 
 /// How often each refusal has to occur.
 const LEAST: u64 = 100;
@@ -14,6 +16,7 @@ fn main() {
     let mut random = Random::new(words.seed());
     let limit = words.limit(20_000);
     let program = words.text("--program").unwrap_or_else(|| stop("--program needs the path of the program tree"));
+    (1..=MOST_RESULTS).for_each(|results| compare(program, &Script::of_cells(&mut random, results)));
     let (mut trees, mut runs, mut refusals) = (0, 0u64, [0; 22]);
     while !limit.reached(trees) {
         let (script, count) = match runs % 5 {

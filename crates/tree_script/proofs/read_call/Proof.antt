@@ -1,10 +1,9 @@
 -- `tree_script::read_call` meets its contract. Assumes nothing.
 use mathlib.Core.Path.{sym, ap, _∙_}
-use mathlib.Core.List.{[], _∷_}
 use borrow.Author.Needs.{needs}
-use Rattle.tree_script.specs.declared.Call.the-variants.{Add, Matchpoints}
-use Rattle.tree_script.specs.Calls.{freshOn, scoreOn, withScore, freshWord, addWord, matchpointsWord}
-use Rattle.tree_script.proofs.Lines.{prefix-length, rest-is, to-fresh, to-add, to-matchpoints, other-length, to-merge, to-nothing}
+use Rattle.tree_script.specs.declared.Call.the-variants.{Cell}
+use Rattle.tree_script.specs.Calls.{scoreOn, withScore, awardOn, callOn, cellWord, awardWord}
+use Rattle.tree_script.proofs.Lines.{prefix-length, rest-is}
 use Rattle.tree_script.proofs.read_call.Statement.{statement}
 use Rattle.tree_script.proofs.read_call.Tie as tie
 
@@ -14,22 +13,24 @@ slice-aggregate-starts c = search needs
 starts-requires : tie.Need-starts-requires
 starts-requires c κs = search needs
 
-sub-fresh-on : tie.Need-sub-fresh-on
-sub-fresh-on c = prefix-length freshWord _ (sym (c .before .starts .ensures) ∙ c .if1 .taken)
+sub-cell-on : tie.Need-sub-cell-on
+sub-cell-on c = prefix-length cellWord _ (sym (c .before .starts .ensures) ∙ c .if1 .taken)
 
-part-fresh-on-start : tie.Need-part-fresh-on-start
-part-fresh-on-start c = prefix-length freshWord _ (sym (c .before .starts .ensures) ∙ c .if1 .taken)
+part-cell-on-start : tie.Need-part-cell-on-start
+part-cell-on-start c = prefix-length cellWord _ (sym (c .before .starts .ensures) ∙ c .if1 .taken)
 
-part-fresh-on-end : tie.Need-part-fresh-on-end
-part-fresh-on-end c = search needs
+part-cell-on-end : tie.Need-part-cell-on-end
+part-cell-on-end c = search needs
 
-fresh-on-requires : tie.Need-fresh-on-requires
-fresh-on-requires c κs = search needs
+cell-on-requires : tie.Need-cell-on-requires
+cell-on-requires c κs = search needs
 
 returns : tie.Need-returns
+unfolding callOn
 returns c =
     let s = c .before .before .before .before .before .before .args .line .now in
-    c .fresh-on .ensures ∙ ap freshOn (rest-is 6 s) ∙ to-fresh s (sym (c .before .before .before .starts .ensures) ∙ c .before .before .if1 .taken)
+    c .cell-on .ensures ∙ ap (λ (l : _). withScore Cell (scoreOn l)) (rest-is 5 s)
+    ∙ rw (sym (c .before .before .before .starts .ensures) ∙ c .before .before .if1 .taken)
 
 slice-aggregate-starts-2 : tie.Need-slice-aggregate-starts-2
 slice-aggregate-starts-2 c = search needs
@@ -37,82 +38,33 @@ slice-aggregate-starts-2 c = search needs
 starts-requires-2 : tie.Need-starts-requires-2
 starts-requires-2 c κs = search needs
 
-sub-add-on : tie.Need-sub-add-on
-sub-add-on c = prefix-length addWord _ (sym (c .before .starts2 .ensures) ∙ c .if2 .taken)
+sub-award-on : tie.Need-sub-award-on
+sub-award-on c = prefix-length awardWord _ (sym (c .before .starts2 .ensures) ∙ c .if2 .taken)
 
-part-add-on-start : tie.Need-part-add-on-start
-part-add-on-start c = prefix-length addWord _ (sym (c .before .starts2 .ensures) ∙ c .if2 .taken)
+part-award-on-start : tie.Need-part-award-on-start
+part-award-on-start c = prefix-length awardWord _ (sym (c .before .starts2 .ensures) ∙ c .if2 .taken)
 
-part-add-on-end : tie.Need-part-add-on-end
-part-add-on-end c = search needs
+part-award-on-end : tie.Need-part-award-on-end
+part-award-on-end c = search needs
 
-add-on-requires : tie.Need-add-on-requires
-add-on-requires c κs = search needs
+award-on-requires : tie.Need-award-on-requires
+award-on-requires c κs = search needs
 
 returns-2 : tie.Need-returns-2
+unfolding callOn
 returns-2 c =
     let s = c .before .before .before .before .before .before .before .before .before .args .line .now in
-    c .add-on .ensures ∙ ap (λ (l : _). withScore Add (scoreOn l)) (rest-is 4 s) ∙ to-add s
-    (sym (c .before .before .before .before .before .before .starts .ensures) ∙ c .before .before .before .before .before .if1 .left)
-    (sym (c .before .before .before .starts2 .ensures) ∙ c .before .before .if2 .taken)
+    let no-cell = sym (c .before .before .before .before .before .before .starts .ensures) ∙ c .before .before .before .before .before .if1 .left in
+    c .award-on .ensures ∙ ap awardOn (rest-is 6 s) ∙ rw (no-cell, sym (c .before .before .before .starts2 .ensures) ∙ c .before .before .if2 .taken)
 
-slice-aggregate-starts-3 : tie.Need-slice-aggregate-starts-3
-slice-aggregate-starts-3 c = search needs
-
-starts-requires-3 : tie.Need-starts-requires-3
-starts-requires-3 c κs = search needs
-
-sub-matchpoints-on : tie.Need-sub-matchpoints-on
-sub-matchpoints-on c = prefix-length matchpointsWord _ (sym (c .before .starts3 .ensures) ∙ c .if3 .taken)
-
-part-matchpoints-on-start : tie.Need-part-matchpoints-on-start
-part-matchpoints-on-start c = prefix-length matchpointsWord _ (sym (c .before .starts3 .ensures) ∙ c .if3 .taken)
-
-part-matchpoints-on-end : tie.Need-part-matchpoints-on-end
-part-matchpoints-on-end c = search needs
-
-matchpoints-on-requires : tie.Need-matchpoints-on-requires
-matchpoints-on-requires c κs = search needs
+tally-call-requires : tie.Need-tally-call-requires
+tally-call-requires c κs = search needs
 
 returns-3 : tie.Need-returns-3
+unfolding callOn
 returns-3 c =
-    let s = c .before .before .before .before .before .before .before .before .before .before .before .before .args .line .now in
-    c .matchpoints-on .ensures ∙ ap (λ (l : _). withScore Matchpoints (scoreOn l)) (rest-is 12 s)
-    ∙ to-matchpoints s (sym (c .before .before .before .before .before .before .before .before .before .starts .ensures)
-    ∙ c .before .before .before .before .before .before .before .before .if1 .left)
-    (sym (c .before .before .before .before .before .before .starts2 .ensures) ∙ c .before .before .before .before .before .if2 .left)
-    (sym (c .before .before .before .starts3 .ensures) ∙ c .before .before .if3 .taken)
-
-returns-4 : tie.Need-returns-4
-returns-4 c =
-    other-length _ (sym (c .before .before .before .before .before .before .before .before .starts .ensures)
-    ∙ c .before .before .before .before .before .before .before .if1 .left)
-    (sym (c .before .before .before .before .before .starts2 .ensures) ∙ c .before .before .before .before .if2 .left)
-    (sym (c .before .before .starts3 .ensures) ∙ c .before .if3 .left) (c .if4 .taken)
-
-slice-aggregate-starts-4 : tie.Need-slice-aggregate-starts-4
-slice-aggregate-starts-4 c = search needs
-
-starts-requires-4 : tie.Need-starts-requires-4
-starts-requires-4 c κs = search needs
-
-returns-5 : tie.Need-returns-5
-returns-5 c =
-    to-merge _ (sym (c .before .before .before .before .before .before .before .before .before .before .before .starts .ensures)
-    ∙ c .before .before .before .before .before .before .before .before .before .before .if1 .left)
-    (sym (c .before .before .before .before .before .before .before .before .starts2 .ensures)
-    ∙ c .before .before .before .before .before .before .before .if2 .left)
-    (sym (c .before .before .before .before .before .starts3 .ensures) ∙ c .before .before .before .before .if3 .left) (c .before .before .before .if4 .left)
-    (sym (c .before .starts4 .ensures) ∙ c .if5 .taken)
-
-returns-6 : tie.Need-returns-6
-returns-6 c =
-    to-nothing _ (sym (c .before .before .before .before .before .before .before .before .before .before .before .starts .ensures)
-    ∙ c .before .before .before .before .before .before .before .before .before .before .if1 .left)
-    (sym (c .before .before .before .before .before .before .before .before .starts2 .ensures)
-    ∙ c .before .before .before .before .before .before .before .if2 .left)
-    (sym (c .before .before .before .before .before .starts3 .ensures) ∙ c .before .before .before .before .if3 .left) (c .before .before .before .if4 .left)
-    (sym (c .before .starts4 .ensures) ∙ c .if5 .left)
+    let no-cell = sym (c .before .before .before .before .before .starts .ensures) ∙ c .before .before .before .before .if1 .left in
+    c .tally-call .ensures ∙ rw (no-cell, sym (c .before .before .starts2 .ensures) ∙ c .before .if2 .left)
 
 pub read-call-spec : {M : Type 1} → statement M
 read-call-spec =
@@ -120,27 +72,17 @@ read-call-spec =
     (tie.spec
     slice-aggregate-starts
     starts-requires
-    sub-fresh-on
-    part-fresh-on-start
-    part-fresh-on-end
-    fresh-on-requires
+    sub-cell-on
+    part-cell-on-start
+    part-cell-on-end
+    cell-on-requires
     returns
     slice-aggregate-starts-2
     starts-requires-2
-    sub-add-on
-    part-add-on-start
-    part-add-on-end
-    add-on-requires
+    sub-award-on
+    part-award-on-start
+    part-award-on-end
+    award-on-requires
     returns-2
-    slice-aggregate-starts-3
-    starts-requires-3
-    sub-matchpoints-on
-    part-matchpoints-on-start
-    part-matchpoints-on-end
-    matchpoints-on-requires
-    returns-3
-    returns-4
-    slice-aggregate-starts-4
-    starts-requires-4
-    returns-5
-    returns-6)
+    tally-call-requires
+    returns-3)

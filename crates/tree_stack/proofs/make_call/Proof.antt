@@ -32,6 +32,18 @@ enum-known-call-3 c = search needs
 matchpoints-step-requires : tie.Need-matchpoints-step-requires
 matchpoints-step-requires c κs = search needs
 
+enum-known-call-4 : tie.Need-enum-known-call-4
+enum-known-call-4 c = search needs
+
+cell-step-requires : tie.Need-cell-step-requires
+cell-step-requires c κs = search needs
+
+enum-known-call-5 : tie.Need-enum-known-call-5
+enum-known-call-5 c = search needs
+
+award-step-requires : tie.Need-award-step-requires
+award-step-requires c κs = search needs
+
 enum-told-2 : tie.Need-enum-told-2
 enum-told-2 c = search needs
 
@@ -60,7 +72,17 @@ returns-4 c =
 
 returns-5 : tie.Need-returns-5
 unfolding stepOf
-returns-5 c = c .stop .ensures ∙ rw (c .before .enum-told2 .given .1)
+returns-5 c =
+    let f : SFits w16 (c .before .before .call4 .given .0 .0) = search needs in
+    c .cell-step .ensures ∙ rw (c .before .before .call4 .given .1, toZ-ofZ f)
+
+returns-6 : tie.Need-returns-6
+unfolding stepOf
+returns-6 c = c .award-step .ensures ∙ rw (c .before .before .call5 .given .1)
+
+returns-7 : tie.Need-returns-7
+unfolding stepOf
+returns-7 c = c .stop .ensures ∙ rw (c .before .enum-told2 .given .1)
 
 pub make-call-spec : {M : Type 1} → statement M
 make-call-spec =
@@ -74,10 +96,16 @@ make-call-spec =
     merge-step-requires
     enum-known-call-3
     matchpoints-step-requires
+    enum-known-call-4
+    cell-step-requires
+    enum-known-call-5
+    award-step-requires
     enum-told-2
     stop-requires
     returns
     returns-2
     returns-3
     returns-4
-    returns-5)
+    returns-5
+    returns-6
+    returns-7)

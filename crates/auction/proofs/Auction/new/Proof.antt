@@ -1,11 +1,11 @@
 -- `Auction::new` meets its contract. Assumes nothing.
 use mathlib.Core.Path.{refl}
-use Rattle.auction.specs.Position.{opening, positionOf}
+use Rattle.auction.specs.Position.{beforeCalls, positionOf}
 use Rattle.auction.proofs.Auction.new.Statement.{statement}
 use Rattle.auction.proofs.Auction.new.Tie as tie
 
 returns : tie.Need-returns
-unfolding opening positionOf
+unfolding beforeCalls positionOf
 returns c = refl
 
 pub new-spec : {M : Type 1} → statement M

@@ -39,7 +39,8 @@ returns : tie.Need-returns
 returns c =
     let r = c .before .before .before in
     let a = r .before .before .args in
-    c .no-cards .ensures ∙ cards-short _ _ _ _ _ _ (short-stops (a .bytes .now) (a .at) 6 (lit≤ tt) (sym (r .read .ensures) ∙ ap fieldAnswer (c .before .enum-told .given .1)))
+    c .no-cards .ensures ∙ cards-short _ _ _ _ _ _
+    (short-stops (a .bytes .now) (a .at) 6 (lit≤ tt) (sym (r .read .ensures) ∙ ap fieldAnswer (c .before .enum-told .given .1)))
 
 narrow-requires : tie.Need-narrow-requires
 narrow-requires c κs = omega (arith, few c)

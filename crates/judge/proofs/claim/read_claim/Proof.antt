@@ -34,7 +34,8 @@ returns : tie.Need-returns
 returns c =
     let r = c .before .before .before in
     let a = r .before .before .args in
-    c .no-claim .ensures ∙ mark-short _ _ _ _ (short-stops (a .bytes .now) (a .at) 1 (lit≤ tt) (sym (r .read .ensures) ∙ ap fieldAnswer (c .before .enum-told .given .1)))
+    c .no-claim .ensures ∙ mark-short _ _ _ _
+    (short-stops (a .bytes .now) (a .at) 1 (lit≤ tt) (sym (r .read .ensures) ∙ ap fieldAnswer (c .before .enum-told .given .1)))
 
 add-read-no-claim : tie.Need-add-read-no-claim
 add-read-no-claim c = search needs

@@ -23,7 +23,8 @@ may r = sym (r .before .before .may-claim .ensures) ∙ not-false _ (r .before .
 
 tricks-read : (c : tie.After-known-told)
     → (let a = start-of (c .before .before .before) .args in read 4 (a .bytes .now) (a .at) ≡ found (c .before .tricks .given .0 .0) (a .at + 4))
-tricks-read c = let r = c .before .before .before in value-reads _ (start-of r .args .at) 4 (sym (r .read .ensures) ∙ ap fieldAnswer (c .before .tricks .given .1))
+tricks-read c = let r = c .before .before .before in
+    value-reads _ (start-of r .args .at) 4 (sym (r .read .ensures) ∙ ap fieldAnswer (c .before .tricks .given .1))
 
 may-claim-requires : tie.Need-may-claim-requires
 may-claim-requires c κs = search needs

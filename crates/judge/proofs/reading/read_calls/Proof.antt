@@ -40,7 +40,8 @@ returns : tie.Need-returns
 returns c =
     let r = c .before .before .before in
     let a = r .before .before .args in
-    c .no-calls .ensures ∙ calls-short _ _ _ (short-stops (a .bytes .now) (a .at) 9 (lit≤ tt) (sym (r .read .ensures) ∙ ap fieldAnswer (c .before .enum-told .given .1)))
+    c .no-calls .ensures ∙ calls-short _ _ _
+    (short-stops (a .bytes .now) (a .at) 9 (lit≤ tt) (sym (r .read .ensures) ∙ ap fieldAnswer (c .before .enum-told .given .1)))
 
 add-read-each-call : tie.Need-add-read-each-call
 add-read-each-call c = search needs

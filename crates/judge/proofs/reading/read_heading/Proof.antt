@@ -20,7 +20,8 @@ board-reads : (c : tie.After-known-told) → read 7 (bytes-of c) 0 ≡ found (c 
 board-reads c = value-reads (bytes-of c) 0 7 (sym (c .before .before .before .read .ensures) ∙ ap fieldAnswer (c .before .board .given .1))
 
 table-reads : (c : tie.After-known-told2) → read 9 (bytes-of (c .before .before .before .before)) 7 ≡ found (c .before .table .given .0 .0) 16
-table-reads c = value-reads (bytes-of (c .before .before .before .before)) 7 9 (sym (c .before .before .before .read2 .ensures) ∙ ap fieldAnswer (c .before .table .given .1))
+table-reads c = value-reads (bytes-of (c .before .before .before .before)) 7 9
+    (sym (c .before .before .before .read2 .ensures) ∙ ap fieldAnswer (c .before .table .given .1))
 
 read-requires : tie.Need-read-requires
 read-requires c κs = search needs
@@ -57,7 +58,8 @@ returns-2 c =
     let r = c .before .before .before in
     let v = r .before in
     let b = bytes-of v in
-    c .no-heading2 .ensures ∙ table-short b _ (board-reads v) (short-stops b 7 9 (lit≤ tt) (sym (r .read2 .ensures) ∙ ap fieldAnswer (c .before .enum-told2 .given .1)))
+    c .no-heading2 .ensures ∙ table-short b _ (board-reads v)
+    (short-stops b 7 9 (lit≤ tt) (sym (r .read2 .ensures) ∙ ap fieldAnswer (c .before .enum-told2 .given .1)))
 
 no-heading-requires-3 : tie.Need-no-heading-requires-3
 no-heading-requires-3 c κs = search needs

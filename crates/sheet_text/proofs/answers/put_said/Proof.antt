@@ -2,8 +2,8 @@
 use native.Mathlib.Omega.{arith}
 use Prim.Native.Nat.{_<_, _^_}
 use mathlib.Core.Path.{_≡_}
-use Rattle.sheet_text.specs.Answers.{saidText}
-use Rattle.sheet_text.proofs.Answering.{refused-short, points-short, line-short}
+use Rattle.sheet_text.specs.Answers.{saidText, playedWord, awardedWord}
+use Rattle.sheet_text.proofs.Answering.{refused-short, points-short, line-short, bits-length}
 use borrow.Author.Needs.{needs}
 use Rattle.sheet_text.proofs.answers.put_said.Statement.{statement}
 use Rattle.sheet_text.proofs.answers.put_said.Tie as tie
@@ -37,8 +37,35 @@ put-points-requires c κs =
     let m : ew < 2 ^ 32 = search needs in
     omega (arith, points-short ns ew k m, c .before .before .before .before .before .pre)
 
+enum-known-said-3 : tie.Need-enum-known-said-3
+enum-known-said-3 c = search needs
+
+slice-aggregate-put-bits : tie.Need-slice-aggregate-put-bits
+slice-aggregate-put-bits c = search needs
+
+put-bits-requires : tie.Need-put-bits-requires
+put-bits-requires c κs = omega arith
+
+enum-known-said-4 : tie.Need-enum-known-said-4
+enum-known-said-4 c = search needs
+
+slice-aggregate-put-bits-2 : tie.Need-slice-aggregate-put-bits-2
+slice-aggregate-put-bits-2 c = search needs
+
+put-bits-requires-2 : tie.Need-put-bits-requires-2
+put-bits-requires-2 c κs = omega arith
+
 enum-told-2 : tie.Need-enum-told-2
 enum-told-2 c = search needs
+
+slice-aggregate-put-bytes-2 : tie.Need-slice-aggregate-put-bytes-2
+slice-aggregate-put-bytes-2 c = search needs
+
+put-bytes-requires-2 : tie.Need-put-bytes-requires-2
+put-bytes-requires-2 c κs = omega arith
+
+enum-told-3 : tie.Need-enum-told-3
+enum-told-3 c = search needs
 
 put-refusal-requires : tie.Need-put-refusal-requires
 put-refusal-requires c κs =
@@ -80,8 +107,33 @@ same-length-4 c = search needs
 returns-4 : tie.Need-returns-4
 unfolding saidText
 returns-4 c =
+    let k = c .before .before .before .before .before .before .said3 .given in
+    rw (k .1) (c .before .before .put-bits .ensures, omega (arith, bits-length playedWord (k .0 .0)))
+
+same-length-5 : tie.Need-same-length-5
+same-length-5 c = search needs
+
+returns-5 : tie.Need-returns-5
+unfolding saidText
+returns-5 c =
+    let k = c .before .before .before .before .before .before .said4 .given in
+    rw (k .1) (c .before .before .put-bits2 .ensures, omega (arith, bits-length awardedWord (k .0 .0)))
+
+same-length-6 : tie.Need-same-length-6
+same-length-6 c = search needs
+
+returns-6 : tie.Need-returns-6
+unfolding saidText
+returns-6 c = rw (c .before .before .before .before .before .enum-told2 .given .1) (c .before .before .put-bytes2 .ensures, omega arith)
+
+same-length-7 : tie.Need-same-length-7
+same-length-7 c = search needs
+
+returns-7 : tie.Need-returns-7
+unfolding saidText
+returns-7 c =
     let st = c .before .before .before .before .before .before .before in
-    rw (c .before .before .before .before .enum-told2 .given .1)
+    rw (c .before .before .before .before .enum-told3 .given .1)
     (c .before .before .put-refusal .ensures, line-short (st .args .line) (omega (arith, st .fits .line .fits)))
 
 pub put-said-spec : {M : Type 1} → statement M
@@ -95,7 +147,16 @@ put-said-spec =
     put-refused-requires
     enum-known-said-2
     put-points-requires
+    enum-known-said-3
+    slice-aggregate-put-bits
+    put-bits-requires
+    enum-known-said-4
+    slice-aggregate-put-bits-2
+    put-bits-requires-2
     enum-told-2
+    slice-aggregate-put-bytes-2
+    put-bytes-requires-2
+    enum-told-3
     put-refusal-requires
     same-length
     returns
@@ -104,4 +165,10 @@ put-said-spec =
     same-length-3
     returns-3
     same-length-4
-    returns-4)
+    returns-4
+    same-length-5
+    returns-5
+    same-length-6
+    returns-6
+    same-length-7
+    returns-7)

@@ -3,7 +3,7 @@ use native.Mathlib.Omega.{arith}
 use mathlib.Core.Path.{_≡_, sym, ap, _∙_}
 use borrow.Author.Needs.{needs}
 use lib.ListN.{length}
-use Rattle.sheet_text.proofs.Enough.{refusal-short, enough}
+use Rattle.sheet_text.proofs.Enough.{refusal-short, least-room, enough}
 use Rattle.sheet_text.proofs.Results.{sheet-refused, refused-few, well, sheet-table}
 use Rattle.sheet_text.proofs.whole.put_sheet.Statement.{statement}
 use Rattle.sheet_text.proofs.whole.put_sheet.Tie as tie
@@ -15,31 +15,31 @@ cast-put-refusal : tie.Need-cast-put-refusal
 cast-put-refusal c = search needs
 
 put-refusal-requires : tie.Need-put-refusal-requires
-put-refusal-requires c κs = omega (arith, refusal-short _ (refused-few _ _ (c .before .before .results-of .ensures)))
+put-refusal-requires c κs =
+    let st = c .before .before .before .before .before in
+    omega (arith, refusal-short _ (refused-few _ _ (c .before .before .results-of .ensures)), least-room (st .args .columns), st .pre)
 
 same-length : tie.Need-same-length
 same-length c = search needs
 
 returns : tie.Need-returns
 returns c =
-    rw (sheet-refused _ _ (c .before .before .before .before .before .results-of .ensures) (c .before .before .before .before .if1 .taken))
+    rw (sheet-refused _ _ (c .before .before .before .before .before .results-of .ensures) _ (c .before .before .before .before .if1 .taken))
     (c .before .before .put-refusal .ensures)
 
 put-table-requires : tie.Need-put-table-requires
 put-table-requires c κs =
     let f = c .before .before .before .results-of .ensures in
-    let h = c .before .before .if1 .left in (
-      rw (← sheet-table _ _ f h)
-          (omega (arith, enough (c .before .before .before .before .before .before .args .bytes .now), c .before .before .before .before .before .before .pre)),
-      well _ _ f h,
-    )
+    let h = c .before .before .if1 .left in
+    let st = c .before .before .before .before .before .before in
+    (rw (← sheet-table _ _ f h (st .args .columns)) (omega (arith, enough (st .args .columns) (st .args .bytes .now), st .pre)), well _ _ f h)
 
 same-length-2 : tie.Need-same-length-2
 same-length-2 c = search needs
 
 returns-2 : tie.Need-returns-2
 returns-2 c =
-    rw (sheet-table _ _ (c .before .before .before .before .before .before .results-of .ensures) (c .before .before .before .before .before .if1 .left))
+    rw (sheet-table _ _ (c .before .before .before .before .before .before .results-of .ensures) (c .before .before .before .before .before .if1 .left) _)
     (c .before .before .put-table .ensures)
 
 pub put-sheet-spec : {M : Type 1} → statement M

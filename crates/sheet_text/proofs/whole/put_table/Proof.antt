@@ -4,47 +4,46 @@ use native.Mathlib.Omega.{arith}
 use mathlib.Core.Path.{_≡_, refl, sym, ap, _∙_}
 use borrow.Author.Needs.{needs}
 use lib.ListN.{length, length-append}
-use Rattle.laws.specs.Sheet.{header, table}
+use Rattle.sheet_text.specs.Columns.{headerAs}
 use Rattle.sheet_text.proofs.Puts.{then, put-length}
-use Rattle.sheet_text.proofs.Rows.{Printed, rowsFrom, header-room, table-rows, begins, ends, full, as-held, not-refused, both, row-room, goes}
+use Rattle.sheet_text.proofs.Rows.{Printed, rowsFrom, table-rows, begins, ends, full, as-held, not-refused, both, few, row-room, goes}
 use Rattle.sheet_text.proofs.whole.put_table.Statement.{statement}
 use Rattle.sheet_text.proofs.whole.put_table.Tie as tie
 
 abbrev Inv-loop : tie.InvT-loop
-Inv-loop out₀ t at₀ i₀ out at i = Printed t out₀ at₀ out at i
+Inv-loop out₀ columns t at₀ i₀ out at i = Printed columns t out₀ at₀ out at i
 
 abbrev μ-loop : tie.MeasureT-loop
-μ-loop out₀ t at₀ i₀ out at i = 128 - i
+μ-loop out₀ columns t at₀ i₀ out at i = 128 - i
 
-slice-aggregate-put-bytes : tie.Need-slice-aggregate-put-bytes Inv-loop μ-loop
-slice-aggregate-put-bytes c = refl
-
-put-bytes-requires : tie.Need-put-bytes-requires Inv-loop μ-loop
-put-bytes-requires c κs =
-    let t = c .before .before .before .args .t2 in
-    let h = rw (table-rows t (c .before .before .before .pre .1), length-append header (rowsFrom t 0)) at (c .before .before .before .pre .0) in
-    header-room _ _ h
+put-header-requires : tie.Need-put-header-requires Inv-loop μ-loop
+put-header-requires c κs =
+    let st = c .before .before in
+    let t = st .args .t2 in
+    let k = st .args .columns in
+    let h = rw (table-rows k t (st .pre .1), length-append (headerAs k) (rowsFrom k t 0)) at (st .pre .0) in
+    omega arith
 
 loop-holds : tie.Need-loop-holds Inv-loop μ-loop
 loop-holds c =
-    let t = c .before .before .before .before .before .before .args .t2 in
+    let st = c .before .before .before .before .before in
+    let p = c .before .before .put-header .ensures in
+    let t = st .args .t2 in
     let ss : length (t .scores) ≡ 128 = search needs in
     let cs : length (t .counts) ≡ 128 = search needs in
-    begins t _ _ ss cs (c .before .before .before .before .before .before .pre .1) (c .before .before .put-bytes .ensures .place)
-    (rw (put-length (c .before .before .put-bytes .ensures)) (c .before .before .before .before .before .before .pre .0))
+    begins (st .args .columns) t _ _ ss cs (st .pre .1) (p .place) (rw (put-length p) (st .pre .0))
 
 element-copy-out-count : tie.Need-element-copy-out-count Inv-loop μ-loop
 element-copy-out-count c = omega arith
 
 same-length : tie.Need-same-length Inv-loop μ-loop
-same-length c = put-length (c .before .before .before .loop .inv .put) ∙ put-length (c .before .before .before .before .before .before .put-bytes .ensures)
+same-length c = put-length (c .before .before .before .loop .inv .put) ∙ put-length (c .before .before .before .before .before .before .put-header .ensures)
 
 returns : tie.Need-returns Inv-loop μ-loop
-unfolding header
 returns c =
-    rw (table-rows _ (c .before .before .before .before .before .before .before .before .before .before .pre .1))
-    (then (c .before .before .before .before .before .before .put-bytes .ensures)
-    (ends _ _ _ _ _ _ (c .before .before .before .loop .inv) (c .before .before .loop-test .taken) (c .if1 .taken)))
+    rw (table-rows _ _ (c .before .before .before .before .before .before .before .before .before .pre .1))
+    (then (c .before .before .before .before .before .before .put-header .ensures)
+    (ends _ _ _ _ _ _ _ (c .before .before .before .loop .inv) (c .before .before .loop-test .taken) (c .if1 .taken)))
 
 mul-score : tie.Need-mul-score Inv-loop μ-loop
 mul-score c = omega arith
@@ -64,12 +63,12 @@ enum-told c = search needs
 same-length-2 : tie.Need-same-length-2 Inv-loop μ-loop
 same-length-2 c =
     put-length (c .before .before .before .before .before .before .before .loop .inv .put) ∙ put-length
-    (c .before .before .before .before .before .before .before .before .before .before .put-bytes .ensures)
+    (c .before .before .before .before .before .before .before .before .before .before .put-header .ensures)
 
 returns-2 : tie.Need-returns-2 Inv-loop μ-loop
 returns-2 c =
     let l = c .before .before .before .before .before .before .before .loop in
-    absurd (not-refused _ _ _ _ _ _ (l .inv) (c .before .before .before .before .before .before .loop-test .taken)
+    absurd (not-refused _ _ _ _ _ _ _ (l .inv) (c .before .before .before .before .before .before .loop-test .taken)
     (c .before .before .before .before .if1 .left) _ (c .before .before .matchpoints .ensures) _ (c .enum-told .given .1))
 
 cast-put-row : tie.Need-cast-put-row Inv-loop μ-loop
@@ -80,9 +79,8 @@ put-row-requires c κs =
     let l = c .before .before .before .before .before .before .before .before .before .loop in
     let h = c .before .before .before .before .before .before .before .before .loop-test .taken in
     let u = c .before .before .before .before .before .before .if1 .left in
-    let p = both _ _ _ _ _ _ (l .inv) h u _ (c .before .before .before .before .matchpoints .ensures) _ _ (c .before .before .points .given .1) in
-    rw (as-held _ _ _ _ _ _ (l .inv) h u)
-    (row-room _ _ _ _ _ _ (l .inv) h u _ _ (p .0) (p .1))
+    let p = both _ _ _ _ _ _ _ (l .inv) h u _ (c .before .before .before .before .matchpoints .ensures) _ _ (c .before .before .points .given .1) in
+    (rw (as-held _ _ _ _ _ _ _ (l .inv) h u) (row-room _ _ _ _ _ _ _ (l .inv) h u _ _ (p .0) (p .1)), few _ _ _ _ _ _ _ (l .inv) h u _ _ (p .0) (p .1))
 
 add-i : tie.Need-add-i Inv-loop μ-loop
 add-i c = omega arith
@@ -96,18 +94,17 @@ loop-again c =
     let h = c .before .before .before .before .before .before .before .before .before .before .before .loop-test .taken in
     let u = c .before .before .before .before .before .before .before .before .before .if1 .left in
     let p =
-    both _ _ _ _ _ _ (l .inv) h u _ (c .before .before .before .before .before .before .before .matchpoints .ensures) _ _
+    both _ _ _ _ _ _ _ (l .inv) h u _ (c .before .before .before .before .before .before .before .matchpoints .ensures) _ _
     (c .before .before .before .before .before .points .given .1) in
-    goes _ _ _ _ _ _ (l .inv) h u _ _ (p .0) (p .1) _ _ (rw (as-held _ _ _ _ _ _ (l .inv) h u) at (c .before .before .put-row .ensures))
+    goes _ _ _ _ _ _ _ (l .inv) h u _ _ (p .0) (p .1) _ _ (rw (as-held _ _ _ _ _ _ _ (l .inv) h u) at (c .before .before .put-row .ensures))
 
 same-length-3 : tie.Need-same-length-3 Inv-loop μ-loop
-same-length-3 c = put-length (c .before .loop .inv .put) ∙ put-length (c .before .before .before .before .put-bytes .ensures)
+same-length-3 c = put-length (c .before .loop .inv .put) ∙ put-length (c .before .before .before .before .put-header .ensures)
 
 returns-3 : tie.Need-returns-3 Inv-loop μ-loop
-unfolding header
 returns-3 c =
-    rw (table-rows _ (c .before .before .before .before .before .before .before .before .pre .1))
-    (then (c .before .before .before .before .put-bytes .ensures) (full _ _ _ _ _ _ (c .before .loop .inv) (c .loop-test .left)))
+    rw (table-rows _ _ (c .before .before .before .before .before .before .before .pre .1))
+    (then (c .before .before .before .before .put-header .ensures) (full _ _ _ _ _ _ _ (c .before .loop .inv) (c .loop-test .left)))
 
 pub put-table-spec : {M : Type 1} → statement M
 put-table-spec =
@@ -115,8 +112,7 @@ put-table-spec =
     (tie.spec
     Inv-loop
     μ-loop
-    slice-aggregate-put-bytes
-    put-bytes-requires
+    put-header-requires
     loop-holds
     element-copy-out-count
     same-length

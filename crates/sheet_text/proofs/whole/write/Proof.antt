@@ -1,4 +1,5 @@
 -- `sheet_text::whole::write` meets its contract. Assumes nothing.
+use Rattle.sheet_text.specs.declared.columns.Columns.the-variants.{Matchpoints}
 use Rattle.sheet_text.proofs.Puts.{local-length, taken-length, taken}
 use Rattle.sheet_text.proofs.Enough.{enough}
 use borrow.Author.Needs.{needs}
@@ -12,10 +13,10 @@ put-sheet-requires : tie.Need-put-sheet-requires
 put-sheet-requires c κs = search needs
 
 array-share-prefix-text : tie.Need-array-share-prefix-text
-array-share-prefix-text c = local-length _ _ _ _ (c .before .put-sheet .ensures) (enough _)
+array-share-prefix-text c = local-length _ _ _ _ (c .before .put-sheet .ensures) (enough Matchpoints _)
 
 slice-aggregate-lend : tie.Need-slice-aggregate-lend
-slice-aggregate-lend c = taken-length _ _ _ _ (c .before .before .put-sheet .ensures) (enough _)
+slice-aggregate-lend c = taken-length _ _ _ _ (c .before .before .put-sheet .ensures) (enough Matchpoints _)
 
 lend-requires : tie.Need-lend-requires
 lend-requires c κs = search needs
@@ -24,7 +25,8 @@ same-length : tie.Need-same-length
 same-length c = search needs
 
 returns : tie.Need-returns
-returns c = rw (← taken _ _ _ _ (c .before .before .before .before .before .before .put-sheet .ensures) (enough _)) (c .before .before .lend .ensures)
+returns c =
+    rw (← taken _ _ _ _ (c .before .before .before .before .before .before .put-sheet .ensures) (enough Matchpoints _)) (c .before .before .lend .ensures)
 
 pub write-spec : {M : Type 1} → statement M
 write-spec =

@@ -1,0 +1,60 @@
+-- `percentages::cell_of` meets its contract, by what the call for the matchpoints answers. Assumes nothing.
+use Prim.Native.Nat.{_+_, _≤_}
+use native.Mathlib.Omega.{arith}
+use mathlib.Core.Path.{_≡_, sym, ap, _∙_, subst}
+use borrow.Author.Needs.{needs}
+use mir.Facts.{toZ-ofZ}
+use Rattle.tally.specs.Points.{pointsAnswer, matchpointsOf}
+use Rattle.percentages.proofs.Told.{byPoints, by-points, Few, few}
+use Rattle.percentages.proofs.cell_of.Statement.{statement}
+use Rattle.percentages.proofs.cell_of.Tie as tie
+
+matchpoints-requires : tie.Need-matchpoints-requires
+matchpoints-requires c κs = search needs
+
+enum-known-answer : tie.Need-enum-known-answer
+enum-known-answer c = search needs
+
+enum-known-answer-2 : tie.Need-enum-known-answer-2
+enum-known-answer-2 c = search needs
+
+-- what is answered for the matchpoints of the score
+told : (c : tie.After-matchpoints) → pointsAnswer (c .matchpoints .result) ≡ matchpointsOf (c .before .args .t) (c .before .args .score)
+told c = rw (toZ-ofZ (c .before .fits .score)) at (c .matchpoints .ensures)
+
+-- both sides' matchpoints are of at most 128 results
+both : (c : tie.After-known-told2) → let p = c .before .answer2 .given .0 in p .0 .0 + p .1 .0 .0 ≤ 254
+both c =
+    let d = c .before .before .before in
+    subst Few (sym (told d) ∙ ap pointsAnswer (c .before .answer2 .given .1)) (few (d .before .args .t) (d .before .args .score))
+
+results-of-requires : tie.Need-results-of-requires
+results-of-requires c κs = both c
+
+cell-by-requires : tie.Need-cell-by-requires
+cell-by-requires c κs = let b = both (c .before) in let r = c .results-of .ensures in (omega arith, omega arith, omega arith)
+
+returns : tie.Need-returns
+returns c =
+    let d = c .before .before .before in
+    ap byPoints (sym (ap pointsAnswer (c .before .answer .given .1)) ∙ told d) ∙ by-points (d .before .args .t) (d .before .args .score)
+
+returns-2 : tie.Need-returns-2
+returns-2 c =
+    let k = c .before .before in
+    let d = k .before .before .before in
+    rw (c .before .results-of .ensures) at (c .cell-by .ensures)
+    ∙ ap byPoints (sym (ap pointsAnswer (k .before .answer2 .given .1)) ∙ told d)
+    ∙ by-points (d .before .args .t) (d .before .args .score)
+
+pub cell-of-spec : {M : Type 1} → statement M
+cell-of-spec =
+    tie.close
+    (tie.spec
+    matchpoints-requires
+    enum-known-answer
+    enum-known-answer-2
+    results-of-requires
+    cell-by-requires
+    returns
+    returns-2)

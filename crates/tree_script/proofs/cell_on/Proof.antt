@@ -1,0 +1,32 @@
+-- `tree_script::cell_on` meets its contract. Assumes nothing.
+use mathlib.Core.Path.{sym, ap, _∙_}
+use borrow.Author.Needs.{needs}
+use mir.Syntax.{w16}
+use mir.Val.{SFits}
+use mir.Facts.{toZ-ofZ}
+use Rattle.tree_script.specs.Calls.{withScore}
+use Rattle.tree_script.proofs.cell_on.Statement.{statement}
+use Rattle.tree_script.proofs.cell_on.Tie as tie
+
+score-on-requires : tie.Need-score-on-requires
+score-on-requires c κs = search needs
+
+enum-known-s : tie.Need-enum-known-s
+enum-known-s c = search needs
+
+enum-told : tie.Need-enum-told
+enum-told c = search needs
+
+returns : tie.Need-returns
+unfolding withScore
+returns c = rw (← c .before .before .score-on .ensures, c .enum-told .given .1)
+
+returns-2 : tie.Need-returns-2
+unfolding withScore
+returns-2 c =
+    let f : SFits w16 (c .before .s .given .0 .0) = search needs in
+    rw (← c .before .before .before .score-on .ensures, c .before .s .given .1, toZ-ofZ f)
+
+pub cell-on-spec : {M : Type 1} → statement M
+cell-on-spec =
+    tie.close (tie.spec score-on-requires enum-known-s enum-told returns returns-2)
