@@ -130,7 +130,8 @@ of-tree t =
       well = rw e (formed-tally b l (w .valid) (w .room) (w .board));
       counts = λ s. ap (λ (x : Tally). countIn x s) e ∙ count-tally b l w s;
       canonical = e;
-      points = λ s r h. h ∙ points-left t s;
+      points = points-left t;
+      points-answered = λ s r h. h ∙ points-left t s;
     }
 
 -- ---- the list has what the calls add, unless one of them is refused

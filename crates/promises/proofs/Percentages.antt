@@ -102,6 +102,10 @@ fair l s =
     (λ (n : eqb (length l) 1 ≡ false). rw n tt)))))
     (λ (v : validScore s ≡ false). rw v tt)
 
+one-result : (l : List ℤ) (s : ℤ) → length l ≡ 1 → validScore s ≡ true → 1 ≤ occurrences s l → cellAsked l s ≡ answered alone
+unfolding cellAsked cellOf
+one-result l s n v o = rw (v, ne-eqb (occurrences s l) 0 (λ q. omega (arith, o)), n)
+
 awards : (n : ℕ) → (n ≡ 60) ⊎ (n ≡ 50) ⊎ (n ≡ 40) → award n ≡ answered (awarded (asFloat n))
 unfolding award isAward
 awards n (inl e) = rw e
@@ -117,6 +121,7 @@ unfolding cellOfTally
 of-cells =
     record {
       only = λ l s e. rw e at (fair l s);
+      one-result = one-result;
       not-awarded = λ l s x e. rw e at (fair l s);
       no-tally = λ s. rw none-malformed;
       awards = awards;
@@ -130,7 +135,8 @@ cell-left t s = sym (by-points (left t) s) ∙ ap byPoints (points-left t s) ∙
 over-trees : OverTrees
 over-trees =
     record {
-      of-tree = λ t s r h. h ∙ cell-left t s;
+      of-tree = cell-left;
+      of-answer = λ t s r h. h ∙ cell-left t s;
       same-cell = λ b t u p q h s r k e f. e ∙ ap (λ (x : Tally). cellOfTally x s) (demand-3 .same-tally b t u p q h) ∙ sym f;
     }
 

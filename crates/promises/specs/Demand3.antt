@@ -46,8 +46,10 @@ pub record OfTree (t : Tree) : Type 0 where
   pub counts : (s : ℤ) → countIn (left t) s ≡ occurrences s (listOf t)
   -- and is the tally of that board and that list, value for value
   pub canonical : left t ≡ tallyOf (boardOf t) (listOf t)
-  -- asked for any score, it answers Law 78A's matchpoints over the whole list, or 20, or 21
-  pub points : (s : ℤ) (r : MatchpointAnswer) → pointsAnswer r ≡ matchpointsOf (left t) s → pointsAnswer r ≡ matchpoints (listOf t) s
+  -- asked of it for any score: Law 78A's matchpoints over the whole list, or 20, or 21
+  pub points : (s : ℤ) → matchpointsOf (left t) s ≡ matchpoints (listOf t) s
+  -- every answer that the contract of `tally::matchpoints` allows stands for these
+  pub points-answered : (s : ℤ) (r : MatchpointAnswer) → pointsAnswer r ≡ matchpointsOf (left t) s → pointsAnswer r ≡ matchpoints (listOf t) s
 
 -- all fresh tallies of one board, valid scores, at most 128 of them
 pub record Plain (board : ℕ) (t : Tree) : Type 0 where

@@ -4,7 +4,7 @@
 use Prim.Native.Nat.{ℕ, _≤_, _<_, _+_, _-_, _*_}
 use mathlib.Core.Path.{_≡_}
 use mathlib.Core.Logic.{_⊎_}
-use mathlib.Core.Bool.{false, not}
+use mathlib.Core.Bool.{true, false, not}
 use mathlib.Core.List.{List, []}
 use lib.Dec.{T}
 use lib.Ieee.{Float, binary64, round, toUnsigned, le, isNan}
@@ -13,6 +13,7 @@ use lib.ListN.{length}
 use lib.Signed.{ltZ}
 use Rattle.laws.specs.Choice.{howMany}
 use Rattle.laws.specs.Refusals.{refused, answered, malformedTally, invalidScore}
+use Rattle.laws.specs.Law77.{validScore}
 use Rattle.laws.specs.Law78.{occurrences, nsMatchpoints, ewMatchpoints}
 use Rattle.laws.specs.Percentages.{mostMatchpoints, asFloat, nsPercentage, ewPercentage, played, awarded, alone, cellAsked, award}
 use Rattle.laws.specs.CellSheet.{hundredths}
@@ -50,6 +51,7 @@ pub record OfPercentage (results : List ℤ) (score : ℤ) : Type 0 where
 pub record OfCells : Type 0 where
   -- alone exactly where the list has one result
   pub only : (results : List ℤ) (s : ℤ) → cellAsked results s ≡ answered alone → length results ≡ 1
+  pub one-result : (results : List ℤ) (s : ℤ) → length results ≡ 1 → validScore s ≡ true → 1 ≤ occurrences s results → cellAsked results s ≡ answered alone
   -- what is asked of a list is never an awarded cell
   pub not-awarded : (results : List ℤ) (s : ℤ) (x : Float) → cellAsked results s ≡ answered (awarded x) → ⊥
   -- an all-zero tally, as beside a refusal, is refused with 17
@@ -61,7 +63,9 @@ pub record OfCells : Type 0 where
 -- ---- trees
 -- asked of the tally that a tree's calls leave: the cell over the tree's whole list
 pub record OverTrees : Type 0 where
-  pub of-tree : (t : Tree) (s : ℤ) (r : CellAnswer) → cellAnswer r ≡ cellOfTally (left t) s → cellAnswer r ≡ cellAsked (listOf t) s
+  pub of-tree : (t : Tree) (s : ℤ) → cellOfTally (left t) s ≡ cellAsked (listOf t) s
+  -- every answer that the contract of `percentages::cell_of` allows stands for it
+  pub of-answer : (t : Tree) (s : ℤ) (r : CellAnswer) → cellAnswer r ≡ cellOfTally (left t) s → cellAnswer r ≡ cellAsked (listOf t) s
   -- two trees of demand 3's kind with the same scores, each as often, give the same answers
   pub same-cell : (board : ℕ) (t u : Tree) → Plain board t → Plain board u → SameScores (added t) (added u)
       → (s : ℤ) (r q : CellAnswer) → cellAnswer r ≡ cellOfTally (left t) s → cellAnswer q ≡ cellOfTally (left u) s → cellAnswer r ≡ cellAnswer q
