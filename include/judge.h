@@ -38,7 +38,7 @@ uint32_t judge_record(const uint8_t *record, size_t record_len, uint8_t *answer,
  *   - board and table: both are read (2 where the record ends), then 3, for the board, then for the table;
  *   - the deal: it is read whole (2), then 4;
  *   - the number of calls (2); then for each call in turn: it is read (2), then 5, then 8, then 6 or 7; after the last call 9;
- *   - the number of cards (2), then 10; then for each card in turn: it is read (2), then 11, then 12;
+ *   - the number of cards (2), then 10; then for each card in turn: it is read (2), then 11, then 12 or 23;
  *   - the claim's mark (2); unmarked, 13; marked, 14, then the claim is read (2), then 15;
  *   - 16.
  * So the record 00 01 is refused with 3 and not with 2, and a bid after the end that is too low as well with 8 and not with 6. */
@@ -55,11 +55,12 @@ enum judge_refusal {
     JUDGE_AUCTION_NOT_OVER = 9,      /* Law 22; place: the number of calls */
     JUDGE_PLAY_COUNT = 10,           /* over 52, or over 0 when passed out; place: the play count */
     JUDGE_NO_SUCH_CARD = 11,         /* card code 52 to 63; place: the play */
-    JUDGE_CARD_NOT_HELD = 12,        /* Law 44: card not in that hand; place: the play */
+    JUDGE_CARD_NOT_HELD = 12,        /* Law 44: card dealt to another seat; place: the play */
     JUDGE_CARDS_MISSING = 13,        /* a contract, no claim, under 52 cards; place: the play count */
     JUDGE_CLAIM_NOT_ALLOWED = 14,    /* Law 68: claim at another point, or passed out; place: the play count */
     JUDGE_CLAIM_TOO_HIGH = 15,       /* Law 68: more tricks than are left; place: the claim */
-    JUDGE_NOT_ENDED = 16             /* a padding bit is 1, or a byte follows; place 0 */
+    JUDGE_NOT_ENDED = 16,            /* a padding bit is 1, or a byte follows; place 0 */
+    JUDGE_CARD_ALREADY_PLAYED = 23   /* Law 44: card that this seat has played already; place: the play */
 };
 
 /* The two parts of a number that is not 0. */

@@ -49,6 +49,7 @@ void print_refusal(FILE *out, uint32_t number) {
     case JUDGE_CARDS_MISSING: fprintf(out, "after %u cards: no claim, and not all 52 cards\n", place); return;
     case JUDGE_CLAIM_NOT_ALLOWED: fprintf(out, "after %u cards: a claim cannot stand here\n", place); return;
     case JUDGE_CLAIM_TOO_HIGH: fprintf(out, "claim of %u: more tricks than are left\n", place); return;
+    case JUDGE_CARD_ALREADY_PLAYED: fprintf(out, "play %u: card already played\n", place); return;
     case JUDGE_NOT_ENDED: fprintf(out, "a padding bit is 1, or a byte follows the record\n"); return;
     }
     fprintf(out, "unknown refusal %lu\n", (unsigned long)number);

@@ -11,7 +11,7 @@ pub struct Damaged {
 }
 
 /// The refusals that damage to the record can give.
-pub const KINDS: std::ops::RangeInclusive<u32> = 2..=16;
+pub const KINDS: [u32; 16] = [2, 3, 4, 5, 6, 7, 8, 9, 10, 11, 12, 13, 14, 15, 16, 23];
 
 /// Damages a record so that it is refused with the number `kind`, or nothing where this record cannot be.
 pub fn damaged(random: &mut Random, made: &Made, kind: u32) -> Option<Damaged> {
@@ -27,10 +27,11 @@ pub fn damaged(random: &mut Random, made: &Made, kind: u32) -> Option<Damaged> {
         9 => unfinished(random, &mut m),
         10 => play_count(random, &mut m),
         11 => card_code(random, &mut m)?,
-        12 => not_held(random, &mut m)?,
+        12 => anothers_card(random, &mut m)?,
         13 => no_claim(random, &mut m)?,
         14 => claim_elsewhere(random, &mut m),
         15 => claim_too_high(random, &mut m)?,
+        23 => own_card_again(random, &mut m)?,
         _ => past_the_end(random, &mut m),
     };
     Some(Damaged { bytes: m.parts.bytes(), number: Some(kind * 1024 + place as u32) })
@@ -130,15 +131,37 @@ fn card_code(random: &mut Random, m: &mut Made) -> Option<u64> {
     Some(k as u64)
 }
 
-fn not_held(random: &mut Random, m: &mut Made) -> Option<u64> {
-    let k = some_card(random, m)?;
+/// The seat at turn before card k.
+fn turn_before(m: &Made, k: usize) -> Option<usize> {
     let contract = m.contract?;
     let mut play = Play::new(m.hands, contract.strain, contract.declarer);
     for &card in &m.parts.cards[..k] {
         assert!(play.card(card), "a lawful card");
     }
-    let missing: Vec<u64> = (0..52).filter(|card| play.hand_at_turn() >> card & 1 == 0).collect();
-    m.parts.cards[k] = if k > 0 && random.percent(30) { m.parts.cards[random.below(k)] } else { *random.pick(&missing) };
+    Some(usize::from(play.turn()))
+}
+
+/// A card that was dealt to another seat; half of the time, where there is one, a card that this seat has played.
+fn anothers_card(random: &mut Random, m: &mut Made) -> Option<u64> {
+    let k = some_card(random, m)?;
+    let own = m.hands[turn_before(m, k)?];
+    let anothers = |card: &u64| own >> card & 1 == 0;
+    let played: Vec<u64> = m.parts.cards[..k].iter().copied().filter(anothers).collect();
+    let any: Vec<u64> = (0..52).filter(anothers).collect();
+    let from = if !played.is_empty() && random.percent(50) { &played } else { &any };
+    m.parts.cards[k] = *random.pick(from);
+    Some(k as u64)
+}
+
+/// A card that the seat at turn was dealt and has played.
+fn own_card_again(random: &mut Random, m: &mut Made) -> Option<u64> {
+    let k = some_card(random, m)?;
+    let own = m.hands[turn_before(m, k)?];
+    let played: Vec<u64> = m.parts.cards[..k].iter().copied().filter(|card| own >> card & 1 == 1).collect();
+    if played.is_empty() {
+        return None;
+    }
+    m.parts.cards[k] = *random.pick(&played);
     Some(k as u64)
 }
 

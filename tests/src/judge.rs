@@ -1,6 +1,6 @@
 //! The judge: a record read in the order of docs/RULES.md, judged as it is read.
 use crate::auction::{Auction, Contract, NO_CALL};
-use crate::deal;
+use crate::deal::{self, Hands};
 use crate::law64;
 use crate::play::{Play, MOST_REVOKES, NO_CARD};
 use crate::reader::Reader;
@@ -71,7 +71,7 @@ pub fn read(record: &[u8]) -> Result<Judgement, Refused> {
         return Ok(Judgement { answer: answer_bytes(place, 0), revokes: 0, list: [0; MOST_REVOKES] });
     };
     let mut play = Play::new(hands, contract.strain, contract.declarer);
-    let claimed = cards(&mut bits, &mut play)?;
+    let claimed = cards(&mut bits, &hands, &mut play)?;
     padding(&bits)?;
     Ok(judgement(place, &contract, &play, claimed))
 }
@@ -106,7 +106,7 @@ fn passed_out(bits: &mut Reader) -> Result<(), Refused> {
 }
 
 /// The cards and the claim: the tricks claimed for declarer's side, 0 where there is no claim.
-fn cards(bits: &mut Reader, play: &mut Play) -> Result<u8, Refused> {
+fn cards(bits: &mut Reader, dealt: &Hands, play: &mut Play) -> Result<u8, Refused> {
     let count = field(bits, 6)?;
     if count > 52 {
         return Err(refused(10, count));
@@ -118,7 +118,8 @@ fn cards(bits: &mut Reader, play: &mut Play) -> Result<u8, Refused> {
             return Err(refused(11, k));
         }
         if !trick.card(&mut play.cards, card) {
-            return Err(refused(12, k));
+            let own = dealt[usize::from(trick.turn())] >> card & 1 == 1;
+            return Err(refused(if own { 23 } else { 12 }, k));
         }
     }
     play.trick = trick;

@@ -45,6 +45,11 @@ pub fn suit(card: u64) -> u64 {
 }
 
 impl Trick {
+    #[inline]
+    pub fn turn(&self) -> u8 {
+        self.turn
+    }
+
     /// Plays a card of a code below 52; false where the seat at turn does not hold it.
     #[inline]
     pub fn card(&mut self, cards: &mut Cards, card: u64) -> bool {

@@ -114,7 +114,7 @@ impl Trial {
     /// Whether every kind of case has occurred, and each refusal often enough; what is missing, in words.
     pub fn enough(&self) -> Result<(), String> {
         let seen = &self.comparison.seen;
-        if let Some(number) = (1..=16).find(|&number| seen.refusals[number] < LEAST) {
+        if let Some(number) = (1..=16).chain([23]).find(|&number| seen.refusals[number] < LEAST) {
             return Err(format!("refusal {number} occurred only {} times", seen.refusals[number]));
         }
         let whole = contracts(seen) == seen.contracts.len() && self.auctions.len() == 316 && self.claims.len() == 90;

@@ -1,9 +1,10 @@
 //! A comparison that cannot fail shows nothing: judges with one fault each, every one of which it has to find.
 use outside::compare::Judge;
 use outside::judge::judge;
+use outside::reader::Reader;
 use outside::trial::Trial;
 
-const FAULTS: [(&str, Judge); 10] = [
+const FAULTS: [(&str, Judge); 12] = [
     ("refuses all", |_, _, _| 2 * 1024),
     ("writes nothing", |record, answer, list| judge(record, &mut answer.to_vec(), &mut list.to_vec())),
     ("clears the answer on a refusal", |record, answer, list| {
@@ -35,6 +36,11 @@ const FAULTS: [(&str, Judge); 10] = [
             number
         }
     }),
+    ("calls a card played already one of another hand", |record, answer, list| match judge(record, answer, list) {
+        number if number / 1024 == 23 => number - 11 * 1024,
+        number => number,
+    }),
+    ("calls another's card that was played one's own", anothers_played),
     ("lets one byte follow", |record, answer, list| match judge(record, answer, list) {
         number if number == 16 * 1024 => judge(&record[..record.len() - 1], answer, list),
         number => number,
@@ -60,6 +66,28 @@ const FAULTS: [(&str, Judge); 10] = [
         number
     }),
 ];
+
+/// Gives 23 for every card that has been played, whoever was dealt it.
+fn anothers_played(record: &[u8], answer: &mut [u8], list: &mut [u8]) -> u32 {
+    let number = judge(record, answer, list);
+    if number / 1024 != 12 {
+        return number;
+    }
+    let mut bits = Reader::new(record);
+    let mut take = |width| bits.take(width).expect("a field of a record that was read up to a card");
+    let (_, _, _) = (take(16), take(52), take(52));
+    for _ in 0..take(9) {
+        take(6);
+    }
+    take(6);
+    let place = (number % 1024) as usize;
+    let cards: Vec<u64> = (0..=place).map(|_| take(6)).collect();
+    if cards[..place].contains(&cards[place]) {
+        number + 11 * 1024
+    } else {
+        number
+    }
+}
 
 /// Records after which a fault must have been found: those of the gate.
 const RECORDS: u64 = 300_000;

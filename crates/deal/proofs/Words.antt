@@ -9,7 +9,7 @@ use native.Mathlib.Omega.{arith}
 use lib.Dec.{eqb}
 use lib.Pow.{pow-pos, shr-shr, mod-pow-add}
 use lib.Count.{ones, ones-step}
-use lib.ListN.{length, take, drop}
+use lib.ListN.{length, getD, take, drop}
 use Rattle.laws.specs.Choice.{if_then_else_, howMany}
 use Rattle.laws.specs.Cards.{cardsDealt}
 use Rattle.deal.specs.Hands.{wordOf, suitCount}
@@ -64,6 +64,20 @@ word-take s (suc k) (x ∷ t) =
     ∙ mod-pow-add (wordOf s t * 2 + bit (eqb x s)) k 1
     ∙ ap₂ (λ (a b : ℕ). a % 2 ^ k * 2 + b) (top-bits s x t) (low-bit s x t)
     ∙ ap (λ (n : ℕ). n * 2 + bit (eqb x s)) (word-take s k t)
+
+-- a place's bit is set where the seat holds the place
+first-bit : (s d k : ℕ) (l : List ℕ) → k < length l → wordOf s (drop k l) % 2 ≡ bit (eqb (getD l k d) s)
+unfolding wordOf
+first-bit s d k [] h = absurd (omega arith)
+first-bit s d zero (x ∷ t) h = low-bit s x t
+first-bit s d (suc k) (x ∷ t) h = first-bit s d k t (omega arith)
+
+pub word-bit : (s d k : ℕ) (l : List ℕ) → k < length l → eqb (wordOf s l / 2 ^ k % 2) 1 ≡ eqb (getD l k d) s
+word-bit s d k l h = rw (word-drop s k l, first-bit s d k l h) (is-set (eqb (getD l k d) s))
+  where
+    is-set : (b : Bool) → eqb (bit b) 1 ≡ b
+    is-set true = refl
+    is-set false = refl
 
 -- a suit's count is that of the set bits among its thirteen in the hand
 pub suit-bits : (s suit : ℕ) (l : List ℕ) → ones (wordOf s l / 2 ^ (13 * suit) % 2 ^ 13) ≡ suitCount s suit l

@@ -18,7 +18,7 @@ use Rattle.laws.specs.Judgement.{answerFields, answerBytes, playedFields, calls
 use Rattle.laws.specs.Lent.{_over_, answerLeft, listLeft}
 use Rattle.laws.proofs.Bytes.{length-bytes}
 use Rattle.laws.proofs.Padded.{padded-back}
-use Rattle.laws.proofs.Numbered.{Ruled, ruled}
+use Rattle.laws.proofs.Numbered.{Ruled, ruled, not-0}
 use Rattle.laws.proofs.Readings.{first-of, first-ending}
 use Rattle.play.proofs.Listed.{at-most-36}
 use Rattle.judge.specs.declared.whole.Judged.{Judged}
@@ -87,8 +87,8 @@ module _ (bytes : List ℕ) (answer list : List ℕ) where
   kept o = record { number = rw o; answered = rw o; listed = rw o }
 
   -- a refusal's number is not 0
-  not-0 : {n place : ℕ} → said ≡ Judge.Outcome.refused n place → n * 1024 + place ≡ 0 → ⊥
-  not-0 o z = let f = subst Ruled o (ruled bytes (length answer) (length list)) in omega (arith, z, f .0)
+  not-none : {n place : ℕ} → said ≡ Judge.Outcome.refused n place → n * 1024 + place ≡ 0 → ⊥
+  not-none o z = not-0 (subst Ruled o (ruled bytes (length answer) (length list))) z
 
   answer-said : length answer < 7 → said ≡ Judge.Outcome.refused 1 0
   unfolding Judge.judgeOf Judge.readLent refuse
@@ -118,7 +118,7 @@ module _ (bytes : List ℕ) (answer list : List ℕ) where
 
     few : (r : Reading Parts) → Judge.readRecord bytes 0 ≡ r → judgedOf r .refusal ≡ 0 → said ≡ Judge.outcome r → judgedOf r .revokes .count ≤ 36
     unfolding listedIn
-    few (refused n place) q e o = absurd (not-0 o e)
+    few (refused n place) q e o = absurd (not-none o e)
     few (found p at) q e o = few-revokes bytes q
 
     pub few-listed : j .refusal ≡ 0 → j .revokes .count ≤ 36
@@ -131,7 +131,7 @@ module _ (bytes : List ℕ) (answer list : List ℕ) where
     takes : (r : Reading Parts) → Judge.readRecord bytes 0 ≡ r → judgedOf r .refusal ≡ 0 → said ≡ Judge.outcome r → {a l : List ℕ} → Put (judgedOf r) a l
         → Left 0 a l
     unfolding answerLeft listLeft _over_ listedIn revokeBytes
-    takes (refused n place) q e o w = absurd (not-0 o e)
+    takes (refused n place) q e o w = absurd (not-none o e)
     takes (found p at) q e o w =
         let n = length-map (revokesOf p) revokeByte in
         let back = padded-back 0 36 (revokeBytes p) (omega (arith, n, few-revokes bytes q)) in

@@ -17,8 +17,8 @@ use Rattle.laws.specs.Law2.{dealer}
 use Rattle.laws.specs.Auction as Law
 use Rattle.laws.specs.Judge as Judge
 use Rattle.laws.proofs.Bits.{number-lt}
-use Rattle.laws.proofs.CardRefusals.{refusal-le}
-use Rattle.laws.proofs.Numbered.{Fair, not-0, fair-read, fair-test, fair-each}
+use Rattle.laws.proofs.CardRefusals.{numbered}
+use Rattle.laws.proofs.Numbered.{Fair, at-place, not-0, fair-read, fair-test, fair-each}
 use Rattle.laws.proofs.Readings.{first-of, first-read, first-test}
 use Rattle.laws.specs.Cards.{clockwise}
 use Rattle.laws.specs.Record.{Parts}
@@ -86,8 +86,8 @@ fair-by : (out : Bool) (trump opening : ℕ) (deal bytes : List ℕ) (at : ℕ) 
 unfolding cardsBy cardsPlayed
 fair-by out trump opening deal bytes at =
     fair-read 6 bytes at _ (λ n ln.
-    fair-test tooManyCards n (ltb 52 n || (out && ltb 0 n)) bytes (at + 6) _ (λ t. omega arith)
-    (fair-each 6 cardsPlayed (cardRefusal trump opening deal) (λ g. refl) (λ g c. omega (arith, refusal-le trump opening deal g c)) n [] bytes (at + 6)
+    fair-test tooManyCards n (ltb 52 n || (out && ltb 0 n)) bytes (at + 6) _ (λ t. at-place refl (omega arith))
+    (fair-each 6 cardsPlayed (cardRefusal trump opening deal) (λ g. refl) (numbered trump opening deal) n [] bytes (at + 6)
     (omega arith)))
 
 -- ---- the cards in the code: bounds on the position, whatever the calls were

@@ -15,7 +15,7 @@ use Rattle.laws.specs.Law44.{cardsPlayed}
 use Rattle.laws.specs.CardRefusal.{cardRefusal}
 use Rattle.laws.specs.Reading.{Reading, Reading.refused, Reading.found, onward, numberAt, read, refuse, readEach, overfull}
 use Rattle.laws.specs.Judge as Law
-use Rattle.laws.proofs.CallRefusals.{refusal-le}
+use Rattle.laws.proofs.CallRefusals.{numbered}
 use Rattle.laws.proofs.Numbered.{Fair, not-0, fair-each}
 use Rattle.laws.proofs.Tests.{by-test}
 use Rattle.auction.specs.Asked.{overOf}
@@ -86,7 +86,7 @@ module _ (d : ℕ) (bytes : List ℕ) (at : ℕ) where
       module _ (few : count < 512) (e : k .refusal ≡ 0) where
         fair : Fair each
         unfolding callPlace
-        fair = fair-each 6 callPlace (callRefusal d) (λ h. refl) (λ h c. omega (arith, refusal-le d h c)) count [] bytes (at + 9) (omega arith)
+        fair = fair-each 6 callPlace (callRefusal d) (λ h. refl) (numbered d) count [] bytes (at + 9) (omega arith)
 
         pub calls-open : overOf (k .after) ≡ false → noCalls 9 count ≡ callsOf d (Law.readCalls d bytes at)
         calls-open o = open-end each fair (rw ek at e) (rw ek at o) ∙ ap (callsOf d) (sym whole)

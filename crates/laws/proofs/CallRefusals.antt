@@ -1,15 +1,17 @@
--- A call is refused with no number exactly when it is allowed; a number is at most 8. Assumes nothing.
+-- A call is refused with no number exactly when it is allowed; a number is one of a record's. Assumes nothing.
 use Prim.Native.Nat.{ℕ, _≤_, _<_}
 use native.Mathlib.Omega.{arith}
 use mathlib.Core.Path.{_≡_}
 use mathlib.Core.Logic.{_↔_}
-use mathlib.Core.Bool.{true, false}
+use mathlib.Core.Bool.{true, false, not}
 use mathlib.Core.List.{List}
-use borrow.Author.Tests.{leb-true, leb-false, le-leb, ne-eqb}
-use Rattle.laws.specs.Refusals.{accepted}
+use borrow.Author.Tests.{leb-true, leb-false, le-leb, eqb-false, ne-eqb, not-true}
+use lib.Dec.{eqb}
+use Rattle.laws.specs.Refusals.{accepted, refusesRecord}
 use Rattle.laws.specs.Auction.{isBid, isOver, allowed}
 use Rattle.laws.specs.CallRefusal.{isCall, callRefusal}
 use Rattle.laws.proofs.Tests.{by-test, not-both}
+use Rattle.laws.proofs.RecordNumbers.{not-none}
 
 module _ (d : ℕ) (h : List ℕ) (c : ℕ) where
   -- no Law allows what is no call
@@ -34,29 +36,30 @@ module _ (d : ℕ) (h : List ℕ) (c : ℕ) where
       (λ (r : isOver h ≡ false). rw (q, r, e)))
       (λ (q : isCall c ≡ false). not-both (allowed d h c) e (no-call q))
 
-  -- what is not allowed has a number from 5 to 8
-  pub refused : allowed d h c ≡ false → (5 ≤ callRefusal d h c) × (callRefusal d h c ≤ 8)
+  -- what is not allowed has a number
+  refused : allowed d h c ≡ false → refusesRecord (callRefusal d h c) ≡ true
   unfolding callRefusal
   refused e =
       by-test (isCall c)
       (λ (q : isCall c ≡ true). by-test (isOver h)
-      (λ (r : isOver h ≡ true). rw (q, r) (omega arith))
+      (λ (r : isOver h ≡ true). rw (q, r))
       (λ (r : isOver h ≡ false). by-test (isBid c)
-      (λ (s : isBid c ≡ true). rw (s, q, r, e) (omega arith))
-      (λ (s : isBid c ≡ false). rw (s, q, r, e) (omega arith))))
-      (λ (q : isCall c ≡ false). rw q (omega arith))
+      (λ (s : isBid c ≡ true). rw (s, q, r, e))
+      (λ (s : isBid c ≡ false). rw (s, q, r, e))))
+      (λ (q : isCall c ≡ false). rw q)
 
   accepted-allowed : callRefusal d h c ≡ accepted → allowed d h c ≡ true
   accepted-allowed e =
       by-test (allowed d h c)
       (λ (q : allowed d h c ≡ true). q)
-      (λ (q : allowed d h c ≡ false). absurd (omega (arith, refused q .0)))
+      (λ (q : allowed d h c ≡ false). absurd (not-none (refused q) e))
 
-  pub refusal-le : callRefusal d h c ≤ 8
-  refusal-le =
+  -- a call that is refused has a number
+  pub numbered : not (eqb (callRefusal d h c) accepted) ≡ true → refusesRecord (callRefusal d h c) ≡ true
+  numbered e =
       by-test (allowed d h c)
-      (λ (q : allowed d h c ≡ true). omega (arith, allowed-accepted q))
-      (λ (q : allowed d h c ≡ false). refused q .1)
+      (λ (q : allowed d h c ≡ true). absurd (eqb-false _ _ (not-true _ e) (allowed-accepted q)))
+      (λ (q : allowed d h c ≡ false). refused q)
 
   pub accepted-is : (callRefusal d h c ≡ accepted) ↔ (allowed d h c ≡ true)
   accepted-is = (accepted-allowed, allowed-accepted)

@@ -1,18 +1,20 @@
--- A card is refused with no number exactly when it may be played; a number is 11 or 12. Assumes nothing.
-use Prim.Native.Nat.{ℕ, _≤_, _<_}
+-- A card is refused with no number exactly when it may be played; a number is one of a record's. Assumes nothing.
+use Prim.Native.Nat.{ℕ, _<_}
 use native.Mathlib.Omega.{arith}
-use mathlib.Core.Path.{_≡_}
+use mathlib.Core.Path.{_≡_, refl}
 use mathlib.Core.Logic.{_↔_}
-use mathlib.Core.Bool.{true, false, not}
+use mathlib.Core.Bool.{Bool, true, false, not}
 use mathlib.Core.List.{List}
-use borrow.Author.Tests.{leb-true, leb-false, lt-leb, eqb-true}
+use borrow.Author.Tests.{leb-true, leb-false, lt-leb, eqb-true, eq-eqb, ne-eqb}
 use lib.Dec.{leb, eqb}
 use lib.ListN.{length, List·getD-eq-default}
-use Rattle.laws.specs.Refusals.{accepted}
+use Rattle.laws.specs.Refusals.{accepted, cardNotHeld, cardAlreadyPlayed, refusesRecord}
+use Rattle.laws.specs.Choice.{if_then_else_}
 use Rattle.laws.specs.Cards.{noSeat, clockwise, dealtTo}
-use Rattle.laws.specs.Law44.{toPlay, isPlayed, holds, playable}
+use Rattle.laws.specs.Law44.{toPlay, isPlayed, holds, hasPlayed, playable}
 use Rattle.laws.specs.CardRefusal.{cardRefusal}
-use Rattle.laws.proofs.Tests.{by-test, and-left}
+use Rattle.laws.proofs.Tests.{by-test, not-both, and-left}
+use Rattle.laws.proofs.RecordNumbers.{not-none}
 
 module _ (trump opening : ℕ) where
   -- whose turn it is, is a seat
@@ -37,29 +39,67 @@ module _ (trump opening : ℕ) where
     unfolding cardRefusal
     playable-accepted full e = rw (lt-leb 52 card (omega (arith, playable-dealt e)), e)
 
-    -- what may not be played has the number 11 or 12
-    pub refused : playable trump opening deal g card ≡ false → (11 ≤ cardRefusal trump opening deal g card) × (cardRefusal trump opening deal g card ≤ 12)
+    -- what may not be played has a number
+    refused : playable trump opening deal g card ≡ false → refusesRecord (cardRefusal trump opening deal g card) ≡ true
     unfolding cardRefusal
     refused e =
+        let played = hasPlayed deal g (toPlay trump opening g) card in
         by-test (leb 52 card)
-        (λ (q : leb 52 card ≡ true). rw q (omega arith))
-        (λ (q : leb 52 card ≡ false). rw (q, e) (omega arith))
+        (λ (q : leb 52 card ≡ true). rw q)
+        (λ (q : leb 52 card ≡ false). by-test played (λ (r : played ≡ true). rw (q, e, r)) (λ (r : played ≡ false). rw (q, e, r)))
 
-    accepted-playable : cardRefusal trump opening deal g card ≡ accepted → playable trump opening deal g card ≡ true
+    pub accepted-playable : cardRefusal trump opening deal g card ≡ accepted → playable trump opening deal g card ≡ true
     accepted-playable e =
         by-test (playable trump opening deal g card)
         (λ (q : playable trump opening deal g card ≡ true). q)
-        (λ (q : playable trump opening deal g card ≡ false). absurd (omega (arith, refused q .0)))
+        (λ (q : playable trump opening deal g card ≡ false). absurd (not-none (refused q) e))
 
     pub accepted-is : length deal ≡ 52 → (cardRefusal trump opening deal g card ≡ accepted) ↔ (playable trump opening deal g card ≡ true)
     accepted-is full = (accepted-playable, playable-accepted full)
 
-    pub refusal-le : cardRefusal trump opening deal g card ≤ 12
+    -- a card that is refused has a number
+    pub numbered : not (eqb (cardRefusal trump opening deal g card) accepted) ≡ true → refusesRecord (cardRefusal trump opening deal g card) ≡ true
     unfolding cardRefusal
-    refusal-le =
+    numbered e =
         by-test (leb 52 card)
-        (λ (q : leb 52 card ≡ true). rw q (omega arith))
-        (λ (q : leb 52 card ≡ false).
-        by-test (playable trump opening deal g card)
-        (λ (r : playable trump opening deal g card ≡ true). rw (q, r) (omega arith))
-        (λ (r : playable trump opening deal g card ≡ false). rw (q, r) (omega arith)))
+        (λ (q : leb 52 card ≡ true). rw q)
+        (λ (q : leb 52 card ≡ false). by-test (playable trump opening deal g card)
+        (λ (r : playable trump opening deal g card ≡ true). not-both false (rw (q, r) at e) refl)
+        (λ (r : playable trump opening deal g card ≡ false). refused r))
+
+    -- ---- which number
+    module _ (low : card < 52) where
+      abbrev seat : ℕ
+      seat = toPlay trump opening g
+
+      -- by who was dealt the card, and whether it has been played
+      number-by : (own played : Bool) → eqb (dealtTo deal card) seat ≡ own → isPlayed g card ≡ played
+          → cardRefusal trump opening deal g card ≡ (if own then (if played then cardAlreadyPlayed else accepted) else cardNotHeld)
+      unfolding cardRefusal playable holds hasPlayed
+      number-by true true a b = rw (lt-leb 52 card low, a, b)
+      number-by true false a b = rw (lt-leb 52 card low, a, b)
+      number-by false played a b = rw (lt-leb 52 card low, a)
+
+      abbrev own : Bool
+      own = eqb (dealtTo deal card) seat
+
+      pub already-played : (cardRefusal trump opening deal g card ≡ cardAlreadyPlayed) ↔ ((dealtTo deal card ≡ seat) × (isPlayed g card ≡ true))
+      already-played = (
+        λ e.
+            by-test own
+            (λ (a : own ≡ true). by-test (isPlayed g card)
+            (λ (b : isPlayed g card ≡ true). (eqb-true (dealtTo deal card) seat a, b))
+            (λ (b : isPlayed g card ≡ false). absurd (omega (arith, number-by true false a b))))
+            (λ (a : own ≡ false). absurd (omega (arith, number-by false (isPlayed g card) a refl))),
+        λ (a, b). number-by true true (eq-eqb (dealtTo deal card) seat a) b,
+      )
+
+      pub anothers-card : (cardRefusal trump opening deal g card ≡ cardNotHeld) ↔ (dealtTo deal card ≡ seat → ⊥)
+      anothers-card = (
+        λ e a.
+            let o = eq-eqb (dealtTo deal card) seat a in
+            by-test (isPlayed g card)
+            (λ (b : isPlayed g card ≡ true). absurd (omega (arith, number-by true true o b)))
+            (λ (b : isPlayed g card ≡ false). absurd (omega (arith, number-by true false o b))),
+        λ a. number-by false (isPlayed g card) (ne-eqb (dealtTo deal card) seat a) refl,
+      )

@@ -7,6 +7,7 @@ pub mod Stores
 pub mod Revokes
 pub mod Scale
 pub mod Score
+pub mod RecordNumbers
 pub mod CallRefusals
 pub mod Contracts
 pub mod Bits

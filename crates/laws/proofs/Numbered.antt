@@ -1,4 +1,4 @@
--- A refusal of the judge has a number from 1 to 16 and a place below 1024, for every list of numbers and every two lengths. Assumes nothing.
+-- A refusal of the judge has a number from 1 to 16 or 23, and a place below 1024, for every list of numbers and every two lengths. Assumes nothing.
 use Prim.Native.Nat.{ℕ, zero, suc, _+_, _*_, _^_, _≤_, _<_}
 use native.Mathlib.Omega.{arith}
 use mathlib.Core.Path.{_≡_, refl}
@@ -8,7 +8,7 @@ use borrow.Author.Tests.{eqb-false, not-true}
 use lib.Dec.{leb, ltb, eqb, lit≤}
 use lib.ListN.{length}
 use Rattle.laws.specs.Choice.{if_then_else_}
-use Rattle.laws.specs.Refusals.{refusalNumber, accepted, shortBuffer, recordEnds, noBoardOrTable, notThirteen, auctionUnfinished}
+use Rattle.laws.specs.Refusals.{refusalNumber, refusesRecord, accepted, shortBuffer, recordEnds, noBoardOrTable, notThirteen, auctionUnfinished}
 use Rattle.laws.specs.Refusals.{tooManyCards, playUnfinished, noClaimPoint, claimTooMany, notPadding}
 use Rattle.laws.specs.Cards.{noSeat, hasThirteen, firstWithoutThirteen, seatWithoutThirteen}
 use Rattle.laws.specs.Law2.{dealer}
@@ -23,13 +23,18 @@ use Rattle.laws.specs.Judge.{readHeading, readDeal, readCalls, readCards
 use Rattle.laws.specs.Judge.{Outcome, Outcome.refused as declined, Outcome.accepted as taken, outcome, judgeOf}
 use Rattle.laws.proofs.Tests.{by-test}
 use Rattle.laws.proofs.Bits.{number-lt}
-use Rattle.laws.proofs.CallRefusals.{refusal-le}
-use Rattle.laws.proofs.CardRefusals.{refusal-le as card-refusal-le}
+use Rattle.laws.proofs.CallRefusals.{numbered}
+use Rattle.laws.proofs.CardRefusals.{numbered as card-numbered}
+use Rattle.laws.proofs.RecordNumbers.{from-1}
 use Rattle.laws.proofs.Sections.{heading-exact, deal-exact, calls-exact, cards-exact}
 
 -- a number and a place as a refusal of a record has them
-abbrev pub Numbered : ℕ → ℕ → Type 0
-Numbered n place = (1 ≤ n) × (n ≤ 16) × (place < 1024)
+pub record Numbered (n place : ℕ) : Type 0 where
+  pub number : refusesRecord n ≡ true
+  pub place-lt : place < 1024
+
+pub at-place : {n place : ℕ} → refusesRecord n ≡ true → place < 1024 → Numbered n place
+at-place e l = record { number = e; place-lt = l }
 
 -- a reading that is refused is so numbered
 abbrev pub Fair : {A : Type 0} → Reading A → Type 0
@@ -48,7 +53,7 @@ module _ {B : Type 0} where
     where
       go : (b : Bool) → Fair (onward (if b then found (numberAt bytes at w) (at + w) else refused recordEnds 0) next)
       go true = g (numberAt bytes at w) (number-lt bytes at w)
-      go false = omega arith
+      go false = at-place refl (omega arith)
 
   pub fair-test : (n place : ℕ) (test : Bool) (bytes : List ℕ) (at : ℕ) (next : Unit {0} → ℕ → Reading B) → (test ≡ true → Numbered n place) → Fair (next tt at)
       → Fair (onward (refuse n place test bytes at) next)
@@ -58,7 +63,7 @@ module _ {B : Type 0} where
 
 -- a refusal so numbered is not 0
 pub not-0 : {n place : ℕ} → Numbered n place → refusalNumber n place ≡ 0 → ⊥
-not-0 f z = omega (arith, f .0)
+not-0 {n} f z = omega (arith, from-1 n (f .number))
 
 fair-row : (w n : ℕ) (bytes : List ℕ) (at : ℕ) → Fair (readRow w n bytes at)
 unfolding readRow
@@ -66,25 +71,22 @@ fair-row w zero bytes at = tt
 fair-row w (suc n) bytes at =
     fair-read w bytes at _ (λ v l. fair-on (readRow w n bytes (at + w)) _ (fair-row w n bytes (at + w)) (λ rest m q. tt))
 
--- a number that is not 0 and at most 16
-some-number : (n place : ℕ) → n ≤ 16 → place < 1024 → not (eqb n accepted) ≡ true → Numbered n place
-some-number n place l k t = let z : n ≡ 0 → ⊥ = eqb-false n 0 (not-true (eqb n 0) t) in omega arith
-
-pub fair-each : (w : ℕ) (place : List ℕ → ℕ) (rule : List ℕ → ℕ → ℕ) → ((h : List ℕ) → place h ≡ length h) → ((h : List ℕ) (c : ℕ) → rule h c ≤ 16)
+pub fair-each : (w : ℕ) (place : List ℕ → ℕ) (rule : List ℕ → ℕ → ℕ) → ((h : List ℕ) → place h ≡ length h)
+    → ((h : List ℕ) (c : ℕ) → not (eqb (rule h c) accepted) ≡ true → refusesRecord (rule h c) ≡ true)
     → (n : ℕ) (h bytes : List ℕ) (at : ℕ) → length h + n < 1024 → Fair (readEach w place rule n h bytes at)
 unfolding readEach
 fair-each w place rule p r zero h bytes at l = tt
 fair-each w place rule p r (suc n) h bytes at l =
     fair-read w bytes at _ (λ c k.
-    fair-test (rule h c) (place h) (not (eqb (rule h c) accepted)) bytes (at + w) _ (some-number (rule h c) (place h) (r h c) (omega (arith, p h)))
+    fair-test (rule h c) (place h) (not (eqb (rule h c) accepted)) bytes (at + w) _ (λ t. at-place (r h c t) (omega (arith, p h)))
     (fair-each w place rule p r n (c ∷ h) bytes (at + w) (omega arith)))
 
 pub fair-heading : (bytes : List ℕ) (at : ℕ) → Fair (readHeading bytes at)
 unfolding readHeading
 fair-heading bytes at =
     fair-read 7 bytes at _ (λ board lb. fair-read 9 bytes (at + 7) _ (λ table lt.
-    fair-test noBoardOrTable 0 (eqb board 0) bytes (at + 7 + 9) _ (λ t. omega arith)
-    (fair-test noBoardOrTable 1 (eqb table 0) bytes (at + 7 + 9) _ (λ t. omega arith) tt)))
+    fair-test noBoardOrTable 0 (eqb board 0) bytes (at + 7 + 9) _ (λ t. at-place refl (omega arith))
+    (fair-test noBoardOrTable 1 (eqb table 0) bytes (at + 7 + 9) _ (λ t. at-place refl (omega arith)) tt)))
 
 -- the first seat without thirteen cards, or nobody, is at most 4
 next-short : (deal : List ℕ) (seat : ℕ) (rest : List ℕ) → seat ≤ 4 → firstWithoutThirteen deal rest ≤ 4 → firstWithoutThirteen deal (seat ∷ rest) ≤ 4
@@ -106,33 +108,35 @@ pub fair-deal : (bytes : List ℕ) (at : ℕ) → Fair (readDeal bytes at)
 unfolding readDeal
 fair-deal bytes at =
     fair-on (readRow 2 52 bytes at) _ (fair-row 2 52 bytes at) (λ deal m q.
-    fair-test notThirteen (seatWithoutThirteen deal) (not (eqb (seatWithoutThirteen deal) noSeat)) bytes m _ (λ t. omega (arith, short-le deal)) tt)
+    fair-test notThirteen (seatWithoutThirteen deal) (not (eqb (seatWithoutThirteen deal) noSeat)) bytes m _
+    (λ t. at-place refl (omega (arith, short-le deal))) tt)
 
 pub fair-calls : (d : ℕ) (bytes : List ℕ) (at : ℕ) → Fair (readCalls d bytes at)
 unfolding readCalls callPlace
 fair-calls d bytes at =
     fair-read 9 bytes at _ (λ n ln.
     fair-on (readEach 6 callPlace (callRefusal d) n [] bytes (at + 9)) _
-    (fair-each 6 callPlace (callRefusal d) (λ h. refl) (λ h c. omega (arith, refusal-le d h c)) n [] bytes (at + 9) (omega arith)) (λ h m q.
-    fair-test auctionUnfinished n (not (isOver h)) bytes m _ (λ t. omega arith) tt))
+    (fair-each 6 callPlace (callRefusal d) (λ h. refl) (numbered d) n [] bytes (at + 9) (omega arith)) (λ h m q.
+    fair-test auctionUnfinished n (not (isOver h)) bytes m _ (λ t. at-place refl (omega arith)) tt))
 
 pub fair-cards : (d : ℕ) (deal h bytes : List ℕ) (at : ℕ) → Fair (readCards d deal h bytes at)
 unfolding readCards cardsPlayed
 fair-cards d deal h bytes at =
     fair-read 6 bytes at _ (λ n ln.
-    fair-test tooManyCards n (ltb 52 n || (passedOut h && ltb 0 n)) bytes (at + 6) _ (λ t. omega arith)
+    fair-test tooManyCards n (ltb 52 n || (passedOut h && ltb 0 n)) bytes (at + 6) _ (λ t. at-place refl (omega arith))
     (fair-each 6 cardsPlayed (cardRefusal (trumpAfter h) (openingAfter d h) deal) (λ g. refl)
-    (λ g c. omega (arith, card-refusal-le (trumpAfter h) (openingAfter d h) deal g c)) n [] bytes (at + 6) (omega arith)))
+    (card-numbered (trumpAfter h) (openingAfter d h) deal) n [] bytes (at + 6) (omega arith)))
 
 pub fair-claim : (h g bytes : List ℕ) (at : ℕ) → length g ≤ 52 → Fair (readClaim h g bytes at)
 unfolding readClaim readNoClaim readMarkedClaim cardsPlayed
 fair-claim h g bytes at l = fair-read 1 bytes at _ (λ mark lm. either (eqb mark 0))
   where
     either : (b : Bool) → Fair ((if b then readNoClaim h g else readMarkedClaim h g) bytes (at + 1))
-    either true = fair-test playUnfinished (cardsPlayed g) (not (passedOut h) && not (allPlayed g)) bytes (at + 1) _ (λ t. omega arith) tt
+    either true = fair-test playUnfinished (cardsPlayed g) (not (passedOut h) && not (allPlayed g)) bytes (at + 1) _ (λ t. at-place refl (omega arith)) tt
     either false =
-        fair-test noClaimPoint (cardsPlayed g) (passedOut h || not (atClaimPoint g)) bytes (at + 1) _ (λ t. omega arith)
-        (fair-read 4 bytes (at + 1) _ (λ tricks lt. fair-test claimTooMany tricks (not (claimable g tricks)) bytes (at + 1 + 4) _ (λ t. omega arith) tt))
+        fair-test noClaimPoint (cardsPlayed g) (passedOut h || not (atClaimPoint g)) bytes (at + 1) _ (λ t. at-place refl (omega arith))
+        (fair-read 4 bytes (at + 1) _ (λ tricks lt.
+        fair-test claimTooMany tricks (not (claimable g tricks)) bytes (at + 1 + 4) _ (λ t. at-place refl (omega arith)) tt))
 
 fair-record : (bytes : List ℕ) → Fair (readRecord bytes 0)
 unfolding readRecord ending
@@ -147,12 +151,13 @@ fair-record bytes =
     fair-on (readCards d deal h bytes m₃) _ (fair-cards d deal h bytes m₃) (λ g m₄ q₄.
     let h₄ = cards-exact d deal h (h₂ .0 .holders) .reads bytes m₃ g m₄ (h₃ .1 .whole) q₄ in
     fair-on (readClaim h g bytes m₄) _ (fair-claim h g bytes m₄ (h₄ .0 .count)) (λ t m₅ q₅.
-    fair-test notPadding 0 (overfull bytes m₅) bytes m₅ _ (λ t. omega arith) tt)))))
+    fair-test notPadding 0 (overfull bytes m₅) bytes m₅ _ (λ t. at-place refl (omega arith)) tt)))))
 
 fair-lent : (answer list : ℕ) (bytes : List ℕ) → Fair (readLent answer list bytes 0)
 unfolding readLent
 fair-lent answer list bytes =
-    fair-test shortBuffer 0 (ltb answer 7) bytes 0 _ (λ t. omega arith) (fair-test shortBuffer 1 (ltb list 36) bytes 0 _ (λ t. omega arith) (fair-record bytes))
+    fair-test shortBuffer 0 (ltb answer 7) bytes 0 _ (λ t. at-place refl (omega arith))
+    (fair-test shortBuffer 1 (ltb list 36) bytes 0 _ (λ t. at-place refl (omega arith)) (fair-record bytes))
 
 -- an outcome that is a refusal is so numbered
 abbrev pub Ruled : Outcome → Type 0

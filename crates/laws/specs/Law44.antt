@@ -92,6 +92,10 @@ isPlayed g card = some (λ c. eqb c card) g
 unfoldable pub holds : List ℕ → List ℕ → ℕ → ℕ → Bool
 holds deal g seat card = eqb (dealtTo deal card) seat && not (isPlayed g card)
 
+-- the seat has played the card: it was dealt the card, and the card has been played
+unfoldable pub hasPlayed : List ℕ → List ℕ → ℕ → ℕ → Bool
+hasPlayed deal g seat card = eqb (dealtTo deal card) seat && isPlayed g card
+
 -- Law 44: a card may be played from the hand of the seat whose turn it is
 unfoldable pub playable : ℕ → ℕ → List ℕ → List ℕ → ℕ → Bool
 playable trump opening deal g card = holds deal g (toPlay trump opening g) card

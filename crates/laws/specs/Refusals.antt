@@ -1,6 +1,8 @@
 -- The numbers of the refusals, each named once, with the Law that is not met where one is.
 -- Assumes nothing.
 use Prim.Native.Nat.{ℕ, _+_, _*_}
+use mathlib.Core.Bool.{Bool, _&&_, _||_}
+use lib.Dec.{leb, eqb}
 
 -- what is answered to a question: a refusal by its number, or a value
 pub data Answer (A : Type 0) : Type 0 where
@@ -59,7 +61,7 @@ tooManyCards = 10
 abbrev pub noCard : ℕ
 noCard = 11
 
--- Law 44: a card that is not in the hand of the seat at turn
+-- Law 44: a card that was not dealt to the seat at turn
 abbrev pub cardNotHeld : ℕ
 cardNotHeld = 12
 
@@ -98,3 +100,11 @@ invalidScore = 20
 -- a score that the tally does not have
 abbrev pub scoreNotInTally : ℕ
 scoreNotInTally = 21
+
+-- Law 44: a card that the seat at turn has played already
+abbrev pub cardAlreadyPlayed : ℕ
+cardAlreadyPlayed = 23
+
+-- the numbers that a record is refused with: 1 to 16, and 23
+abbrev pub refusesRecord : ℕ → Bool
+refusesRecord n = (leb 1 n && leb n 16) || eqb n cardAlreadyPlayed

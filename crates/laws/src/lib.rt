@@ -38,7 +38,7 @@ pub const TOO_MANY_CARDS: u8 = 10;
 // A code that is no card.
 pub const NO_CARD: u8 = 11;
 
-// Law 44: a card that is not in the hand of the seat at turn.
+// Law 44: a card that was not dealt to the seat at turn.
 pub const CARD_NOT_HELD: u8 = 12;
 
 // A contract without a claim, and fewer than 52 cards.
@@ -67,6 +67,9 @@ pub const INVALID_SCORE: u8 = 20;
 
 // A score that the tally does not have.
 pub const SCORE_NOT_IN_TALLY: u8 = 21;
+
+// Law 44: a card that the seat at turn has played already.
+pub const CARD_ALREADY_PLAYED: u8 = 23;
 
 // A refusal and its place as one number: refusal × 1024 + place.
 pub fn refusal_number(refusal: u8, place: u16) -> u32

@@ -8,11 +8,12 @@ use borrow.Author.Tests.{leb-false, eqb-true, ne-eqb, not-true}
 use lib.Dec.{eqb, leb}
 use lib.ListN.{take, length-take}
 use Rattle.laws.specs.Choice.{some}
-use Rattle.laws.specs.Refusals.{accepted, noCard, cardNotHeld}
+use Rattle.laws.specs.Refusals.{accepted, noCard}
 use Rattle.laws.specs.Cards.{dealtTo}
 use Rattle.laws.specs.Law44.{cardsPlayed, tricksComplete, cardsInTrick, leader, trickUnderWay, toPlay, isPlayed, holds, playable}
 use Rattle.laws.specs.CardRefusal.{cardRefusal}
 use Rattle.laws.proofs.Tests.{by-test, or-left, or-right, and-left, and-right}
+use Rattle.laws.proofs.CardRefusals.{accepted-playable}
 
 -- ---- the cards of the trick
 pub fewer-than-four : (g : List ℕ) → cardsInTrick g < 4
@@ -60,18 +61,16 @@ pub record Fair (trump opening : ℕ) (deal g : List ℕ) (card : ℕ) : Type 0 
 pub fair : (trump opening : ℕ) (deal g : List ℕ) (card : ℕ) → cardRefusal trump opening deal g card ≡ accepted → Fair trump opening deal g card
 unfolding cardRefusal playable holds
 fair trump opening deal g card e =
-    by-test (leb 52 card)
-    (λ (q : leb 52 card ≡ true). absurd (let z : _≡_ {A = ℕ} noCard accepted = rw q at e in omega arith))
-    (λ (q : leb 52 card ≡ false). by-test (playable trump opening deal g card)
-    (λ (r : playable trump opening deal g card ≡ true).
+    let r = accepted-playable trump opening deal g card e in
     let at-turn = eqb (dealtTo deal card) (toPlay trump opening g) in
     record {
-      code = leb-false 52 card q;
+      code =
+          by-test (leb 52 card)
+          (λ (q : leb 52 card ≡ true). absurd (let z : _≡_ {A = ℕ} noCard accepted = rw q at e in omega arith))
+          (λ (q : leb 52 card ≡ false). leb-false 52 card q);
       held = eqb-true (dealtTo deal card) (toPlay trump opening g) (and-left at-turn (not (isPlayed g card)) r);
       unplayed = not-true (isPlayed g card) (and-right at-turn (not (isPlayed g card)) r);
-    })
-    (λ (r : playable trump opening deal g card ≡ false).
-    absurd (let z : _≡_ {A = ℕ} cardNotHeld accepted = rw (q, r) at e in omega arith)))
+    }
 
 none-taken : (test : ℕ → Bool) (n : ℕ) (l : List ℕ) → some test l ≡ false → some test (take n l) ≡ false
 unfolding some

@@ -12,8 +12,8 @@ use Rattle.laws.specs.Cards.{noSeat, clockwise, suitOf}
 use Rattle.laws.proofs.Counts.{any-default}
 use Rattle.play.specs.declared.Play.{Play}
 use Rattle.play.specs.Words.{bitOf, withBit}
-use Rattle.play.specs.Position.{putPlayed, turnOf, verdictOf, couldFollow, worthOf, revokesWith, withCard}
-use Rattle.play.specs.declared.CardVerdict.the-variants.{Playable, NotHeld}
+use Rattle.play.specs.Position.{putPlayed, turnOf, wasDealt, verdictOf, couldFollow, worthOf, revokesWith, withCard}
+use Rattle.play.specs.declared.CardVerdict.the-variants.{Playable, NotHeld, AlreadyPlayed}
 
 -- the seat at turn is one of four
 pub seat-low : {seat : ℕ} (p : Play) → seat ≡ turnOf p → seat < 4
@@ -65,10 +65,14 @@ module _ (p : Play) (card seat : ℕ) (n : length (p .holders) ≡ 52) (h : card
       simp
       (lt-leb 52 card h, eq-eqb (getD (p .holders) card noSeat) (turnOf p) (any-default (p .holders) card noSeat 0 (omega arith) ∙ e ∙ es))
 
-  pub not-held : (getD (p .holders) card 0 ≡ seat → ⊥) → NotHeld ≡ verdictOf p card
-  unfolding verdictOf
-  not-held ne =
-      simp (
-        lt-leb 52 card h,
-        ne-eqb (getD (p .holders) card noSeat) (turnOf p) (λ e. ne (any-default (p .holders) card 0 noSeat (omega arith) ∙ e ∙ sym es)),
-      )
+  module _ (ne : getD (p .holders) card 0 ≡ seat → ⊥) where
+    elsewhere : eqb (getD (p .holders) card noSeat) (turnOf p) ≡ false
+    elsewhere = ne-eqb (getD (p .holders) card noSeat) (turnOf p) (λ e. ne (any-default (p .holders) card 0 noSeat (omega arith) ∙ e ∙ sym es))
+
+    pub played-already : wasDealt p card ≡ true → AlreadyPlayed ≡ verdictOf p card
+    unfolding verdictOf
+    played-already d = simp (lt-leb 52 card h, elsewhere, d)
+
+    pub not-held : wasDealt p card ≡ false → NotHeld ≡ verdictOf p card
+    unfolding verdictOf
+    not-held d = simp (lt-leb 52 card h, elsewhere, d)

@@ -1,6 +1,6 @@
 -- The position of the play, on the struct that the code keeps, and one step: the lead, the card on the table, the trick's end.
 -- Assumes nothing.
-use Prim.Native.Nat.{ℕ, _+_, _-_, _*_, _%_, _^_, max}
+use Prim.Native.Nat.{ℕ, _+_, _-_, _*_, _/_, _%_, _^_, max}
 use mathlib.Core.Bool.{Bool, not, _&&_}
 use mathlib.Core.List.{List}
 use lib.Bits.{bitAnd, bitOr, bitXor}
@@ -8,11 +8,11 @@ use lib.Dec.{eqb, leb}
 use lib.ListN.{getD, set}
 use Rattle.laws.specs.Choice.{if_then_else_}
 use Rattle.laws.specs.Cards.{suitOf, clockwise, dealtTo}
-use Rattle.laws.specs.Refusals.{accepted, noCard, cardNotHeld}
+use Rattle.laws.specs.Refusals.{accepted, noCard, cardNotHeld, cardAlreadyPlayed}
 use Rattle.deal.specs.Hands.{hasSuit}
 use Rattle.play.specs.declared.Play.{Play}
 use Rattle.play.specs.declared.CardVerdict.{CardVerdict}
-use Rattle.play.specs.declared.CardVerdict.the-variants.{Playable, NoCard, NotHeld}
+use Rattle.play.specs.declared.CardVerdict.the-variants.{Playable, NoCard, NotHeld, AlreadyPlayed}
 use Rattle.play.specs.Words.{bitOf, worth, withBit, withEntry}
 
 -- the holders with one place changed: who held the card has played it, which the place shows as 4 more than the seat
@@ -47,11 +47,16 @@ handOf p = bitAnd (getD (p .dealt) (turnOf p) 0) (p .left)
 unfoldable pub couldFollow : Play → Bool
 couldFollow p = hasSuit (handOf p) (p .led % 4)
 
--- the verdict on a card: a code that is no card, then one that the seat at turn does not hold
+-- the seat at turn was dealt the card
+unfoldable pub wasDealt : Play → ℕ → Bool
+wasDealt p card = eqb (getD (p .dealt) (turnOf p) 0 / 2 ^ card % 2) 1
+
+-- the verdict on a card: a code that is no card, then one that the seat at turn does not hold, having played it already or not having been dealt it
 unfoldable pub verdictOf : Play → ℕ → CardVerdict
 verdictOf p card =
     if leb 52 card then NoCard
     else if eqb (dealtTo (p .holders) card) (turnOf p) then Playable
+    else if wasDealt p card then AlreadyPlayed
     else NotHeld
 
 -- the number of a verdict's refusal
@@ -59,6 +64,7 @@ abbrev pub verdictNumber : CardVerdict → ℕ
 verdictNumber Playable = accepted
 verdictNumber NoCard = noCard
 verdictNumber NotHeld = cardNotHeld
+verdictNumber AlreadyPlayed = cardAlreadyPlayed
 
 -- ---- one step
 -- between tricks, so that the next card leads

@@ -11,6 +11,7 @@ use crate::words::entered;
 use crate::words::greater;
 use crate::words::with_bit;
 use laws::ACCEPTED;
+use laws::CARD_ALREADY_PLAYED;
 use laws::CARD_NOT_HELD;
 use laws::NO_CARD;
 ghost use mathlib.Core.Path.{_≡_};
@@ -22,6 +23,7 @@ ghost use Rattle.play.specs.Position.{
   turnOf,
   handOf,
   couldFollow,
+  wasDealt,
   worthOf,
   revokesWith,
   verdictOf,
@@ -70,6 +72,7 @@ pub enum CardVerdict {
     Playable,
     NoCard,
     NotHeld,
+    AlreadyPlayed,
 }
 
 impl CardVerdict {
@@ -81,6 +84,7 @@ impl CardVerdict {
             CardVerdict::Playable => ACCEPTED,
             CardVerdict::NoCard => NO_CARD,
             CardVerdict::NotHeld => CARD_NOT_HELD,
+            CardVerdict::AlreadyPlayed => CARD_ALREADY_PLAYED,
         }
     }
 }
@@ -141,7 +145,17 @@ impl Play {
         deal::holds_suit(self.hand(), (self.led % 4) as u8)
     }
 
-    // Whether a card may be played by the seat at turn.
+    // Whether the seat at turn was dealt the card.
+    fn was_dealt(self, card: u8) -> bool
+        requires { ⌜ card < 52 ⌝ }
+        ensures { λ r. ⌜ r ≡ wasDealt self card ⌝ }
+    {
+        let dealt = self.dealt;
+        let own = self.turn() as usize;
+        (dealt[own] >> card) % 2 == 1
+    }
+
+    // Whether a card may be played by the seat at turn; a card of its own that it does not hold it has played.
     pub fn verdict(self, card: u8) -> CardVerdict
         ensures { λ r. ⌜ r ≡ verdictOf self card ⌝ }
     {
@@ -152,6 +166,9 @@ impl Play {
         let seat = self.turn();
         if self.holders[at] as u64 == seat {
             return CardVerdict::Playable;
+        }
+        if self.was_dealt(card) {
+            return CardVerdict::AlreadyPlayed;
         }
         CardVerdict::NotHeld
     }

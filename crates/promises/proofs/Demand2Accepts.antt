@@ -17,19 +17,20 @@ use Rattle.laws.specs.Lawful.{Lawful}
 use Rattle.laws.proofs.Tests.{by-test}
 use Rattle.laws.proofs.Bytes.{bytes-of}
 use Rattle.laws.proofs.Readings.{test-is, test-stops}
+use Rattle.laws.proofs.CardRefusals.{already-played, anothers-card}
 use Rattle.laws.proofs.Accepts.{accepts-parts, read-back, unique}
-use Rattle.laws.proofs.Numbered.{Ruled, ruled}
+use Rattle.laws.proofs.Numbered.{Ruled, ruled, not-0}
 use Rattle.laws.proofs.Lengths.{at-least-20}
 use Rattle.promises.specs.Demand2.{Refusal, passedOutParts, oneClub, Demand2Accepts}
 use Rattle.promises.proofs.Demand2Records.{judged}
 
 -- an outcome with the number 0 is accepted: no refusal has the number 0
 reached : (o : Outcome) → Ruled o → numberOf o ≡ 0 → (p : Parts) × (o ≡ accepted p)
-reached (refused n place) f z = absurd (omega arith)
+reached (refused n place) f z = absurd (not-0 f z)
 reached (accepted p) f z = (p, refl)
 
 pub either : (o : Outcome) → Ruled o → (numberOf o ≡ 0) ⊎ Refusal (numberOf o)
-either (refused n place) f = inr (record { refusal = n; place = place; is = refl; from-1 = f .0; to-16 = f .1; places = f .2 })
+either (refused n place) f = inr (record { refusal = n; place = place; is = refl; of-record = f .number; places = f .place-lt })
 either (accepted p) f = inl refl
 
 module _ (bytes : List ℕ) (answer list : ℕ) where
@@ -102,4 +103,9 @@ demand-2-accepts =
       one-byte-more = judged .one-more;
       with-contract = (by-judging (oneClub 12) (judged .claim-12), judged .contract);
       one-too-many = judged .claim-13;
+      already-played = already-played;
+      anothers-card = anothers-card;
+      own-again = judged .own-again;
+      easts-again = judged .easts-again;
+      easts = judged .easts;
     }

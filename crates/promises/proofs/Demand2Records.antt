@@ -18,9 +18,9 @@ use Rattle.laws.specs.Judge
 use Rattle.laws.specs.Auction.{passedOut}
 use Rattle.laws.specs.Record.{encode}
 use Rattle.laws.specs.Judge.{Outcome.accepted, judgeOf, numberOf}
-use Rattle.promises.specs.Demand2.{fourPasses, passedOutParts, oneClub}
+use Rattle.promises.specs.Demand2.{fourPasses, passedOutParts, oneClub, fifthCard}
 
--- what the judge says of the two records, and of three that are one off
+-- what the judge says of the two records, of three that are one off, and of a fifth card that North does not hold
 pub record Judged : Type 0 where
   pub bytes : fourPasses ≡ encode passedOutParts
   pub passed-out : judgeOf (encode passedOutParts) 7 36 ≡ accepted passedOutParts
@@ -30,6 +30,9 @@ pub record Judged : Type 0 where
   pub claim-12 : judgeOf (encode (oneClub 12)) 7 36 ≡ accepted (oneClub 12)
   pub contract : passedOut (reverse (oneClub 12 .calls)) ≡ false
   pub claim-13 : numberOf (judgeOf (encode (oneClub 13)) 7 36) ≡ 15 * 1024 + 13
+  pub own-again : numberOf (judgeOf (encode (fifthCard 0)) 7 36) ≡ 23 * 1024 + 4
+  pub easts-again : numberOf (judgeOf (encode (fifthCard 13)) 7 36) ≡ 12 * 1024 + 4
+  pub easts : numberOf (judgeOf (encode (fifthCard 14)) 7 36) ≡ 12 * 1024 + 4
 
 pub judged : Judged
 unfolding
@@ -40,7 +43,7 @@ unfolding
     Auction.bidsStrain Auction.firstToBid Auction.declarer Auction.trumpAfter Auction.openingAfter CallRefusal.callRefusal
     Law44.cardsPlayed Law44.allPlayed Law44.tricksComplete Law44.tricksLeft Law44.cardsInTrick Law44.trickUnderWay
     Law44.suitLed Law44.highest Law44.winningCard Law44.playerOf Law44.winner Law44.leader Law44.toPlay
-    Law44.isPlayed Law44.holds Law44.playable CardRefusal.cardRefusal Law68.atClaimPoint Law68.claimable
+    Law44.isPlayed Law44.holds Law44.hasPlayed Law44.playable CardRefusal.cardRefusal Law68.atClaimPoint Law68.claimable
     Record.row Record.claimFields Record.layout Record.bits Record.padding Record.padded Record.number Record.bytesOf Record.packed Record.encode
     Reading.bitAt Reading.numberAt Reading.read Reading.refuse Reading.readRow Reading.readEach Reading.overfull Reading.ending
     Judge.readHeading Judge.readDeal Judge.readCalls Judge.readCards Judge.readNoClaim Judge.readMarkedClaim Judge.readClaim
@@ -55,4 +58,7 @@ judged =
       claim-12 = refl;
       contract = refl;
       claim-13 = refl;
+      own-again = refl;
+      easts-again = refl;
+      easts = refl;
     }

@@ -8,21 +8,22 @@ use mathlib.Core.Bool.{true, false}
 use mathlib.Core.List.{List, [], _∷_, _++_, reverse}
 use lib.ListN.{length, take, replicate}
 use Rattle.laws.specs.Bytes.{Bytes}
-use Rattle.laws.specs.Refusals.{shortBuffer}
-use Rattle.laws.specs.Cards.{north, east, south, west}
+use Rattle.laws.specs.Refusals.{refusesRecord, shortBuffer, cardNotHeld, cardAlreadyPlayed}
+use Rattle.laws.specs.Cards.{north, east, south, west, dealtTo}
 use Rattle.laws.specs.Auction.{pass, passedOut}
+use Rattle.laws.specs.Law44.{toPlay, isPlayed}
+use Rattle.laws.specs.CardRefusal.{cardRefusal}
 use Rattle.laws.specs.Law68.{none, agreed}
 use Rattle.laws.specs.Record.{Parts, encode}
 use Rattle.laws.specs.Judge.{Outcome.refused, Outcome.accepted, judgeOf, numberOf}
 use Rattle.laws.specs.Lawful.{Lawful}
 
--- a number that is a refusal from 1 to 16 × 1024, and a place below 1024
+-- a number that is a refusal of a record, 1 to 16 or 23, × 1024, and a place below 1024
 pub record Refusal (number : ℕ) : Type 0 where
   pub refusal : ℕ
   pub place : ℕ
   pub is : number ≡ refusal * 1024 + place
-  pub from-1 : 1 ≤ refusal
-  pub to-16 : refusal ≤ 16
+  pub of-record : refusesRecord refusal ≡ true
   pub places : place < 1024
 
 -- the first record of docs/RULES.md's examples: North holds the clubs, East the diamonds, South the hearts, West the spades, and four players pass
@@ -47,6 +48,18 @@ oneClub tricks =
       calls = 3 ∷ pass ∷ pass ∷ pass ∷ [];
       cards = 13 ∷ 26 ∷ 39 ∷ 0 ∷ [];
       claim = agreed tricks;
+    }
+
+-- the same without a claim: North has won that trick with the two of clubs and leads a fifth card
+abbrev pub fifthCard : ℕ → Parts
+fifthCard card =
+    record {
+      board = 1;
+      table = 1;
+      deal = oneSuitEach;
+      calls = 3 ∷ pass ∷ pass ∷ pass ∷ [];
+      cards = 13 ∷ 26 ∷ 39 ∷ 0 ∷ card ∷ [];
+      claim = none;
     }
 
 pub record Demand2Accepts : Type 0 where
@@ -77,3 +90,13 @@ pub record Demand2Accepts : Type 0 where
   -- lawful parts with a contract and a claim of 12; a claim of 13 is 15
   pub with-contract : Lawful (oneClub 12) × (passedOut (reverse (oneClub 12 .calls)) ≡ false)
   pub one-too-many : numberOf (judgeOf (encode (oneClub 13)) 7 36) ≡ 15 * 1024 + 13
+  -- after every play: a card is refused with 23 exactly when the seat at turn was dealt it and it has been played, and with 12 exactly when
+  -- it was dealt to another seat, played or not
+  pub already-played : (trump opening : ℕ) (deal g : List ℕ) (card : ℕ) → card < 52
+      → (cardRefusal trump opening deal g card ≡ cardAlreadyPlayed) ↔ ((dealtTo deal card ≡ toPlay trump opening g) × (isPlayed g card ≡ true))
+  pub anothers-card : (trump opening : ℕ) (deal g : List ℕ) (card : ℕ) → card < 52
+      → (cardRefusal trump opening deal g card ≡ cardNotHeld) ↔ (dealtTo deal card ≡ toPlay trump opening g → ⊥)
+  -- North's two of clubs a second time is 23; East's two of diamonds a second time is 12, and so is East's three of diamonds
+  pub own-again : numberOf (judgeOf (encode (fifthCard 0)) 7 36) ≡ 23 * 1024 + 4
+  pub easts-again : numberOf (judgeOf (encode (fifthCard 13)) 7 36) ≡ 12 * 1024 + 4
+  pub easts : numberOf (judgeOf (encode (fifthCard 14)) 7 36) ≡ 12 * 1024 + 4

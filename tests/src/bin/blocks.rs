@@ -18,7 +18,7 @@ fn main() {
         let made = making::lawful(&mut random);
         let whole = made.parts.bytes();
         let mut cases = vec![whole.clone(), damage::flipped(&mut random, &whole), damage::noise(&mut random, &whole)];
-        cases.extend(damage::KINDS.filter_map(|kind| damage::damaged(&mut random, &made, kind)).map(|d| d.bytes));
+        cases.extend(damage::KINDS.into_iter().filter_map(|kind| damage::damaged(&mut random, &made, kind)).map(|d| d.bytes));
         cases.extend((0..3).map(|_| making::lawful(&mut random).parts.bytes()));
         for record in &cases {
             let room = if random.percent(5) { Room::shorter(&mut random) } else { Room::EXACT };
