@@ -55,7 +55,7 @@ claim-bits none = (omega arith, omega arith)
 claim-bits (agreed tricks) = (omega arith, omega arith)
 
 -- the fields of a record, counted in bits
-layout-bits : (p : Parts) → bits (layout p) ≡ 31 + 2 * length (p .deal) + 6 * length (p .calls) + 6 * length (p .cards) + bits (claimFields (p .claim))
+pub layout-bits : (p : Parts) → bits (layout p) ≡ 31 + 2 * length (p .deal) + 6 * length (p .calls) + 6 * length (p .cards) + bits (claimFields (p .claim))
 unfolding layout bits
 layout-bits p =
     let last : List Field = claimFields (p .claim) in

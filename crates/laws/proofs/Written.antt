@@ -25,7 +25,7 @@ unfolding bits
 bits-append [] gs = sym (zero-add (bits gs))
 bits-append (f ∷ fs) gs = rw (bits-append fs gs) (omega arith)
 
-number-append : (fs gs : List Field) → number (fs ++ gs) ≡ number fs * 2 ^ bits gs + number gs
+pub number-append : (fs gs : List Field) → number (fs ++ gs) ≡ number fs * 2 ^ bits gs + number gs
 unfolding number
 number-append [] gs = rw (zero-mul (2 ^ bits gs), zero-add (number gs))
 number-append (f ∷ fs) gs =

@@ -1,0 +1,4 @@
+pub mod Storing
+pub mod Rows
+pub mod Sequences
+pub mod Fields

@@ -1,0 +1,40 @@
+-- How many bytes the contents of a record take. Assumes nothing.
+use Prim.Native.Nat.{ℕ, _+_, _*_, _/_, _≤_, min}
+use native.Mathlib.Nat.{min-eq-left}
+use native.Mathlib.Omega.{arith}
+use mathlib.Core.Path.{_≡_}
+use mathlib.Core.Bool.{true, false}
+use mathlib.Core.List.{List}
+use borrow.Author.Tests.{eq-eqb, ne-eqb}
+use lib.Dec.{eqb}
+use lib.ListN.{length}
+use Rattle.laws.specs.Choice.{if_then_else_}
+use Rattle.laws.specs.Record.{bits, claimFields, layout, encode}
+use Rattle.laws.proofs.Tests.{by-test}
+use Rattle.laws.proofs.Spelled.{length-packed}
+use Rattle.laws.proofs.Lengths.{layout-bits}
+use Rattle.writer.specs.Written.{claimOf, contentsOf, lengthOf}
+
+pub unmarked-length : (calls cards marked : ℕ) {a b : ℕ} → marked ≡ 0 → a ≡ min calls 511 → b ≡ min cards 63
+    → (143 + 6 * (a + b)) / 8 ≡ lengthOf calls cards marked
+unfolding lengthOf
+unmarked-length calls cards marked z e f = rw (eq-eqb marked 0 z, e, f) (omega arith)
+
+pub marked-length : (calls cards marked : ℕ) {a b : ℕ} → (marked ≡ 0 → ⊥) → a ≡ min calls 511 → b ≡ min cards 63
+    → (147 + 6 * (a + b)) / 8 ≡ lengthOf calls cards marked
+unfolding lengthOf
+marked-length calls cards marked z e f = rw (ne-eqb marked 0 z, e, f) (omega arith)
+
+claim-bits : (marked tricks : ℕ) → bits (claimFields (claimOf marked tricks)) ≡ (if eqb marked 0 then 1 else 5)
+unfolding claimFields bits
+claim-bits marked tricks =
+    by-test (eqb marked 0) (λ (q : eqb marked 0 ≡ true). rw q) (λ (q : eqb marked 0 ≡ false). rw q)
+
+-- with 52 holders, and counts that their fields can hold, it is the record's length
+pub length-encoded : (board table : ℕ) (holders calls cards : List ℕ) (marked tricks : ℕ) → length holders ≡ 52 → length calls ≤ 511 → length cards ≤ 63
+    → lengthOf (length calls) (length cards) marked ≡ length (encode (contentsOf board table holders calls cards marked tricks))
+unfolding lengthOf encode
+length-encoded board table holders calls cards marked tricks h a b =
+    let p = contentsOf board table holders calls cards marked tricks in
+    let last = claim-bits marked tricks in
+    rw (min-eq-left a, min-eq-left b, ← last) (omega (arith, length-packed (layout p), layout-bits p))
