@@ -49,7 +49,7 @@ unfolding bits row
 bits-row w [] = sym (mul-zero w)
 bits-row w (v ∷ l) = omega (arith, bits-row w l, mul-suc w (length l))
 
-claim-bits : (claim : Claim) → (1 ≤ bits (claimFields claim)) × (bits (claimFields claim) ≤ 5)
+pub claim-bits : (claim : Claim) → (1 ≤ bits (claimFields claim)) × (bits (claimFields claim) ≤ 5)
 unfolding claimFields bits
 claim-bits none = (omega arith, omega arith)
 claim-bits (agreed tricks) = (omega arith, omega arith)

@@ -35,3 +35,4 @@ pub mod SideTricks
 pub mod AllotmentPlaces
 pub mod BestTotal
 pub mod Lengths
+pub mod FirstBytes

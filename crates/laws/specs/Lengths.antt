@@ -1,4 +1,5 @@
--- An auction each of whose calls is allowed, and the longest one: three passes, then every bid in its order, each doubled and redoubled after two passes.
+-- An auction each of whose calls is allowed, and the longest one: three passes, then every bid in its order, each doubled and redoubled after two passes;
+-- how many bytes an accepted record has at the most, and how many first bytes decide what is said of any.
 -- A history has the latest call first, as in `Auction`.
 -- Assumes nothing.
 use Prim.Native.Nat.{ℕ, zero, suc, _+_}
@@ -24,3 +25,11 @@ bidsInTurn (suc n) = twicePassed (3 + n) (bidsInTurn n)
 -- all 35 bids, and a third pass after the last: an auction of 319 calls
 unfoldable pub longestAuction : List ℕ
 longestAuction = pass ∷ bidsInTurn 35
+
+-- an accepted record has at most so many bytes
+abbrev pub mostBytes : ℕ
+mostBytes = 296
+
+-- the judge says the same of any bytes and of their first so many: of those that an accepted record can have, and one more
+abbrev pub decidingBytes : ℕ
+decidingBytes = mostBytes + 1

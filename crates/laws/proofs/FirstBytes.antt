@@ -1,0 +1,200 @@
+-- What the judge says of any bytes it says of their first 297: no section reads behind them, and a byte more than an accepted record can have is one too
+-- many however many follow. Assumes nothing.
+use Prim.Native.Nat.{ℕ, zero, suc, _+_, _-_, _*_, _/_, _%_, _^_, _≤_, _<_}
+use native.Mathlib.Nat.{mul-suc}
+use native.Mathlib.Omega.{arith}
+use mathlib.Core.Path.{_≡_, refl, sym, ap, _∙_}
+use mathlib.Core.Bool.{Bool, true, false, not, _&&_, _||_}
+use mathlib.Core.List.{List, [], _∷_, reverse}
+use borrow.Author.Tests.{le-leb, ltb-true, ltb-false, eqb-true, not-false}
+use lib.Dec.{ltb, leb, eqb}
+use lib.ListN.{length, getD, take, length-reverse}
+use lib.Seq.{length-take-le, getD-take, take-all}
+use Rattle.laws.specs.Choice.{if_then_else_}
+use Rattle.laws.specs.Refusals.{accepted, recordEnds, notPadding, noBoardOrTable, notThirteen, auctionUnfinished, shortBuffer}
+use Rattle.laws.specs.Refusals.{tooManyCards, playUnfinished, noClaimPoint, claimTooMany}
+use Rattle.laws.specs.Cards.{noSeat, seatWithoutThirteen}
+use Rattle.laws.specs.Law2.{dealer}
+use Rattle.laws.specs.Auction.{allowed, isOver, passedOut, callPlace, trumpAfter, openingAfter}
+use Rattle.laws.specs.CallRefusal.{callRefusal}
+use Rattle.laws.specs.Law44.{cardsPlayed, allPlayed}
+use Rattle.laws.specs.CardRefusal.{cardRefusal}
+use Rattle.laws.specs.Law68.{Claim, atClaimPoint, claimable}
+use Rattle.laws.specs.Record.{Parts, bits}
+use Rattle.laws.specs.Reading.{bitAt, numberAt, Reading, Reading.refused, Reading.found, onward, read, refuse, readRow, readEach, overfull, ending}
+use Rattle.laws.specs.Judge.{readHeading, readDeal, readCalls, readCards, readNoClaim, readMarkedClaim, readClaim, readRecord, readLent, outcome, judgeOf}
+use Rattle.laws.specs.Lengths.{AllAllowed, decidingBytes}
+use Rattle.laws.proofs.Tests.{by-test, or-left}
+use Rattle.laws.proofs.Bits.{number-lt}
+use Rattle.laws.proofs.Readings.{read-is}
+use Rattle.laws.proofs.CallRefusals.{accepted-is}
+use Rattle.laws.proofs.Histories.{each-place}
+use Rattle.laws.proofs.LongestAuction.{at-most-319, at-most-319-in-order}
+use Rattle.laws.proofs.Lengths.{bits-row, claim-bits}
+use Rattle.laws.proofs.Sections.{MayCall, heading-exact, deal-exact, calls-exact, cards-exact}
+use Rattle.laws.proofs.Claims.{claim-exact}
+
+-- two readings that go on alike from what a first one found
+module _ {A B : Type 0} (f g : A → ℕ → Reading B) where
+  alike : (r : Reading A) → ((a : A) (m : ℕ) → r ≡ found a m → f a m ≡ g a m) → onward r f ≡ onward r g
+  alike (refused n place) next = refl
+  alike (found a m) next = next a m refl
+
+  same-on : (r s : Reading A) → r ≡ s → ((a : A) (m : ℕ) → r ≡ found a m → f a m ≡ g a m) → onward r f ≡ onward s g
+  same-on r s e next = rw (sym e) (alike r next)
+
+-- a test is the same of any bytes
+module _ {B : Type 0} (n place : ℕ) (bytes other : List ℕ) (at : ℕ) (f g : Unit {0} → ℕ → Reading B) where
+  same-test : (test : Bool) → (test ≡ false → f tt at ≡ g tt at) → onward (refuse n place test bytes at) f ≡ onward (refuse n place test other at) g
+  unfolding refuse
+  same-test true next = refl
+  same-test false next = next refl
+
+-- bytes, of which there are at least `most`, and their first `most`
+module _ (most : ℕ) (bytes : List ℕ) (long : most ≤ length bytes) where
+  abbrev front : List ℕ
+  front = take most bytes
+
+  front-length : length front ≡ most
+  front-length = length-take-le most bytes long
+
+  same-bit : (i : ℕ) → i < 8 * most → bitAt bytes i ≡ bitAt front i
+  unfolding bitAt
+  same-bit i h = rw (getD-take most bytes (i / 8) 0 (omega arith))
+
+  same-number : (at w : ℕ) → at + w ≤ 8 * most → numberAt bytes at w ≡ numberAt front at w
+  unfolding numberAt
+  same-number at zero h = refl
+  same-number at (suc w) h = rw (same-number at w (omega arith), same-bit (at + w) (omega arith))
+
+  -- ---- a field, a row, and codes in a row
+  module _ {B : Type 0} (w at : ℕ) (f g : ℕ → ℕ → Reading B) (within : at + w ≤ 8 * most) where
+    same-field : ((v : ℕ) → v < 2 ^ w → f v (at + w) ≡ g v (at + w)) → onward (read w bytes at) f ≡ onward (read w front at) g
+    same-field next =
+        rw (
+          read-is w bytes at refl (omega arith),
+          read-is w front at (sym (same-number at w within)) (rw front-length within),
+        ) (next (numberAt bytes at w) (number-lt bytes at w))
+
+  same-row : (w n at : ℕ) → at + w * n ≤ 8 * most → readRow w n bytes at ≡ readRow w n front at
+  unfolding readRow
+  same-row w zero at h = refl
+  same-row w (suc n) at h =
+      let more : at + w + w * n ≤ 8 * most = omega (arith, mul-suc w n) in
+      same-field w at _ _ (omega arith) (λ v low. same-on _ _ _ _ (same-row w n (at + w) more) (λ rest m q. refl))
+
+  -- codes that a rule judges: where a turn is reached, its code stands within the first bytes
+  module _ (w : ℕ) (place : List ℕ → ℕ) (rule : List ℕ → ℕ → ℕ) (Reached : ℕ → List ℕ → ℕ → Type 0)
+      (within : (n : ℕ) (h : List ℕ) (at : ℕ) → Reached (suc n) h at → at + w ≤ 8 * most)
+      (goes-on : (n : ℕ) (h : List ℕ) (at c : ℕ) → rule h c ≡ accepted → Reached (suc n) h at → Reached n (c ∷ h) (at + w)) where
+    same-each : (n : ℕ) (h : List ℕ) (at : ℕ) → Reached n h at → readEach w place rule n h bytes at ≡ readEach w place rule n h front at
+    unfolding readEach
+    same-each zero h at r = refl
+    same-each (suc n) h at r =
+        same-field w at _ _ (within n h at r) (λ c low.
+        same-test (rule h c) (place h) bytes front (at + w) _ _ (not (eqb (rule h c) accepted)) (λ t.
+        same-each n (c ∷ h) (at + w) (goes-on n h at c (eqb-true (rule h c) accepted (not-false _ t)) r)))
+
+  -- ---- the sections
+  same-heading : (at : ℕ) → at + 16 ≤ 8 * most → readHeading bytes at ≡ readHeading front at
+  unfolding readHeading
+  same-heading at h =
+      same-field 7 at _ _ (omega arith) (λ board lb. same-field 9 (at + 7) _ _ (omega arith) (λ table lt.
+      same-test noBoardOrTable 0 bytes front (at + 7 + 9) _ _ (eqb board 0) (λ b.
+      same-test noBoardOrTable 1 bytes front (at + 7 + 9) _ _ (eqb table 0) (λ t. refl))))
+
+  same-deal : (at : ℕ) → at + 104 ≤ 8 * most → readDeal bytes at ≡ readDeal front at
+  unfolding readDeal
+  same-deal at h =
+      same-on _ _ _ _ (same-row 2 52 at h) (λ deal m q.
+      same-test notThirteen (seatWithoutThirteen deal) bytes front m _ _ (not (eqb (seatWithoutThirteen deal) noSeat)) (λ t. refl))
+
+  -- allowed calls are at most 319, so at most a 320th is read
+  module _ (d first : ℕ) (room : first + 6 * 320 ≤ 8 * most) where
+    abbrev CallReached : ℕ → List ℕ → ℕ → Type 0
+    CallReached n h at = AllAllowed d h × (at ≡ first + 6 * length h)
+
+    call-within : (n : ℕ) (h : List ℕ) (at : ℕ) → CallReached (suc n) h at → at + 6 ≤ 8 * most
+    call-within n h at r = omega (arith, at-most-319 d h (r .0), r .1)
+
+    call-goes-on : (n : ℕ) (h : List ℕ) (at c : ℕ) → callRefusal d h c ≡ accepted → CallReached (suc n) h at → CallReached n (c ∷ h) (at + 6)
+    unfolding AllAllowed
+    call-goes-on n h at c e r = ((accepted-is d h c .0 e, r .0), omega (arith, r .1))
+
+  same-calls : (d at : ℕ) → at + 9 + 6 * 320 ≤ 8 * most → readCalls d bytes at ≡ readCalls d front at
+  unfolding readCalls AllAllowed
+  same-calls d at h =
+      same-field 9 at _ _ (omega arith) (λ n ln. same-on _ _ _ _
+      (same-each 6 callPlace (callRefusal d) (CallReached d (at + 9) h) (call-within d (at + 9) h) (call-goes-on d (at + 9) h) n [] (at + 9) (tt, omega arith))
+      (λ calls m q. same-test auctionUnfinished n bytes front m _ _ (not (isOver calls)) (λ t. refl)))
+
+  -- at most 52 cards are read
+  same-cards : (d : ℕ) (deal h : List ℕ) (at : ℕ) → at + 6 + 6 * 52 ≤ 8 * most → readCards d deal h bytes at ≡ readCards d deal h front at
+  unfolding readCards
+  same-cards d deal h at room =
+      same-field 6 at _ _ (omega arith) (λ n ln.
+      same-test tooManyCards n bytes front (at + 6) _ _ (ltb 52 n || (passedOut h && ltb 0 n)) (λ t.
+      let few : n ≤ 52 = ltb-false 52 n (or-left (ltb 52 n) _ t) in
+      same-each 6 cardsPlayed (cardRefusal (trumpAfter h) (openingAfter d h) deal) (λ k g m. m + 6 * k ≤ 8 * most)
+      (λ k g m r. omega (arith, r)) (λ k g m c e r. omega (arith, r)) n [] (at + 6) (omega arith)))
+
+  same-claim : (h g : List ℕ) (at : ℕ) → at + 5 ≤ 8 * most → readClaim h g bytes at ≡ readClaim h g front at
+  unfolding readClaim readNoClaim readMarkedClaim
+  same-claim h g at room = same-field 1 at _ _ (omega arith) (λ mark lm. either (eqb mark 0))
+    where
+      either : (b : Bool) → (if b then readNoClaim h g else readMarkedClaim h g) bytes (at + 1) ≡ (if b then readNoClaim h g else readMarkedClaim h g) front (at + 1)
+      either true = same-test playUnfinished (cardsPlayed g) bytes front (at + 1) _ _ (not (passedOut h) && not (allPlayed g)) (λ t. refl)
+      either false =
+          same-test noClaimPoint (cardsPlayed g) bytes front (at + 1) _ _ (passedOut h || not (atClaimPoint g)) (λ t.
+          same-field 4 (at + 1) _ _ (omega arith) (λ tricks lt.
+          same-test claimTooMany tricks bytes front (at + 1 + 4) _ _ (not (claimable g tricks)) (λ u. refl)))
+
+  -- a whole byte is left in either
+  same-ending : (at : ℕ) → at + 8 ≤ 8 * most → ending bytes at ≡ ending front at
+  unfolding ending overfull refuse
+  same-ending at h =
+      rw (front-length, le-leb 8 (8 * length bytes - at) (omega arith), le-leb 8 (8 * most - at) (omega arith))
+
+  -- ---- the whole record
+  calls-few : (d at : ℕ) (h : List ℕ) {end : ℕ} → at ≤ 8 * length bytes → readCalls d bytes at ≡ found h end → (length h ≤ 319) × (end ≡ at + 9 + 6 * length h)
+  unfolding bits
+  calls-few d at h l q =
+      let c = calls-exact d .reads bytes at h _ l q in
+      let few = at-most-319-in-order d (reverse h) (each-place (MayCall d) (reverse h) .0 (c .0 .allow)) in
+      (omega (arith, few, length-reverse h), omega (arith, c .1 .next, bits-row 6 (reverse h), length-reverse h))
+
+  same-record : decidingBytes ≤ most → readRecord bytes 0 ≡ readRecord front 0
+  unfolding readRecord bits
+  same-record enough =
+      same-on _ _ _ _ (same-heading 0 (omega arith)) (λ x m₁ q₁.
+      let d : ℕ = dealer (x .board) in
+      let h₁ = heading-exact .reads bytes 0 x m₁ (omega arith) q₁ in
+      let e₁ : m₁ ≡ 16 = omega (arith, h₁ .1 .next) in
+      same-on _ _ _ _ (same-deal m₁ (omega arith)) (λ deal m₂ q₂.
+      let h₂ = deal-exact .reads bytes m₁ deal m₂ (h₁ .1 .whole) q₂ in
+      let e₂ : m₂ ≡ 120 = omega (arith, h₂ .1 .next, bits-row 2 deal, h₂ .0 .holders) in
+      same-on _ _ _ _ (same-calls d m₂ (omega arith)) (λ h m₃ q₃.
+      let c = calls-few d m₂ h (h₂ .1 .whole) q₃ in
+      let h₃ = calls-exact d .reads bytes m₂ h m₃ (h₂ .1 .whole) q₃ in
+      let e₃ : m₃ ≤ 2043 = omega (arith, c .0, c .1) in
+      same-on _ _ _ _ (same-cards d deal h m₃ (omega arith)) (λ g m₄ q₄.
+      let h₄ = cards-exact d deal h (h₂ .0 .holders) .reads bytes m₃ g m₄ (h₃ .1 .whole) q₄ in
+      let e₄ : m₄ ≤ 2361 = omega (arith, h₄ .1 .next, bits-row 6 (reverse g), length-reverse g, h₄ .0 .count) in
+      same-on _ _ _ _ (same-claim h g m₄ (omega arith)) (λ t m₅ q₅.
+      let h₅ = claim-exact h g .reads bytes m₄ t m₅ (h₄ .1 .whole) q₅ in
+      let e₅ : m₅ ≤ 2366 = omega (arith, h₅ .1 .next, claim-bits t .1) in
+      same-on _ _ _ _ (same-ending m₅ (omega arith)) (λ u m₆ q₆. refl))))))
+
+  same-lent : decidingBytes ≤ most → (answer list : ℕ) → judgeOf bytes answer list ≡ judgeOf front answer list
+  unfolding judgeOf readLent
+  same-lent enough answer list =
+      ap outcome
+      (same-test shortBuffer 0 bytes front 0 _ _ (ltb answer 7) (λ a.
+      same-test shortBuffer 1 bytes front 0 _ _ (ltb list 36) (λ b. same-record enough)))
+
+-- ---- the theorem: as many first bytes as decide, or more, are judged as the whole
+pub first-bytes : (most : ℕ) → decidingBytes ≤ most → (bytes : List ℕ) (answer list : ℕ) → judgeOf bytes answer list ≡ judgeOf (take most bytes) answer list
+first-bytes most enough bytes answer list =
+    by-test (ltb (length bytes) most)
+    (λ (q : ltb (length bytes) most ≡ true). rw (take-all most bytes (omega (arith, ltb-true (length bytes) most q))))
+    (λ (q : ltb (length bytes) most ≡ false). same-lent most bytes (ltb-false (length bytes) most q) enough answer list)
