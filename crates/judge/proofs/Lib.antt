@@ -11,3 +11,6 @@ pub mod Beginning
 pub mod Composing
 pub mod Answering
 pub mod SixBits
+pub mod Widths
+pub mod Granting
+pub mod Explaining

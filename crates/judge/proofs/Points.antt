@@ -51,6 +51,9 @@ overtrick-le s =
     doubling-le s _ _ _ 400 (omega (arith, value-le (s .strain))) (vulnerability-le s 100 200 400 (omega arith) (omega arith))
     (vulnerability-le s 200 400 400 (omega arith) (omega arith))
 
+pub overtricks-le : (s : Stake) (over : ℕ) → over < 4294967296 → over * overtrickValue s ≤ 4294967296 * 400
+overtricks-le s over h = mul-le-mul {n₁ = over} {n₂ = 4294967296} (omega arith) (overtrick-le s)
+
 pub doubled-le : (s : Stake) (k : ℕ) → doubledUndertrick s k ≤ 300
 unfolding doubledUndertrick
 doubled-le s k =

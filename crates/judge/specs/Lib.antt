@@ -2,3 +2,4 @@ pub mod Scoring
 pub mod Sections
 pub mod Settled
 pub mod Whole
+pub mod Explained

@@ -1,6 +1,6 @@
 // Law 77, item by item: the score of a contract.
 ghost use mathlib.Core.Path.{_≡_};
-ghost use Prim.Native.Nat.{_+_, _-_, _<_};
+ghost use Prim.Native.Nat.{_+_, _-_, _*_, _<_};
 ghost use lib.IntN.{natAbs};
 ghost use Rattle.laws.specs.Choice.{if_then_else_};
 ghost use Rattle.laws.specs.Law77;
@@ -54,7 +54,7 @@ fn first_trick_value(strain: u8) -> u32
     trick_value(strain)
 }
 
-fn trick_points(s: Stake) -> u32
+pub(crate) fn trick_points(s: Stake) -> u32
     ensures { λ r. ⌜ r ≡ Law77.trickPoints (stakeOf s) ⌝ }
 {
     let odd_tricks = first_trick_value(s.strain) + less(s.level, 1) * trick_value(s.strain);
@@ -89,7 +89,7 @@ fn undertrick_value(s: Stake, k: u32) -> u32
     by_doubling(s, undoubled, doubled, 2 * doubled)
 }
 
-fn undertricks(s: Stake, n: u32) -> u64
+pub(crate) fn undertricks(s: Stake, n: u32) -> u64
     ensures { λ r. ⌜ r ≡ Law77.undertricks (stakeOf s) n ⌝ }
 {
     let mut points: u64 = 0;
@@ -101,16 +101,31 @@ fn undertricks(s: Stake, n: u32) -> u64
     points
 }
 
-fn part_score_or_game(s: Stake) -> u32
-    ensures { λ r. ⌜ r ≡ Law77.partScorePoints (stakeOf s) + Law77.gamePoints (stakeOf s) ⌝ }
+fn is_game(s: Stake) -> bool
+    ensures { λ r. ⌜ r ≡ Law77.isGame (stakeOf s) ⌝ }
 {
-    if 100 <= trick_points(s) {
-        return by_vulnerability(s, 300, 500);
+    100 <= trick_points(s)
+}
+
+pub(crate) fn part_score_points(s: Stake) -> u32
+    ensures { λ r. ⌜ r ≡ Law77.partScorePoints (stakeOf s) ⌝ }
+{
+    if is_game(s) {
+        return 0;
     }
     50
 }
 
-fn slam_points(s: Stake) -> u32
+pub(crate) fn game_points(s: Stake) -> u32
+    ensures { λ r. ⌜ r ≡ Law77.gamePoints (stakeOf s) ⌝ }
+{
+    if is_game(s) {
+        return by_vulnerability(s, 300, 500);
+    }
+    0
+}
+
+pub(crate) fn slam_points(s: Stake) -> u32
     ensures { λ r. ⌜ r ≡ Law77.slamPoints (stakeOf s) ⌝ }
 {
     if s.level == 6 {
@@ -122,12 +137,25 @@ fn slam_points(s: Stake) -> u32
     0
 }
 
+pub(crate) fn doubling_points(s: Stake) -> u32
+    ensures { λ r. ⌜ r ≡ Law77.doublingPoints (stakeOf s) ⌝ }
+{
+    by_doubling(s, 0, 50, 100)
+}
+
+// So many overtricks.
+pub(crate) fn overtricks(s: Stake, over: u32) -> u64
+    ensures { λ r. ⌜ r ≡ over * Law77.overtrickValue (stakeOf s) ⌝ }
+{
+    over as u64 * overtrick_value(s) as u64
+}
+
 // The points of a contract made with so many overtricks.
 fn made(s: Stake, over: u32) -> u64
     ensures { λ r. ⌜ r ≡ madePoints (stakeOf s) over ⌝ }
 {
-    let premiums = part_score_or_game(s) + slam_points(s) + by_doubling(s, 0, 50, 100);
-    trick_points(s) as u64 + over as u64 * overtrick_value(s) as u64 + premiums as u64
+    let premiums = part_score_points(s) + game_points(s) + slam_points(s) + doubling_points(s);
+    trick_points(s) as u64 + overtricks(s, over) + premiums as u64
 }
 
 // The score of declarer's side.

@@ -5,11 +5,15 @@ mod codes;
 mod law77;
 mod reading;
 mod settle;
+mod slip;
 mod whole;
 
 use crate::whole::judge;
 use laws::SHORT_BUFFER;
 use laws::refusal_number;
+pub use slip::Explained;
+pub use slip::Items;
+pub use slip::explain;
 ghost use mathlib.Core.Path.{_≡_};
 ghost use mathlib.Core.List.{_++_};
 ghost use Prim.Native.Nat.{_<_, _≤_};

@@ -13,7 +13,7 @@ ghost use Rattle.laws.specs.Judgement.{twosComplement};
 ghost use Rattle.judge.specs.Settled.{headFields, playFields, wonIn, settledFields};
 
 // The score from North-South.
-fn ns_score(score: i64, declarer: u8) -> i64
+pub(crate) fn ns_score(score: i64, declarer: u8) -> i64
     requires { ⌜ natAbs score < 10000000000000 ⌝ }
     ensures { λ r. ⌜ (r ≡ nsScore declarer score) × (natAbs r < 10000000000000) ⌝ }
 {

@@ -35,7 +35,7 @@ module _ (bytes : List ℕ) where
   )
 
   -- read to the end: the parts are lawful, and stand in the bytes with padding behind them
-  judged : (p : Parts) (end : ℕ) → readRecord bytes 0 ≡ found p end → (Lawful p × Stands bytes 0 (layout p) end) × Padded bytes end
+  pub judged : (p : Parts) (end : ℕ) → readRecord bytes 0 ≡ found p end → (Lawful p × Stands bytes 0 (layout p) end) × Padded bytes end
   unfolding readRecord
   judged p end q =
       let x = first-of (readHeading bytes 0) _ q in

@@ -36,3 +36,4 @@ pub mod AllotmentPlaces
 pub mod BestTotal
 pub mod Lengths
 pub mod FirstBytes
+pub mod Slip

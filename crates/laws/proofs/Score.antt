@@ -15,7 +15,7 @@ use Rattle.laws.proofs.Integers.{size-neg}
 use Rattle.laws.proofs.Counts.{everyBelow, every-below}
 
 -- ---- the sum of the items
-no-undertricks : (s : Stake) (tricks : ℕ) → isMade s tricks ≡ true → undertrickPoints s tricks ≡ 0
+pub no-undertricks : (s : Stake) (tricks : ℕ) → isMade s tricks ≡ true → undertrickPoints s tricks ≡ 0
 unfolding isMade undertrickPoints undertricks
 no-undertricks s tricks e =
     let none : tricksNeeded s - tricks ≡ 0 = omega (arith, leb-true (tricksNeeded s) tricks e) in

@@ -5,7 +5,7 @@ use Prim.Native.Nat.{ℕ}
 use mathlib.Core.Bool.{Bool}
 use mathlib.Core.List.{List, [], _∷_, _++_}
 use lib.Dec.{eqb}
-use lib.IntN.{ℤ, pos, negℤ, natAbs}
+use lib.IntN.{ℤ, pos, negℤ, natAbs, _+ℤ_}
 use Rattle.laws.specs.Choice.{if_then_else_}
 use Rattle.laws.specs.Auction.{passedOut}
 use Rattle.laws.specs.Law77.{Items, items, nsScore}
@@ -64,6 +64,11 @@ itemsAmong points (name ∷ names) =
 unfoldable pub itemsOf : Parts → List Item
 itemsOf p = itemsAmong (pointsOf p) inOrder
 
+-- the points of some items together
+unfoldable pub sumOf : List Item → ℤ
+sumOf [] = pos 0
+sumOf (i ∷ rest) = i .points +ℤ sumOf rest
+
 -- ---- the text
 abbrev pub wordOf : Name → List ℕ
 wordOf TRICKS = 84 ∷ 82 ∷ 73 ∷ 67 ∷ 75 ∷ 83 ∷ []
@@ -99,3 +104,7 @@ slipOf (accepted p) = lines (itemsOf p) ++ line sumWord (scoreOf p)
 -- the slip of a record, which is judged with buffers of the least lengths, so that none is too short
 unfoldable pub slip : List ℕ → List ℕ
 slip bytes = slipOf (judgeOf bytes 7 36)
+
+-- no slip has more bytes
+abbrev pub mostSlipBytes : ℕ
+mostSlipBytes = 72

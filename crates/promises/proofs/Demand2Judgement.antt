@@ -21,7 +21,7 @@ use Rattle.laws.proofs.Tests.{by-test}
 use Rattle.laws.proofs.Written.{Fit, read-back}
 use Rattle.judge.proofs.Answering.{answer-bits, seven-bytes, few-revokes}
 use Rattle.promises.proofs.Demand1.{was-read}
-use Rattle.promises.proofs.Widths.{won-le, after-le, declarer-lt, level-le, strain-le, doubled-le, valid, word-lt}
+use Rattle.judge.proofs.Widths.{won-le, after-le, declarer-lt, level-le, strain-le, doubled-le, valid, word-lt}
 use Rattle.laws.proofs.Revokes.{listed-exactly}
 use Rattle.promises.specs.Demand1.{saidOf}
 use Rattle.promises.specs.Demand2Judgement.{RevokeOf, Demand2Judgement, ContractBits, AnswerBits, Demand2Bits}

@@ -4,7 +4,6 @@ pub mod Demand2Accepts
 pub mod Lengths
 pub mod BestTotal
 pub mod Demand1
-pub mod Widths
 pub mod Demand2Judgement
 pub mod Demand2Revokes
 pub mod Demand3
