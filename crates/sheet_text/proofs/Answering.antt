@@ -38,7 +38,7 @@ points-short ns ew h k = omega (arith, points-length ns ew, length-by 9 ns (omeg
 pub line-short : (k : ℕ) → k < 2 ^ 64 → length (refusal k) ≤ 34
 line-short k h = omega (arith, refusal-length k, length-by 19 k (omega arith))
 
-size-short : (s : ℤ) → SFits w16 s → length (signedDecimal s) ≤ 6
+pub size-short : (s : ℤ) → SFits w16 s → length (signedDecimal s) ≤ 6
 unfolding signedDecimal
 size-short (pos n) f = omega (arith, length-by 4 n (omega (arith, f .sfits)))
 size-short (negsuc n) f = omega (arith, length-by 4 (suc n) (omega (arith, f .sfits)))

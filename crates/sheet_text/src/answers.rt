@@ -24,7 +24,7 @@ fn put_refused(out: &mut [u8], n: u8) -> usize
     put_byte(out, end, 10)
 }
 
-fn put_points(out: &mut [u8], ns: u32, ew: u32) -> usize
+pub(crate) fn put_points(out: &mut [u8], ns: u32, ew: u32) -> usize
     requires { ⌜ length (pointsText ns ew) ≤ length (now out) ⌝ }
     ensures { λ r. ⌜ Put (now (out .entry)) 0 (pointsText ns ew) (now (out .exit)) r ⌝ }
 {

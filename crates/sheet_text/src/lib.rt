@@ -1,16 +1,20 @@
 // The sheet of a text of scores. Here: a line and the score on it are read, and the parts of the sheet are put into bytes at a place; each answers the
 // place after what it put. `whole` has the results of all lines, the table, and the sheets; `columns` what a table gives for each side; `answers` the
-// text of what the calls of a script answer.
+// text of what the calls of a script answer; `named` single lines.
 mod answers;
 mod columns;
+mod named;
 mod whole;
 
 pub use answers::write_said;
 pub use answers::write_tally;
 use decimal::Number;
 use decimal::read_number;
+pub use named::write_named;
+pub use named::write_pair;
 use score::valid;
 pub use whole::Outcome;
+pub use whole::lend;
 pub use whole::write;
 pub use whole::write_cells;
 ghost use mathlib.Core.Path.{_≡_};

@@ -142,7 +142,7 @@ fn put_sheet(out: &mut [u8], bytes: &[u8], columns: Columns) -> usize
 }
 
 // Copies a text to lent bytes where it fits them.
-pub(crate) fn lend(text: &[u8], out: &mut [u8]) -> Outcome
+pub fn lend(text: &[u8], out: &mut [u8]) -> Outcome
     ensures answer { λ r. ⌜ written r ≡ lengthWithin (now (text .entry)) (length (now (out .entry))) ⌝ }
     ensures bytes { λ r. ⌜ now (out .exit) ≡ leftIn (now (out .entry)) (now (text .entry)) ⌝ }
 {
