@@ -1,14 +1,12 @@
 -- The 56 bits of an answer to lawful parts, read back, give the items of these parts; and so what is explained of a record. Assumes nothing.
-use Prim.Native.Nat.{ℕ, _≤_, _<_, _+_, _-_, _*_, _/_, _%_, _^_}
+use Prim.Native.Nat.{ℕ, _≤_, _<_, _/_, _%_}
 use native.Mathlib.Omega.{arith}
-use mathlib.Core.Path.{_≡_, refl, sym, ap, ap₂, _∙_, subst}
+use mathlib.Core.Path.{_≡_, refl, ap, ap₂, _∙_, subst}
 use mathlib.Core.Bool.{Bool, true, false}
 use mathlib.Core.List.{List, [], _∷_}
 use borrow.Author.Tests.{eq-eqb, ne-eqb}
-use lib.Dec.{eqb, lit≤}
-use lib.IntN.{pos}
+use lib.Dec.{lit≤}
 use lib.ListN.{length}
-use Rattle.laws.specs.Choice.{if_then_else_}
 use Rattle.laws.specs.Auction.{passedOut}
 use Rattle.laws.specs.Law2.{vulnerable}
 use Rattle.laws.specs.Law77.{Stake}
@@ -19,10 +17,9 @@ use Rattle.laws.specs.Judgement.{callsOf, contractOf, declarerOf, wonOf, afterO
 use Rattle.laws.specs.Lawful.{Lawful}
 use Rattle.laws.specs.Slip.{pointsOf}
 use Rattle.laws.proofs.Accepts.{judged, lent-is}
-use Rattle.laws.proofs.Numbered.{Numbered, Ruled, ruled, not-0}
-use Rattle.laws.proofs.Tests.{by-test, not-both}
+use Rattle.laws.proofs.Numbered.{Ruled, ruled, not-0}
+use Rattle.laws.proofs.Tests.{by-test}
 use Rattle.judge.specs.declared.slip.Items.{Items}
-use Rattle.judge.specs.declared.slip.Explained.{Explained}
 use Rattle.judge.specs.declared.slip.Explained.the-variants.{Refused, Granted}
 use Rattle.judge.specs.declared.whole.Judged.{Judged}
 use Rattle.judge.specs.Whole.{judgedOf}
@@ -81,6 +78,27 @@ pub items-read : (bits : ℕ) {level d m : ℕ} {s : Stake} {i : Items} → leve
 unfolding itemsAt
 items-read bits el some ed es em ei = rw (ne-eqb (levelIn bits) 0 (λ z. some (el ∙ z))) (ei ∙ same-items ed es em)
 
+-- the items of parts with a contract, and of parts that were passed out
+pub bid-parts : (p : Parts) → passedOut (callsOf p) ≡ false → itemsFor (declarerOf p) (stakeOf p) (afterOf p) ≡ itemsIn p
+unfolding itemsIn itemsFor pointsOf scoreOf
+bid-parts p bid = rw bid
+
+pub out-parts : (p : Parts) → passedOut (callsOf p) ≡ true → noItems ≡ itemsIn p
+unfolding itemsIn pointsOf scoreOf
+out-parts p out = rw out
+
+-- a contract and tricks that lawful parts have
+pub parts-possible : (p : Parts) → Lawful p → passedOut (callsOf p) ≡ false → Possible (stakeOf p) (afterOf p)
+unfolding stakeOf
+parts-possible p ok bid =
+    record {
+      level-from = level-le p ok bid .0;
+      level-to = level-le p ok bid .1;
+      strain = strain-le p ok bid;
+      doubling = doubled-le p ok bid;
+      most = after-le p ok;
+    }
+
 -- ---- the answer to lawful parts
 module _ (p : Parts) (ok : Lawful p) (few : length (revokesOf p) ≤ 36) where
   abbrev all : ℕ
@@ -92,8 +110,8 @@ module _ (p : Parts) (ok : Lawful p) (few : length (revokesOf p) ≤ 36) where
   out-level e = rw e (omega arith)
 
   out-items : passedOut (callsOf p) ≡ true → itemsAt all ≡ itemsIn p
-  unfolding itemsAt itemsIn pointsOf scoreOf
-  out-items e = rw (eq-eqb (levelIn all) 0 (out-level e), e)
+  unfolding itemsAt
+  out-items e = rw (eq-eqb (levelIn all) 0 (out-level e)) (out-parts p e)
 
   module _ (bid : passedOut (callsOf p) ≡ false) where
     abbrev word : ℕ
@@ -124,26 +142,13 @@ module _ (p : Parts) (ok : Lawful p) (few : length (revokesOf p) ≤ 36) where
     bid-level z = omega (arith, ap levelIn all-is, all-back .level-back, level-le p ok bid .0)
 
     bid-possible : Possible (stakeIn all) (tricksIn all)
-    unfolding stakeOf
-    bid-possible =
-        rw (stake-back, tricks-back)
-        (record {
-          level-from = level-le p ok bid .0;
-          level-to = level-le p ok bid .1;
-          strain = strain-le p ok bid;
-          doubling = doubled-le p ok bid;
-          most = after-le p ok;
-        })
-
-    parts-items : itemsFor (declarerOf p) (stakeOf p) (afterOf p) ≡ itemsIn p
-    unfolding itemsIn itemsFor pointsOf scoreOf
-    parts-items = rw bid
+    bid-possible = rw (stake-back, tricks-back) (parts-possible p ok bid)
 
     bid-items : itemsAt all ≡ itemsIn p
     unfolding itemsAt
     bid-items =
         rw (ne-eqb (levelIn all) 0 bid-level)
-        (same-items (rw all-is (all-back .declarer-back)) stake-back tricks-back ∙ parts-items)
+        (same-items (rw all-is (all-back .declarer-back)) stake-back tricks-back ∙ bid-parts p bid)
 
   possible : (levelIn all ≡ 0 → ⊥) → Possible (stakeIn all) (tricksIn all)
   possible some =

@@ -1,7 +1,7 @@
 -- The code's items of a contract, made or down, are Law 77's from North-South; each fits 16 bits. Assumes nothing.
-use Prim.Native.Nat.{ℕ, _≤_, _<_, _+_, _-_, _*_, _^_}
+use Prim.Native.Nat.{ℕ, _≤_, _<_, _+_, _^_}
 use native.Mathlib.Omega.{arith}
-use mathlib.Core.Path.{_≡_, refl, sym, ap, _∙_}
+use mathlib.Core.Path.{_≡_, refl, sym, _∙_}
 use mathlib.Core.Bool.{true, false}
 use lib.IntN.{ℤ, pos, negℤ, natAbs, _-ℤ_, +ℤ-idl}
 use mir.Syntax.{w16, w64}
@@ -14,7 +14,7 @@ use Rattle.laws.proofs.Integers.{size-neg, mag-le-size}
 use Rattle.laws.proofs.Score.{no-undertricks, score-valid}
 use Rattle.laws.proofs.Slip.{ns-0, size-ns, valid-le, item-le}
 use Rattle.judge.specs.declared.slip.Items.{Items}
-use Rattle.judge.specs.Explained.{Possible, itemsFor}
+use Rattle.judge.specs.Explained.{Possible}
 
 -- ---- a small number in 16 bits
 pub fits-16 : (z : ℤ) → natAbs z ≤ 7600 → SFits w16 z
@@ -56,7 +56,7 @@ module _ (d : ℕ) (s : Stake) (tricks : ℕ) (ok : Possible s tricks) where
   pub score-small : natAbs (declarerScore s tricks) ≤ 7600
   score-small = valid-le s tricks d (score-valid s tricks d (ok .level-from) (ok .level-to) (ok .strain) (ok .doubling) (ok .most))
 
-  gain-small : (name : Name) → natAbs (gain (items s tricks) name) ≤ 7600
+  pub gain-small : (name : Name) → natAbs (gain (items s tricks) name) ≤ 7600
   gain-small = item-le s tricks d (score-valid s tricks d (ok .level-from) (ok .level-to) (ok .strain) (ok .doubling) (ok .most))
 
   pub sum-told : {r : ℤ} → r ≡ nsScore d (declarerScore s tricks) → toZ w16 (ofZ w16 r) ≡ nsScore d (declarerScore s tricks)

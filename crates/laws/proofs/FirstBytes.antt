@@ -1,17 +1,17 @@
 -- What the judge says of any bytes it says of their first 297: no section reads behind them, and a byte more than an accepted record can have is one too
 -- many however many follow. Assumes nothing.
-use Prim.Native.Nat.{ℕ, zero, suc, _+_, _-_, _*_, _/_, _%_, _^_, _≤_, _<_}
+use Prim.Native.Nat.{ℕ, zero, suc, _+_, _-_, _*_, _/_, _^_, _≤_, _<_}
 use native.Mathlib.Nat.{mul-suc}
 use native.Mathlib.Omega.{arith}
-use mathlib.Core.Path.{_≡_, refl, sym, ap, _∙_}
+use mathlib.Core.Path.{_≡_, refl, sym, ap}
 use mathlib.Core.Bool.{Bool, true, false, not, _&&_, _||_}
 use mathlib.Core.List.{List, [], _∷_, reverse}
 use borrow.Author.Tests.{le-leb, ltb-true, ltb-false, eqb-true, not-false}
-use lib.Dec.{ltb, leb, eqb}
-use lib.ListN.{length, getD, take, length-reverse}
+use lib.Dec.{ltb, eqb}
+use lib.ListN.{length, take, length-reverse}
 use lib.Seq.{length-take-le, getD-take, take-all}
 use Rattle.laws.specs.Choice.{if_then_else_}
-use Rattle.laws.specs.Refusals.{accepted, recordEnds, notPadding, noBoardOrTable, notThirteen, auctionUnfinished, shortBuffer}
+use Rattle.laws.specs.Refusals.{accepted, noBoardOrTable, notThirteen, auctionUnfinished, shortBuffer}
 use Rattle.laws.specs.Refusals.{tooManyCards, playUnfinished, noClaimPoint, claimTooMany}
 use Rattle.laws.specs.Cards.{noSeat, seatWithoutThirteen}
 use Rattle.laws.specs.Law2.{dealer}
@@ -19,8 +19,8 @@ use Rattle.laws.specs.Auction.{allowed, isOver, passedOut, callPlace, tr
 use Rattle.laws.specs.CallRefusal.{callRefusal}
 use Rattle.laws.specs.Law44.{cardsPlayed, allPlayed}
 use Rattle.laws.specs.CardRefusal.{cardRefusal}
-use Rattle.laws.specs.Law68.{Claim, atClaimPoint, claimable}
-use Rattle.laws.specs.Record.{Parts, bits}
+use Rattle.laws.specs.Law68.{atClaimPoint, claimable}
+use Rattle.laws.specs.Record.{bits}
 use Rattle.laws.specs.Reading.{bitAt, numberAt, Reading, Reading.refused, Reading.found, onward, read, refuse, readRow, readEach, overfull, ending}
 use Rattle.laws.specs.Judge.{readHeading, readDeal, readCalls, readCards, readNoClaim, readMarkedClaim, readClaim, readRecord, readLent, outcome, judgeOf}
 use Rattle.laws.specs.Lengths.{AllAllowed, decidingBytes}

@@ -1,13 +1,13 @@
 -- A name and a score on a line: how long it is, and what is left of lent bytes after it was written. Assumes nothing.
-use Prim.Native.Nat.{ℕ, _+_, _-_, _≤_, _<_, _^_}
+use Prim.Native.Nat.{ℕ, _+_, _≤_, _<_, _^_}
 use native.Mathlib.Omega.{arith}
-use mathlib.Core.Path.{_≡_, refl, sym, ap, _∙_}
+use mathlib.Core.Path.{_≡_, refl}
 use mathlib.Core.List.{List, [], _∷_, _++_, append-assoc}
 use lib.IntN.{ℤ}
-use lib.ListN.{length, take, length-append}
+use lib.ListN.{length, length-append}
 use mir.Syntax.{w16}
 use mir.Val.{SFits}
-use Rattle.laws.specs.Decimal.{decimal, signedDecimal}
+use Rattle.laws.specs.Decimal.{signedDecimal}
 use Rattle.laws.specs.Fitting.{fits}
 use Rattle.laws.specs.Sheet.{newline}
 use Rattle.laws.specs.Slip.{line, refusalLine}
@@ -17,7 +17,7 @@ use Rattle.sheet_text.specs.Answers.{pointsText}
 use Rattle.sheet_text.specs.Putting.{Put, written, lengthWithin, leftIn}
 use Rattle.sheet_text.proofs.Answering.{size-short, points-length}
 use Rattle.sheet_text.proofs.Printed.{length-by}
-use Rattle.sheet_text.proofs.Puts.{then, put-length, taken, too-short, copied}
+use Rattle.sheet_text.proofs.Puts.{then, too-short, copied}
 
 pub after-length : (s : ℤ) → length (afterName s) ≡ length (signedDecimal s) + 2
 after-length s = simp length-append (omega arith)
@@ -30,7 +30,7 @@ pub line-parts : (name : List ℕ) (s : ℤ) → line name s ≡ name ++ afterNa
 unfolding line
 line-parts name s = append-assoc name (32 ∷ signedDecimal s) (newline ∷ [])
 
-line-length : (name : List ℕ) (s : ℤ) → length (line name s) ≡ length name + length (afterName s)
+pub line-length : (name : List ℕ) (s : ℤ) → length (line name s) ≡ length name + length (afterName s)
 line-length name s = rw (line-parts name s) (length-append name (afterName s))
 
 -- ---- the line in lent bytes

@@ -6,7 +6,7 @@ use super::put_score;
 use super::whole::Outcome;
 use super::whole::lend;
 ghost use mathlib.Core.Path.{_≡_};
-ghost use Prim.Native.Nat.{_+_, _≤_};
+ghost use Prim.Native.Nat.{_≤_};
 ghost use lib.ListN.{length};
 ghost use Rattle.laws.specs.Slip.{line, refusalLine};
 ghost use Rattle.sheet_text.specs.AfterName.{afterName};

@@ -1,5 +1,4 @@
 -- `items_of` meets its contract. Assumes nothing.
-use native.Mathlib.Omega.{arith}
 use borrow.Author.Tests.{lt-leb, le-leb}
 use Rattle.laws.specs.Law77.{isMade}
 use borrow.Author.Needs.{needs}

@@ -1,0 +1,3 @@
+pub mod Placing
+pub mod Enough
+pub mod Slips

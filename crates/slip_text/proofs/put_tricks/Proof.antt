@@ -1,0 +1,80 @@
+-- `put_tricks` meets its contract. Assumes nothing.
+use Prim.Native.Nat.{_+_, _≤_}
+use native.Mathlib.Omega.{arith}
+use mathlib.Core.List.{_++_}
+use lib.ListN.{length}
+use mir.Syntax.{w16}
+use mir.Facts.{toZ-ofZ}
+use Rattle.laws.specs.Slip.{TRICKS, OVERTRICKS, UNDERTRICKS, wordOf}
+use Rattle.sheet_text.proofs.Puts.{then, first-room, next-room}
+use Rattle.slip_text.specs.Text.{itemLine}
+use borrow.Author.Needs.{needs}
+use Rattle.slip_text.proofs.put_tricks.Statement.{statement}
+use Rattle.slip_text.proofs.put_tricks.Tie as tie
+
+slice-aggregate-put-item : tie.Need-slice-aggregate-put-item
+slice-aggregate-put-item c = search needs
+
+put-item-requires : tie.Need-put-item-requires
+put-item-requires c κs =
+    let st = c .before .before .before .before in
+    let i = st .args .items in
+    let t1 = itemLine (wordOf TRICKS) (i .tricks) in
+    let t2 = itemLine (wordOf OVERTRICKS) (i .overtricks) in
+    let t3 = itemLine (wordOf UNDERTRICKS) (i .undertricks) in
+    let h : 0 + length (t1 ++ t2 ++ t3) ≤ length (st .args .out .now) = omega (arith, st .pre) in
+    rw (toZ-ofZ {w = w16} {z = i .tricks} (record { sfits = c .struct-told .given .0 .1 })) (first-room 0 _ (t1) t2 (first-room 0 _ (t1 ++ t2) t3 (h)))
+
+slice-aggregate-put-item-2 : tie.Need-slice-aggregate-put-item-2
+slice-aggregate-put-item-2 c = search needs
+
+put-item-requires-2 : tie.Need-put-item-requires-2
+put-item-requires-2 c κs =
+    let st = c .before .before .before .before .before .before .before .before .before .before in
+    let i = st .args .items in
+    let t1 = itemLine (wordOf TRICKS) (i .tricks) in
+    let t2 = itemLine (wordOf OVERTRICKS) (i .overtricks) in
+    let t3 = itemLine (wordOf UNDERTRICKS) (i .undertricks) in
+    let p1 = rw (toZ-ofZ {w = w16} {z = i .tricks} (record { sfits = c .before .before .before .before .before .before .struct-told .given .0 .1 })) at (c .before .before .before .before .before .put-item .ensures) in
+    let h : 0 + length (t1 ++ t2 ++ t3) ≤ length (st .args .out .now) = omega (arith, st .pre) in
+    rw (toZ-ofZ {w = w16} {z = i .overtricks} (record { sfits = c .struct-told2 .given .1 .0 .1 })) (next-room t2 p1 (first-room 0 _ (t1 ++ t2) t3 (h)))
+
+slice-aggregate-put-item-3 : tie.Need-slice-aggregate-put-item-3
+slice-aggregate-put-item-3 c = search needs
+
+put-item-requires-3 : tie.Need-put-item-requires-3
+put-item-requires-3 c κs =
+    let st = c .before .before .before .before .before .before .before .before .before .before .before .before .before .before .before .before in
+    let i = st .args .items in
+    let t1 = itemLine (wordOf TRICKS) (i .tricks) in
+    let t2 = itemLine (wordOf OVERTRICKS) (i .overtricks) in
+    let t3 = itemLine (wordOf UNDERTRICKS) (i .undertricks) in
+    let p1 = rw (toZ-ofZ {w = w16} {z = i .tricks} (record { sfits = c .before .before .before .before .before .before .before .before .before .before .before .before .struct-told .given .0 .1 })) at (c .before .before .before .before .before .before .before .before .before .before .before .put-item .ensures) in
+    let p2 = rw (toZ-ofZ {w = w16} {z = i .overtricks} (record { sfits = c .before .before .before .before .before .before .struct-told2 .given .1 .0 .1 })) at (c .before .before .before .before .before .put-item2 .ensures) in
+    let h : 0 + length (t1 ++ t2 ++ t3) ≤ length (st .args .out .now) = omega (arith, st .pre) in
+    rw (toZ-ofZ {w = w16} {z = i .undertricks} (record { sfits = c .struct-told3 .given .1 .1 .0 .1 })) (next-room t3 (then p1 p2) (h))
+
+same-length : tie.Need-same-length
+same-length c = search needs
+
+returns : tie.Need-returns
+returns c =
+    let st = c .before .before .before .before .before .before .before .before .before .before .before .before .before .before .before .before .before .before .before in
+    let i = st .args .items in
+    let p1 = rw (toZ-ofZ {w = w16} {z = i .tricks} (record { sfits = c .before .before .before .before .before .before .before .before .before .before .before .before .before .before .before .struct-told .given .0 .1 })) at (c .before .before .before .before .before .before .before .before .before .before .before .before .before .before .put-item .ensures) in
+    let p2 = rw (toZ-ofZ {w = w16} {z = i .overtricks} (record { sfits = c .before .before .before .before .before .before .before .before .before .struct-told2 .given .1 .0 .1 })) at (c .before .before .before .before .before .before .before .before .put-item2 .ensures) in
+    let p3 = rw (toZ-ofZ {w = w16} {z = i .undertricks} (record { sfits = c .before .before .before .struct-told3 .given .1 .1 .0 .1 })) at (c .before .before .put-item3 .ensures) in
+    then (then p1 p2) p3
+
+pub put-tricks-spec : {M : Type 1} → statement M
+put-tricks-spec =
+    tie.close
+    (tie.spec
+    slice-aggregate-put-item
+    put-item-requires
+    slice-aggregate-put-item-2
+    put-item-requires-2
+    slice-aggregate-put-item-3
+    put-item-requires-3
+    same-length
+    returns)

@@ -1,0 +1,88 @@
+// The slip of a table record: the items of Law 77 that make its score, a line each, and their sum; or the judge's refusal.
+use judge::Explained;
+use judge::Items;
+use sheet_text::Outcome;
+use sheet_text::lend;
+use sheet_text::write_named;
+use sheet_text::write_pair;
+ghost use mathlib.Core.Path.{_≡_};
+ghost use Prim.Native.Nat.{_+_, _≤_};
+ghost use lib.ListN.{length};
+ghost use Rattle.laws.specs.Slip.{line, slip};
+ghost use Rattle.sheet_text.specs.Putting.{Put, written, lengthWithin, leftIn};
+ghost use Rattle.slip_text.specs.Text.{itemLine, tricksText, premiumsText, itemsText};
+
+// A line at a place: a name, a space and points. The answer is the place after it.
+fn put_line(out: &mut [u8], at: usize, name: &[u8], points: i16) -> usize
+    requires { ⌜ at + length (line (now name) points) ≤ length (now out) ⌝ }
+    ensures { λ r. ⌜ Put (now (out .entry)) at (line (now (name .entry)) points) (now (out .exit)) r ⌝ }
+{
+    let Outcome::Written(n) = write_named(name, points, &mut out[at..]) else {
+        return at;
+    };
+    at + n
+}
+
+// An item's line; nothing where it has no points.
+fn put_item(out: &mut [u8], at: usize, name: &[u8], points: i16) -> usize
+    requires { ⌜ at + length (itemLine (now name) points) ≤ length (now out) ⌝ }
+    ensures { λ r. ⌜ Put (now (out .entry)) at (itemLine (now (name .entry)) points) (now (out .exit)) r ⌝ }
+{
+    if points == 0 {
+        return at;
+    }
+    put_line(out, at, name, points)
+}
+
+// The tricks, and those over or under the contract.
+fn put_tricks(out: &mut [u8], items: Items) -> usize
+    requires { ⌜ length (tricksText items) ≤ length (now out) ⌝ }
+    ensures { λ r. ⌜ Put (now (out .entry)) 0 (tricksText items) (now (out .exit)) r ⌝ }
+{
+    let a = put_item(out, 0, b"TRICKS", items.tricks);
+    let b = put_item(out, a, b"OVERTRICKS", items.overtricks);
+    put_item(out, b, b"UNDERTRICKS", items.undertricks)
+}
+
+// The premiums.
+fn put_premiums(out: &mut [u8], at: usize, items: Items) -> usize
+    requires { ⌜ at + length (premiumsText items) ≤ length (now out) ⌝ }
+    ensures { λ r. ⌜ Put (now (out .entry)) at (premiumsText items) (now (out .exit)) r ⌝ }
+{
+    let a = put_item(out, at, b"PARTSCORE", items.partscore);
+    let b = put_item(out, a, b"GAME", items.game);
+    let c = put_item(out, b, b"SLAM", items.slam);
+    put_item(out, c, b"DOUBLING", items.doubling)
+}
+
+// All items, and their sum.
+fn put_items(out: &mut [u8], items: Items) -> usize
+    requires { ⌜ length (itemsText items) ≤ length (now out) ⌝ }
+    ensures { λ r. ⌜ Put (now (out .entry)) 0 (itemsText items) (now (out .exit)) r ⌝ }
+{
+    let a = put_tricks(out, items);
+    let b = put_premiums(out, a, items);
+    put_line(out, b, b"SUM", items.sum)
+}
+
+// The items, where they are those of a board, in lent bytes.
+fn write_items(items: Items, out: &mut [u8]) -> Outcome
+    requires { ⌜ length (itemsText items) ≤ 72 ⌝ }
+    ensures answer { λ r. ⌜ written r ≡ lengthWithin (itemsText items) (length (now (out .entry))) ⌝ }
+    ensures bytes { λ r. ⌜ now (out .exit) ≡ leftIn (now (out .entry)) (itemsText items) ⌝ }
+{
+    let mut text = [0u8; 72];
+    let n = put_items(&mut text, items);
+    lend(&text[..n], out)
+}
+
+// Writes the slip of a table record to lent bytes. 72 bytes are enough for every slip.
+pub fn write(bytes: &[u8], out: &mut [u8]) -> Outcome
+    ensures answer { λ r. ⌜ written r ≡ lengthWithin (slip (now (bytes .entry))) (length (now (out .entry))) ⌝ }
+    ensures bytes { λ r. ⌜ now (out .exit) ≡ leftIn (now (out .entry)) (slip (now (bytes .entry))) ⌝ }
+{
+    match judge::explain(bytes) {
+        Explained::Refused { number, place } => write_pair(number, place, out),
+        Explained::Granted(items) => write_items(items, out),
+    }
+}
