@@ -90,3 +90,18 @@ module _ (bytes : List ℕ) {x : Explained} (ex : x ≡ explainedOf (judgeOf byt
   granted-short q =
       let g = granted-slip (judgeOf bytes 7 36) ex q in
       rw (g .2) (parts-short (g .0) (accepted-lawful bytes (g .0) (g .1)))
+
+-- ---- every slip has at most 72 bytes, whatever the bytes that it is of
+refused-short : (n place : ℕ) → Numbered n place → length (refusalLine n place) ≤ mostSlipBytes
+unfolding refusalLine
+refused-short n place f =
+    let few : n ≤ 23 = number-le n (f .number) in
+    simp length-append (omega (arith, length-by 1 n (omega arith), length-by 3 place (omega (arith, f .place-lt))))
+
+pub enough : (bytes : List ℕ) → length (slip bytes) ≤ mostSlipBytes
+unfolding slip
+enough bytes = go (judgeOf bytes 7 36) refl (ruled bytes 7 36)
+  where
+    go : (o : Outcome) → judgeOf bytes 7 36 ≡ o → Ruled o → length (slipOf o) ≤ mostSlipBytes
+    go (refused n place) e f = ?
+    go (accepted p) e f = ?
