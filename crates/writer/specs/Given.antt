@@ -12,8 +12,8 @@ abbrev pub claimOf : ℕ → ℕ → Claim
 claimOf marked tricks = if eqb marked 0 then none else agreed tricks
 
 -- the parts of a record from the numbers that are given
-abbrev pub contentsOf : ℕ → ℕ → List ℕ → List ℕ → List ℕ → ℕ → ℕ → Parts
-contentsOf board table holders calls cards marked tricks =
+abbrev pub partsOf : ℕ → ℕ → List ℕ → List ℕ → List ℕ → ℕ → ℕ → Parts
+partsOf board table holders calls cards marked tricks =
     record { board = board; table = table; deal = holders; calls = calls; cards = cards; claim = claimOf marked tricks }
 
 -- the bytes of a record with so many calls and cards: 135 bits of board, table, deal and counts, six for each code, the claim's mark and its

@@ -1,10 +1,10 @@
--- `opening_leader` meets its contract. Assumes nothing.
+-- `auction::Contract::opening_leader` meets its contract. Assumes nothing.
 use Prim.Native.Nat.{_-_}
 use native.Mathlib.Omega.{arith}
 use borrow.Author.Needs.{needs}
 use Rattle.laws.specs.Cards.{clockwise}
-use Rattle.judge.proofs.whole.opening_leader.Statement.{statement}
-use Rattle.judge.proofs.whole.opening_leader.Tie as tie
+use Rattle.auction.proofs.Contract.opening_leader.Statement.{statement}
+use Rattle.auction.proofs.Contract.opening_leader.Tie as tie
 
 add-result : tie.Need-add-result
 add-result c = search needs

@@ -1,8 +1,8 @@
--- `may_claim` meets its contract. Assumes nothing.
+-- `play::claims::may_claim` meets its contract. Assumes nothing.
 use borrow.Author.Tests.{eq-eqb, ne-eqb, le-leb, lt-leb}
-use Rattle.judge.specs.Sections.{pointAt, mayClaim}
-use Rattle.judge.proofs.claim.may_claim.Statement.{statement}
-use Rattle.judge.proofs.claim.may_claim.Tie as tie
+use Rattle.play.specs.Claims.{pointAt, mayClaim}
+use Rattle.play.proofs.claims.may_claim.Statement.{statement}
+use Rattle.play.proofs.claims.may_claim.Tie as tie
 
 returns : tie.Need-returns
 unfolding mayClaim
