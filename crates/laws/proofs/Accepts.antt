@@ -96,7 +96,7 @@ module _ (bytes : List ℕ) where
 
 -- with buffers of at least 7 and 36 bytes the record decides
 module _ (answer list : ℕ) (ha : 7 ≤ answer) (hl : 36 ≤ list) where
-  lent-is : (bytes : List ℕ) → judgeOf bytes answer list ≡ outcome (readRecord bytes 0)
+  pub lent-is : (bytes : List ℕ) → judgeOf bytes answer list ≡ outcome (readRecord bytes 0)
   unfolding judgeOf readLent
   lent-is bytes = simp (le-ltb answer 7 ha, le-ltb list 36 hl, test-is)
 

@@ -1,13 +1,13 @@
 -- A call is refused with no number exactly when it is allowed; a number is one of a record's. Assumes nothing.
 use Prim.Native.Nat.{ℕ, _≤_, _<_}
 use native.Mathlib.Omega.{arith}
-use mathlib.Core.Path.{_≡_}
+use mathlib.Core.Path.{_≡_, refl}
 use mathlib.Core.Logic.{_↔_}
-use mathlib.Core.Bool.{true, false, not}
+use mathlib.Core.Bool.{Bool, true, false, not}
 use mathlib.Core.List.{List}
 use borrow.Author.Tests.{leb-true, leb-false, le-leb, eqb-false, ne-eqb, not-true}
 use lib.Dec.{eqb}
-use Rattle.laws.specs.Refusals.{accepted, refusesRecord}
+use Rattle.laws.specs.Refusals.{accepted, noCall, insufficientBid, inadmissibleDouble, callAfterEnd, refusesRecord}
 use Rattle.laws.specs.Auction.{isBid, isOver, allowed}
 use Rattle.laws.specs.CallRefusal.{isCall, callRefusal}
 use Rattle.laws.proofs.Tests.{by-test, not-both}
@@ -36,30 +36,35 @@ module _ (d : ℕ) (h : List ℕ) (c : ℕ) where
       (λ (r : isOver h ≡ false). rw (q, r, e)))
       (λ (q : isCall c ≡ false). not-both (allowed d h c) e (no-call q))
 
-  -- what is not allowed has a number
-  refused : allowed d h c ≡ false → refusesRecord (callRefusal d h c) ≡ true
+  -- what is not allowed has one of four numbers, and so passes every test that they pass
+  refused : (test : ℕ → Bool) → test noCall ≡ true → test insufficientBid ≡ true → test inadmissibleDouble ≡ true → test callAfterEnd ≡ true
+      → allowed d h c ≡ false → test (callRefusal d h c) ≡ true
   unfolding callRefusal
-  refused e =
+  refused test t₅ t₆ t₇ t₈ e =
       by-test (isCall c)
       (λ (q : isCall c ≡ true). by-test (isOver h)
-      (λ (r : isOver h ≡ true). rw (q, r))
+      (λ (r : isOver h ≡ true). rw (q, r) t₈)
       (λ (r : isOver h ≡ false). by-test (isBid c)
-      (λ (s : isBid c ≡ true). rw (s, q, r, e))
-      (λ (s : isBid c ≡ false). rw (s, q, r, e))))
-      (λ (q : isCall c ≡ false). rw q)
+      (λ (s : isBid c ≡ true). rw (s, q, r, e) t₆)
+      (λ (s : isBid c ≡ false). rw (s, q, r, e) t₇)))
+      (λ (q : isCall c ≡ false). rw q t₅)
 
   accepted-allowed : callRefusal d h c ≡ accepted → allowed d h c ≡ true
   accepted-allowed e =
       by-test (allowed d h c)
       (λ (q : allowed d h c ≡ true). q)
-      (λ (q : allowed d h c ≡ false). absurd (not-none (refused q) e))
+      (λ (q : allowed d h c ≡ false). absurd (not-none (refused refusesRecord refl refl refl refl q) e))
 
-  -- a call that is refused has a number
-  pub numbered : not (eqb (callRefusal d h c) accepted) ≡ true → refusesRecord (callRefusal d h c) ≡ true
-  numbered e =
+  pub numbered-by : (test : ℕ → Bool) → test noCall ≡ true → test insufficientBid ≡ true → test inadmissibleDouble ≡ true → test callAfterEnd ≡ true
+      → not (eqb (callRefusal d h c) accepted) ≡ true → test (callRefusal d h c) ≡ true
+  numbered-by test t₅ t₆ t₇ t₈ e =
       by-test (allowed d h c)
       (λ (q : allowed d h c ≡ true). absurd (eqb-false _ _ (not-true _ e) (allowed-accepted q)))
-      (λ (q : allowed d h c ≡ false). refused q)
+      (λ (q : allowed d h c ≡ false). refused test t₅ t₆ t₇ t₈ q)
+
+  -- a call that is refused has a number of a record
+  pub numbered : not (eqb (callRefusal d h c) accepted) ≡ true → refusesRecord (callRefusal d h c) ≡ true
+  numbered = numbered-by refusesRecord refl refl refl refl
 
   pub accepted-is : (callRefusal d h c ≡ accepted) ↔ (allowed d h c ≡ true)
   accepted-is = (accepted-allowed, allowed-accepted)

@@ -8,7 +8,7 @@ use mathlib.Core.List.{List}
 use borrow.Author.Tests.{leb-true, leb-false, lt-leb, eqb-true, eq-eqb, ne-eqb}
 use lib.Dec.{leb, eqb}
 use lib.ListN.{length, List·getD-eq-default}
-use Rattle.laws.specs.Refusals.{accepted, cardNotHeld, cardAlreadyPlayed, refusesRecord}
+use Rattle.laws.specs.Refusals.{accepted, noCard, cardNotHeld, cardAlreadyPlayed, refusesRecord}
 use Rattle.laws.specs.Choice.{if_then_else_}
 use Rattle.laws.specs.Cards.{noSeat, clockwise, dealtTo}
 use Rattle.laws.specs.Law44.{toPlay, isPlayed, holds, hasPlayed, playable}
@@ -39,33 +39,38 @@ module _ (trump opening : ℕ) where
     unfolding cardRefusal
     playable-accepted full e = rw (lt-leb 52 card (omega (arith, playable-dealt e)), e)
 
-    -- what may not be played has a number
-    refused : playable trump opening deal g card ≡ false → refusesRecord (cardRefusal trump opening deal g card) ≡ true
+    -- what may not be played has one of three numbers, and so passes every test that they pass
+    refused : (test : ℕ → Bool) → test noCard ≡ true → test cardNotHeld ≡ true → test cardAlreadyPlayed ≡ true
+        → playable trump opening deal g card ≡ false → test (cardRefusal trump opening deal g card) ≡ true
     unfolding cardRefusal
-    refused e =
+    refused test t₁₁ t₁₂ t₂₃ e =
         let played = hasPlayed deal g (toPlay trump opening g) card in
         by-test (leb 52 card)
-        (λ (q : leb 52 card ≡ true). rw q)
-        (λ (q : leb 52 card ≡ false). by-test played (λ (r : played ≡ true). rw (q, e, r)) (λ (r : played ≡ false). rw (q, e, r)))
+        (λ (q : leb 52 card ≡ true). rw q t₁₁)
+        (λ (q : leb 52 card ≡ false). by-test played (λ (r : played ≡ true). rw (q, e, r) t₂₃) (λ (r : played ≡ false). rw (q, e, r) t₁₂))
 
     pub accepted-playable : cardRefusal trump opening deal g card ≡ accepted → playable trump opening deal g card ≡ true
     accepted-playable e =
         by-test (playable trump opening deal g card)
         (λ (q : playable trump opening deal g card ≡ true). q)
-        (λ (q : playable trump opening deal g card ≡ false). absurd (not-none (refused q) e))
+        (λ (q : playable trump opening deal g card ≡ false). absurd (not-none (refused refusesRecord refl refl refl q) e))
 
     pub accepted-is : length deal ≡ 52 → (cardRefusal trump opening deal g card ≡ accepted) ↔ (playable trump opening deal g card ≡ true)
     accepted-is full = (accepted-playable, playable-accepted full)
 
-    -- a card that is refused has a number
-    pub numbered : not (eqb (cardRefusal trump opening deal g card) accepted) ≡ true → refusesRecord (cardRefusal trump opening deal g card) ≡ true
+    pub numbered-by : (test : ℕ → Bool) → test noCard ≡ true → test cardNotHeld ≡ true → test cardAlreadyPlayed ≡ true
+        → not (eqb (cardRefusal trump opening deal g card) accepted) ≡ true → test (cardRefusal trump opening deal g card) ≡ true
     unfolding cardRefusal
-    numbered e =
+    numbered-by test t₁₁ t₁₂ t₂₃ e =
         by-test (leb 52 card)
-        (λ (q : leb 52 card ≡ true). rw q)
+        (λ (q : leb 52 card ≡ true). rw q t₁₁)
         (λ (q : leb 52 card ≡ false). by-test (playable trump opening deal g card)
         (λ (r : playable trump opening deal g card ≡ true). not-both false (rw (q, r) at e) refl)
-        (λ (r : playable trump opening deal g card ≡ false). refused r))
+        (λ (r : playable trump opening deal g card ≡ false). refused test t₁₁ t₁₂ t₂₃ r))
+
+    -- a card that is refused has a number of a record
+    pub numbered : not (eqb (cardRefusal trump opening deal g card) accepted) ≡ true → refusesRecord (cardRefusal trump opening deal g card) ≡ true
+    numbered = numbered-by refusesRecord refl refl refl
 
     -- ---- which number
     module _ (low : card < 52) where

@@ -22,6 +22,11 @@ pub mod Sections
 pub mod Claims
 pub mod LawfulParts
 pub mod Accepts
+pub mod Taken
+pub mod Contents
+pub mod ContentsLawful
+pub mod ContentsStop
+pub mod ContentsNumbered
 pub mod Numbered
 pub mod Comparisons
 pub mod LongestAuction

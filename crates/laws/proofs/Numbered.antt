@@ -4,7 +4,6 @@ use native.Mathlib.Omega.{arith}
 use mathlib.Core.Path.{_≡_, refl}
 use mathlib.Core.Bool.{Bool, true, false, not, _&&_, _||_}
 use mathlib.Core.List.{List, [], _∷_}
-use borrow.Author.Tests.{eqb-false, not-true}
 use lib.Dec.{leb, ltb, eqb, lit≤}
 use lib.ListN.{length}
 use Rattle.laws.specs.Choice.{if_then_else_}
@@ -100,7 +99,7 @@ no-short : (deal : List ℕ) → firstWithoutThirteen deal [] ≤ 4
 unfolding firstWithoutThirteen
 no-short deal = lit≤ tt
 
-short-le : (deal : List ℕ) → seatWithoutThirteen deal ≤ 4
+pub short-le : (deal : List ℕ) → seatWithoutThirteen deal ≤ 4
 short-le deal =
     next-short deal 0 _ (lit≤ tt) (next-short deal 1 _ (lit≤ tt) (next-short deal 2 _ (lit≤ tt) (next-short deal 3 [] (lit≤ tt) (no-short deal))))
 

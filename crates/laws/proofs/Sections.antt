@@ -94,7 +94,7 @@ module _ (deal : List ℕ) where
       let w = next-short 3 _ (lit< tt) (s .1) in
       four (n .0) (o .0) (s .0) (w .0)
 
-  short-none : ((seat : ℕ) → seat < 4 → cardsDealt seat deal ≡ 13) → seatWithoutThirteen deal ≡ noSeat
+  pub short-none : ((seat : ℕ) → seat < 4 → cardsDealt seat deal ≡ 13) → seatWithoutThirteen deal ≡ noSeat
   unfolding firstWithoutThirteen
   short-none f = simp (f 0 (lit< tt), f 1 (lit< tt), f 2 (lit< tt), f 3 (lit< tt))
 

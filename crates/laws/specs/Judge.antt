@@ -1,21 +1,19 @@
 -- The judge: the order of checks, section by section as docs/RULES.md has them, on the fields read and the histories of calls and cards.
 -- Assumes nothing.
-use Prim.Native.Nat.{ℕ, _+_, _*_}
-use mathlib.Core.Bool.{Bool, not, _&&_, _||_}
-use mathlib.Core.List.{List, [], _∷_, reverse}
+use Prim.Native.Nat.{ℕ}
+use mathlib.Core.List.{List, [], reverse}
 use lib.Dec.{ltb, eqb}
 use Rattle.laws.specs.Choice.{if_then_else_}
-use Rattle.laws.specs.Refusals.{refusalNumber, shortBuffer, noBoardOrTable, notThirteen, auctionUnfinished}
-use Rattle.laws.specs.Refusals.{tooManyCards, playUnfinished, noClaimPoint, claimTooMany}
-use Rattle.laws.specs.Cards.{noSeat, seatWithoutThirteen}
+use Rattle.laws.specs.Refusals.{refusalNumber, shortBuffer}
 use Rattle.laws.specs.Law2.{dealer}
-use Rattle.laws.specs.Auction.{callPlace, isOver, passedOut, trumpAfter, openingAfter}
+use Rattle.laws.specs.Auction.{callPlace, trumpAfter, openingAfter}
 use Rattle.laws.specs.CallRefusal.{callRefusal}
-use Rattle.laws.specs.Law44.{cardsPlayed, allPlayed}
+use Rattle.laws.specs.Law44.{cardsPlayed}
 use Rattle.laws.specs.CardRefusal.{cardRefusal}
-use Rattle.laws.specs.Law68.{Claim, none, agreed, atClaimPoint, claimable}
+use Rattle.laws.specs.Law68.{Claim, none, agreed}
+use Rattle.laws.specs.Checks.{checkBoard, checkTable, checkDeal, checkOver, checkCount, checkPlayedOut, checkClaimPoint, checkClaim}
 use Rattle.laws.specs.Record.{Parts}
-use Rattle.laws.specs.Reading.{Reading, Reader, onward, _>>=_, _>>_, give, read, refuse, readRow, readEach, ending}
+use Rattle.laws.specs.Reading.{Reading, Reader, _>>=_, _>>_, give, read, refuse, readRow, readEach, ending}
 use Rattle.laws.specs.Reading.{Reading.refused as stopped, Reading.found as read-to}
 
 -- board and table
@@ -27,15 +25,15 @@ unfoldable pub readHeading : Reader Heading
 readHeading = do
   board ← read 7
   table ← read 9
-  refuse noBoardOrTable 0 (eqb board 0)
-  refuse noBoardOrTable 1 (eqb table 0)
+  checkBoard board
+  checkTable table
   give (record { board = board; table = table })
 
 -- the deal
 unfoldable pub readDeal : Reader (List ℕ)
 readDeal = do
   deal ← readRow 2 52
-  refuse notThirteen (seatWithoutThirteen deal) (not (eqb (seatWithoutThirteen deal) noSeat))
+  checkDeal deal
   give deal
 
 -- the calls, latest first; d is the dealer
@@ -43,28 +41,28 @@ unfoldable pub readCalls : ℕ → Reader (List ℕ)
 readCalls d = do
   count ← read 9
   h ← readEach 6 callPlace (callRefusal d) count []
-  refuse auctionUnfinished count (not (isOver h))
+  checkOver count h
   give h
 
 -- the play count and the cards, latest first, after the calls h
 unfoldable pub readCards : ℕ → List ℕ → List ℕ → Reader (List ℕ)
 readCards d deal h = do
   count ← read 6
-  refuse tooManyCards count (ltb 52 count || (passedOut h && ltb 0 count))
+  checkCount count count h
   readEach 6 cardsPlayed (cardRefusal (trumpAfter h) (openingAfter d h) deal) count []
 
 -- no claim
 unfoldable pub readNoClaim : List ℕ → List ℕ → Reader Claim
 readNoClaim h g = do
-  refuse playUnfinished (cardsPlayed g) (not (passedOut h) && not (allPlayed g))
+  checkPlayedOut h g
   give none
 
 -- a marked claim
 unfoldable pub readMarkedClaim : List ℕ → List ℕ → Reader Claim
 readMarkedClaim h g = do
-  refuse noClaimPoint (cardsPlayed g) (passedOut h || not (atClaimPoint g))
+  checkClaimPoint h g
   tricks ← read 4
-  refuse claimTooMany tricks (not (claimable g tricks))
+  checkClaim tricks tricks g
   give (agreed tricks)
 
 -- the claim's mark, and the claim

@@ -17,9 +17,12 @@ pub mod CardRefusal
 pub mod Bytes
 pub mod Record
 pub mod Reading
+pub mod Checks
 pub mod Judge
 pub mod Judgement
 pub mod Lent
+pub mod Contents
+pub mod Writing
 pub mod Lawful
 pub mod Lengths
 pub mod Tally

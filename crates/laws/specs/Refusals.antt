@@ -101,6 +101,10 @@ invalidScore = 20
 abbrev pub scoreNotInTally : ℕ
 scoreNotInTally = 21
 
+-- a buffer that is too short for the record that is written into it
+abbrev pub shortRecordBuffer : ℕ
+shortRecordBuffer = 22
+
 -- Law 44: a card that the seat at turn has played already
 abbrev pub cardAlreadyPlayed : ℕ
 cardAlreadyPlayed = 23
@@ -108,3 +112,7 @@ cardAlreadyPlayed = 23
 -- the numbers that a record is refused with: 1 to 16, and 23
 abbrev pub refusesRecord : ℕ → Bool
 refusesRecord n = (leb 1 n && leb n 16) || eqb n cardAlreadyPlayed
+
+-- the numbers that contents are refused with when a record is written from them: 3 to 15, 22 and 23
+abbrev pub refusesContents : ℕ → Bool
+refusesContents n = (leb 3 n && leb n 15) || (eqb n shortRecordBuffer || eqb n cardAlreadyPlayed)

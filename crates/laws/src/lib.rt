@@ -68,6 +68,9 @@ pub const INVALID_SCORE: u8 = 20;
 // A score that the tally does not have.
 pub const SCORE_NOT_IN_TALLY: u8 = 21;
 
+// A buffer that is too short for the record that is written into it.
+pub const SHORT_RECORD_BUFFER: u8 = 22;
+
 // Law 44: a card that the seat at turn has played already.
 pub const CARD_ALREADY_PLAYED: u8 = 23;
 

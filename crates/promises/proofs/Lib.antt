@@ -12,3 +12,4 @@ pub mod TalliesMatchpoints
 pub mod Tallies
 pub mod Demand2Imps
 pub mod Percentages
+pub mod Writing

@@ -1,0 +1,140 @@
+-- A refusal of contents has a number from 3 to 15, 22 or 23, and a place below 1024. Assumes nothing.
+use Prim.Native.Nat.{ℕ, _+_, _≤_, _<_, min}
+use native.Mathlib.Omega.{arith}
+use mathlib.Core.Path.{_≡_, refl}
+use mathlib.Core.Bool.{Bool, true, false, not, _&&_, _||_}
+use mathlib.Core.List.{List, [], _∷_}
+use borrow.Author.Tests.{eqb-true, not-false, ltb-false}
+use lib.Dec.{ltb, eqb}
+use lib.ListN.{length, length-reverse}
+use Rattle.laws.specs.Refusals.{accepted, noBoardOrTable, notThirteen, auctionUnfinished, tooManyCards, playUnfinished, noClaimPoint, claimTooMany}
+use Rattle.laws.specs.Refusals.{refusesContents}
+use Rattle.laws.specs.Cards.{noSeat, seatWithoutThirteen}
+use Rattle.laws.specs.Law2.{dealer}
+use Rattle.laws.specs.Auction.{callPlace, isOver, passedOut, trumpAfter, openingAfter}
+use Rattle.laws.specs.CallRefusal.{callRefusal}
+use Rattle.laws.specs.Law44.{cardsPlayed, allPlayed}
+use Rattle.laws.specs.CardRefusal.{cardRefusal}
+use Rattle.laws.specs.Law68.{Claim, none, agreed, atClaimPoint, claimable}
+use Rattle.laws.specs.Lengths.{AllAllowed}
+use Rattle.laws.specs.Record.{Parts}
+use Rattle.laws.specs.Reading.{Reading, Reading.refused, Reading.found, onward, refuse}
+use Rattle.laws.specs.Judge.{Outcome.refused as declined, Outcome.accepted as taken, outcome}
+use Rattle.laws.specs.Contents.{takeHeading, areSeats, takeDeal, takeEach, takeCalls, takeCards, takeClaim, takeParts, contentsOf}
+use Rattle.laws.proofs.Tests.{or-left}
+use Rattle.laws.proofs.CallRefusals.{accepted-is, numbered-by}
+use Rattle.laws.proofs.CardRefusals.{numbered-by as card-numbered-by}
+use Rattle.laws.proofs.LongestAuction.{at-most-319}
+use Rattle.laws.proofs.Readings.{first-test}
+use Rattle.laws.proofs.Numbered.{short-le}
+use Rattle.laws.proofs.Contents.{cards-history}
+use Rattle.laws.proofs.ContentsLawful.{each-kept, allowed-each}
+
+-- a number and a place as a refusal of contents has them
+pub record Refuses (n place : ℕ) : Type 0 where
+  pub number : refusesContents n ≡ true
+  pub place-lt : place < 1024
+
+at-place : {n place : ℕ} → refusesContents n ≡ true → place < 1024 → Refuses n place
+at-place e l = record { number = e; place-lt = l }
+
+-- checks that refuse do so with such a number
+abbrev Sound : {A : Type 0} → Reading A → Type 0
+Sound (refused n place) = Refuses n place
+Sound (found a at) = Unit {0}
+
+module _ {B : Type 0} where
+  sound-on : {A : Type 0} (r : Reading A) (next : A → ℕ → Reading B) → Sound r → ((a : A) (m : ℕ) → r ≡ found a m → Sound (next a m)) → Sound (onward r next)
+  sound-on (refused n place) next f g = f
+  sound-on (found a m) next f g = g a m refl
+
+  sound-test : (n place : ℕ) (test : Bool) (from : ℕ) (next : Unit {0} → ℕ → Reading B) → (test ≡ true → Refuses n place)
+      → (test ≡ false → Sound (next tt from))
+      → Sound (onward (refuse n place test [] from) next)
+  unfolding refuse
+  sound-test n place true from next f g = f refl
+  sound-test n place false from next f g = g refl
+
+sound-last : (n place : ℕ) (test : Bool) (from : ℕ) → (test ≡ true → Refuses n place) → Sound (refuse n place test [] from)
+unfolding refuse
+sound-last n place true from f = f refl
+sound-last n place false from f = tt
+
+sound-heading : (board table from : ℕ) → Sound (takeHeading board table [] from)
+unfolding takeHeading
+sound-heading board table from =
+    sound-test noBoardOrTable 0 (ltb 127 board) from _ (λ t. at-place refl (omega arith)) (λ f.
+    sound-test noBoardOrTable 0 (eqb board 0) from _ (λ t. at-place refl (omega arith)) (λ f.
+    sound-test noBoardOrTable 1 (ltb 511 table) from _ (λ t. at-place refl (omega arith)) (λ f.
+    sound-last noBoardOrTable 1 (eqb table 0) from (λ t. at-place refl (omega arith)))))
+
+sound-deal : (deal : List ℕ) (from : ℕ) → Sound (takeDeal deal [] from)
+unfolding takeDeal
+sound-deal deal from =
+    sound-test notThirteen noSeat (not (areSeats deal)) from _ (λ t. at-place refl (omega arith)) (λ f.
+    sound-last notThirteen (seatWithoutThirteen deal) (not (eqb (seatWithoutThirteen deal) noSeat)) from (λ t. at-place refl (omega (arith, short-le deal))))
+
+-- codes: Good is what holds of every history that is not refused
+module _ (place : List ℕ → ℕ) (rule : List ℕ → ℕ → ℕ) (Good : List ℕ → Type 0) (more : (h : List ℕ) (c : ℕ) → rule h c ≡ accepted → Good h → Good (c ∷ h))
+    (number : (h : List ℕ) (c : ℕ) → not (eqb (rule h c) accepted) ≡ true → refusesContents (rule h c) ≡ true) where
+  sound-each : (l h : List ℕ) (from : ℕ) → Good h → ((b : List ℕ) → Good b → length b ≤ length h + length l → place b < 1024)
+      → Sound (takeEach place rule l h [] from)
+  unfolding takeEach
+  sound-each [] h from g few = tt
+  sound-each (c ∷ l) h from g few =
+      sound-test (rule h c) (place h) (not (eqb (rule h c) accepted)) from _ (λ t. at-place (number h c t) (few h g (omega arith))) (λ f.
+      sound-each l (c ∷ h) from (more h c (eqb-true _ _ (not-false _ f)) g) (λ b gb le. few b gb (omega arith)))
+
+sound-calls : (d : ℕ) (calls : List ℕ) (from : ℕ) → Sound (takeCalls d calls [] from)
+unfolding takeCalls AllAllowed callPlace
+sound-calls d calls from =
+    sound-on (takeEach callPlace (callRefusal d) calls [] [] from) _
+    (sound-each callPlace (callRefusal d) (AllAllowed d) (λ h c e a. (accepted-is d h c .0 e, a))
+    (λ h c. numbered-by d h c refusesContents refl refl refl refl) calls [] from tt (λ b a le. omega (arith, at-most-319 d b a)))
+    (λ h m q.
+    sound-test auctionUnfinished (length calls) (not (isOver h)) m _
+    (λ t. at-place refl (omega (arith, allowed-each d calls (each-kept callPlace (callRefusal d) calls [] from q) .few))) (λ f. tt))
+
+sound-cards : (d : ℕ) (deal h cards : List ℕ) (from : ℕ) → Sound (takeCards d deal h cards [] from)
+unfolding takeCards cardsPlayed
+sound-cards d deal h cards from =
+    let rule = cardRefusal (trumpAfter h) (openingAfter d h) deal in
+    let test = ltb 52 (length cards) || (passedOut h && ltb 0 (length cards)) in
+    sound-test tooManyCards (min (length cards) 63) test from _ (λ t. at-place refl (omega arith)) (λ f.
+    let few = ltb-false 52 (length cards) (or-left (ltb 52 (length cards)) _ f) in
+    sound-each cardsPlayed rule (λ g. Unit {0}) (λ g c e u. tt)
+    (λ g c. card-numbered-by (trumpAfter h) (openingAfter d h) deal g c refusesContents refl refl refl)
+    cards [] from tt (λ b u le. omega arith))
+
+sound-claim : (h g : List ℕ) (claim : Claim) (from : ℕ) → cardsPlayed g ≤ 52 → Sound (takeClaim h g claim [] from)
+unfolding takeClaim
+sound-claim h g none from few = sound-last playUnfinished (cardsPlayed g) (not (passedOut h) && not (allPlayed g)) from (λ t. at-place refl (omega arith))
+sound-claim h g (agreed tricks) from few =
+    sound-test noClaimPoint (cardsPlayed g) (passedOut h || not (atClaimPoint g)) from _ (λ t. at-place refl (omega arith)) (λ f.
+    sound-last claimTooMany (min tricks 15) (not (claimable g tricks)) from (λ t. at-place refl (omega arith)))
+
+-- the cards that are taken are at most 52
+few-taken : (d : ℕ) (deal h cards : List ℕ) (from : ℕ) {g : List ℕ} {m : ℕ} → takeCards d deal h cards [] from ≡ found g m → cardsPlayed g ≤ 52
+unfolding takeCards cardsPlayed
+few-taken d deal h cards from {g} q =
+    let t = first-test tooManyCards (min (length cards) 63) (ltb 52 (length cards) || (passedOut h && ltb 0 (length cards))) [] from _ q in
+    let few = ltb-false 52 (length cards) (or-left (ltb 52 (length cards)) _ (t .0)) in
+    rw (cards-history d deal h cards from q, length-reverse cards) few
+
+sound-parts : (p : Parts) → Sound (takeParts p [] 0)
+unfolding takeParts
+sound-parts p =
+    let d = dealer (p .board) in
+    sound-on (takeHeading (p .board) (p .table) [] 0) _ (sound-heading (p .board) (p .table) 0) (λ u n₁ q₁.
+    sound-on (takeDeal (p .deal) [] n₁) _ (sound-deal (p .deal) n₁) (λ u n₂ q₂.
+    sound-on (takeCalls d (p .calls) [] n₂) _ (sound-calls d (p .calls) n₂) (λ h n₃ q₃.
+    sound-on (takeCards d (p .deal) h (p .cards) [] n₃) _ (sound-cards d (p .deal) h (p .cards) n₃) (λ g n₄ q₄.
+    sound-on (takeClaim h g (p .claim) [] n₄) _ (sound-claim h g (p .claim) n₄ (few-taken d (p .deal) h (p .cards) n₃ q₄)) (λ u n₅ q₅. tt)))))
+
+pub contents-numbered : (p : Parts) {n place : ℕ} → contentsOf p ≡ declined n place → Refuses n place
+unfolding contentsOf
+contents-numbered p {n} {place} e = go (takeParts p [] 0) (sound-parts p) e
+  where
+    go : (r : Reading Parts) → Sound r → outcome r ≡ declined n place → Refuses n place
+    go (refused a b) f o = let ea : a ≡ n = cc in let eb : b ≡ place = cc in rw (← ea, ← eb) f
+    go (found q m) f o = let z : _≡_ {A = ℕ} 0 1 = cc in absurd (omega arith)

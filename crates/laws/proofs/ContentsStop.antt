@@ -1,0 +1,158 @@
+-- How far the checks of contents go: what lets a section pass, and where codes are refused. Assumes nothing.
+use Prim.Native.Nat.{ℕ, zero, suc, _≤_, _<_, min}
+use native.Mathlib.Omega.{arith}
+use mathlib.Core.Path.{_≡_, refl, _∙_}
+use mathlib.Core.Bool.{Bool, true, false, _&&_, _||_}
+use mathlib.Core.List.{List, [], _∷_, reverse, reverseAux}
+use borrow.Author.Tests.{eq-eqb, ne-eqb, le-ltb, lt-ltb, le-leb, lt-leb}
+use lib.Dec.{ltb, eqb}
+use lib.ListN.{length, getD, take, length-reverse, length-take}
+use Rattle.laws.specs.Choice.{some}
+use Rattle.laws.specs.Refusals.{accepted, noBoardOrTable, notThirteen, noCall, tooManyCards, noCard, claimTooMany}
+use Rattle.laws.specs.Cards.{noSeat, cardsDealt}
+use Rattle.laws.specs.Auction.{callPlace, isOver, passedOut, allowed, trumpAfter, openingAfter}
+use Rattle.laws.specs.CallRefusal.{callRefusal}
+use Rattle.laws.specs.Law44.{cardsPlayed, tricksLeft, playable}
+use Rattle.laws.specs.CardRefusal.{cardRefusal}
+use Rattle.laws.specs.Law68.{agreed, atClaimPoint, claimable}
+use Rattle.laws.specs.Lawful.{firstOf}
+use Rattle.laws.specs.Reading.{Reading.refused, Reading.found}
+use Rattle.laws.specs.Contents.{takeHeading, areSeats, takeDeal, takeEach, takeCalls, takeCards, takeClaim}
+use Rattle.laws.proofs.Tests.{by-test, not-both}
+use Rattle.laws.proofs.Histories.{Each, each-place}
+use Rattle.laws.proofs.CallRefusals.{accepted-is}
+use Rattle.laws.proofs.CardRefusals.{accepted-is as card-accepted-is}
+use Rattle.laws.proofs.Readings.{test-is, test-stops}
+use Rattle.laws.proofs.Sections.{short-none}
+use Rattle.laws.proofs.Contents.{none-over}
+
+-- ---- board and table
+module _ (board table from : ℕ) where
+  pub heading-passes : 1 ≤ board → board ≤ 127 → 1 ≤ table → table ≤ 511 → takeHeading board table [] from ≡ found tt from
+  unfolding takeHeading
+  heading-passes a b c d =
+      simp (le-ltb 127 board b, ne-eqb board 0 (λ e. omega arith), le-ltb 511 table d, ne-eqb table 0 (λ e. omega arith), test-is)
+
+  pub board-stops : 127 < board → takeHeading board table [] from ≡ refused noBoardOrTable 0
+  unfolding takeHeading
+  board-stops h = simp (lt-ltb 127 board h, test-stops)
+
+  pub table-stops : 1 ≤ board → board ≤ 127 → 511 < table → takeHeading board table [] from ≡ refused noBoardOrTable 1
+  unfolding takeHeading
+  table-stops a b h = simp (le-ltb 127 board b, ne-eqb board 0 (λ e. omega arith), lt-ltb 511 table h, test-is, test-stops)
+
+-- ---- the deal
+one-over : (l : List ℕ) (k : ℕ) → k < length l → 3 < getD l k 0 → some (λ holder. ltb 3 holder) l ≡ true
+unfolding some
+one-over [] k h o = absurd (omega arith)
+one-over (x ∷ l) zero h o = rw (lt-ltb 3 x o)
+one-over (x ∷ l) (suc k) h o = rw (one-over l k (omega arith) o) (or-true (ltb 3 x))
+  where
+    or-true : (b : Bool) → (b || true) ≡ true
+    or-true true = refl
+    or-true false = refl
+
+module _ (deal : List ℕ) (from : ℕ) where
+  pub deal-passes : length deal ≡ 52 → ((k : ℕ) → k < 52 → getD deal k 0 ≤ 3) → ((seat : ℕ) → seat < 4 → cardsDealt seat deal ≡ 13)
+      → takeDeal deal [] from ≡ found tt from
+  unfolding takeDeal areSeats
+  deal-passes all seats thirteen =
+      simp (eq-eqb (length deal) 52 all, none-over deal (λ k h. seats k (omega arith)), short-none deal thirteen, test-is)
+
+  pub number-stops : (length deal ≡ 52 → ⊥) → takeDeal deal [] from ≡ refused notThirteen noSeat
+  unfolding takeDeal areSeats
+  number-stops ne = simp (ne-eqb (length deal) 52 ne, test-stops)
+
+  pub holder-stops : (k : ℕ) → k < length deal → 3 < getD deal k 0 → takeDeal deal [] from ≡ refused notThirteen noSeat
+  unfolding takeDeal areSeats
+  holder-stops k h o = simp (one-over deal k h o, and-false (eqb (length deal) 52), test-stops)
+    where
+      and-false : (b : Bool) → (b && false) ≡ false
+      and-false true = refl
+      and-false false = refl
+
+-- ---- codes
+module _ (place : List ℕ → ℕ) (rule : List ℕ → ℕ → ℕ) where
+  pub each-passes : (l h : List ℕ) (from : ℕ) → Each (λ b c. rule b c ≡ accepted) h l → takeEach place rule l h [] from ≡ found (reverseAux l h) from
+  unfolding takeEach Each
+  each-passes [] h from e = refl
+  each-passes (c ∷ l) h from e =
+      simp (eq-eqb (rule h c) accepted (e .0), test-is) (each-passes l (c ∷ h) from (e .1))
+
+  -- the first code that its rule refuses, with so many codes before it that pass
+  pub each-stops : (l h : List ℕ) (k from : ℕ) → k < length l → ((j : ℕ) → j < k → rule (reverseAux (take j l) h) (getD l j 0) ≡ accepted)
+      → (n : ℕ) → rule (reverseAux (take k l) h) (getD l k 0) ≡ n → (n ≡ accepted → ⊥)
+      → takeEach place rule l h [] from ≡ refused n (place (reverseAux (take k l) h))
+  unfolding takeEach
+  each-stops [] h k from w f n e z = absurd (omega arith)
+  each-stops (c ∷ l) h zero from w f n e z = simp (e, ne-eqb n accepted z, test-stops)
+  each-stops (c ∷ l) h (suc k) from w f n e z =
+      simp (eq-eqb (rule h c) accepted (f 0 (omega arith)), test-is)
+      (each-stops l (c ∷ h) k from (omega arith) (λ j i. f (suc j) (omega arith)) n e z)
+
+-- the first k members of a list that has them are k
+pub first-length : (l : List ℕ) (k : ℕ) → k < length l → length (firstOf k l) ≡ k
+first-length l k h = length-reverse (take k l) ∙ rw (length-take k l) (omega arith)
+
+-- ---- the calls
+no-call : (d : ℕ) (h : List ℕ) (c : ℕ) → 37 < c → callRefusal d h c ≡ noCall
+unfolding callRefusal
+no-call d h c o = rw (lt-leb c 37 o)
+
+module _ (d : ℕ) (calls : List ℕ) (from : ℕ) where
+  pub calls-pass : ((k : ℕ) → k < length calls → allowed d (firstOf k calls) (getD calls k 0) ≡ true) → isOver (reverse calls) ≡ true
+      → takeCalls d calls [] from ≡ found (reverse calls) from
+  unfolding takeCalls
+  calls-pass each over =
+      let e = each-place (λ h c. callRefusal d h c ≡ accepted) calls .1 (λ k h. accepted-is d _ _ .1 (each k h)) in
+      simp (each-passes callPlace (callRefusal d) calls [] from e, over, test-is)
+
+  pub call-stops : (k : ℕ) → k < length calls → ((j : ℕ) → j < k → allowed d (firstOf j calls) (getD calls j 0) ≡ true) → 37 < getD calls k 0
+      → takeCalls d calls [] from ≡ refused noCall k
+  unfolding takeCalls callPlace
+  call-stops k h each o =
+      let s = each-stops callPlace (callRefusal d) calls [] k from h (λ j i. accepted-is d _ _ .1 (each j i)) noCall (no-call d _ _ o) (λ z. omega arith) in
+      simp (s, first-length calls k h)
+
+-- ---- the cards, after the calls h
+no-card : (trump opening : ℕ) (deal g : List ℕ) (c : ℕ) → 51 < c → cardRefusal trump opening deal g c ≡ noCard
+unfolding cardRefusal
+no-card trump opening deal g c o = rw (le-leb 52 c o)
+
+module _ (d : ℕ) (deal h : List ℕ) (all : length deal ≡ 52) (cards : List ℕ) (from : ℕ) where
+  -- the number of cards passes: at most 52, and none where the auction was passed out
+  counted : length cards ≤ 52 → (passedOut h ≡ true → length cards ≡ 0) → (ltb 52 (length cards) || (passedOut h && ltb 0 (length cards))) ≡ false
+  counted few none =
+      by-test (passedOut h)
+      (λ (q : passedOut h ≡ true). rw (le-ltb 52 (length cards) few, q) (le-ltb 0 (length cards) (omega (arith, none q))))
+      (λ (q : passedOut h ≡ false). rw (le-ltb 52 (length cards) few, q))
+
+  pub cards-pass : length cards ≤ 52 → (passedOut h ≡ true → length cards ≡ 0)
+      → ((k : ℕ) → k < length cards → playable (trumpAfter h) (openingAfter d h) deal (firstOf k cards) (getD cards k 0) ≡ true)
+      → takeCards d deal h cards [] from ≡ found (reverse cards) from
+  unfolding takeCards
+  cards-pass few none each =
+      let rule = cardRefusal (trumpAfter h) (openingAfter d h) deal in
+      let e = each-place (λ g c. rule g c ≡ accepted) cards .1 (λ k l. card-accepted-is _ _ deal _ _ all .1 (each k l)) in
+      simp (counted few none, test-is) (each-passes cardsPlayed rule cards [] from e)
+
+  pub count-stops : 52 < length cards → takeCards d deal h cards [] from ≡ refused tooManyCards (min (length cards) 63)
+  unfolding takeCards
+  count-stops o = simp (lt-ltb 52 (length cards) o, test-stops)
+
+  pub card-stops : length cards ≤ 52 → passedOut h ≡ false → (k : ℕ) → k < length cards
+      → ((j : ℕ) → j < k → playable (trumpAfter h) (openingAfter d h) deal (firstOf j cards) (getD cards j 0) ≡ true)
+      → 51 < getD cards k 0
+      → takeCards d deal h cards [] from ≡ refused noCard k
+  unfolding takeCards cardsPlayed
+  card-stops few played k w each o =
+      let rule = cardRefusal (trumpAfter h) (openingAfter d h) deal in
+      let s = each-stops cardsPlayed rule cards [] k from w (λ j i. card-accepted-is _ _ deal _ _ all .1 (each j i)) noCard
+      (no-card _ _ deal _ _ o) (λ z. omega arith) in
+      simp (counted few (λ q. not-both (passedOut h) q played), test-is) (s ∙ rw (first-length cards k w))
+
+-- ---- the claim, after the calls h and the cards g
+pub claim-stops : (h g : List ℕ) (tricks from : ℕ) → passedOut h ≡ false → atClaimPoint g ≡ true → tricksLeft g < tricks
+    → takeClaim h g (agreed tricks) [] from ≡ refused claimTooMany (min tricks 15)
+unfolding takeClaim claimable
+claim-stops h g tricks from played point more = simp (played, point, lt-leb tricks (tricksLeft g) more, test-is, test-stops)
