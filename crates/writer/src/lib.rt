@@ -103,9 +103,9 @@ pub fn write_record(
         ≡ recordLeft (writeOf (partsOf board table (now (holders .entry)) (now (calls .entry)) (now (cards .entry)) marked claim)
         (length (now (out .entry)))) (now (out .entry)) ⌝ }
 {
-    let refusal = contents_refusal(board, table, holders, calls, cards, marked, claim);
-    if refusal != 0 {
-        return refusal;
+    let number = contents_refusal(board, table, holders, calls, cards, marked, claim);
+    if number != 0 {
+        return number;
     }
     let size = length_of(calls.len(), cards.len(), marked);
     if out.len() < size {
