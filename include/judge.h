@@ -79,7 +79,7 @@ enum judge_refusal {
     JUDGE_NO_SUCH_CARD = 11,         /* card code from 52 on; place: the play */
     JUDGE_CARD_NOT_HELD = 12,        /* Law 44: card dealt to another seat; place: the play */
     JUDGE_CARDS_MISSING = 13,        /* a contract, no claim, under 52 cards; place: the play count */
-    JUDGE_CLAIM_NOT_ALLOWED = 14,    /* Law 68: claim at another point, or passed out; place: the play count */
+    JUDGE_CLAIM_NOT_ALLOWED = 14,    /* Law 68: claim after no card or all 52, or passed out; place: the play count */
     JUDGE_CLAIM_TOO_HIGH = 15,       /* Law 68: more tricks than are left; place: the claim, at most 15 */
     JUDGE_NOT_ENDED = 16,            /* a padding bit is 1, or a byte follows; place 0 */
     JUDGE_NO_ROOM_FOR_RECORD = 22,   /* judge_write_record alone: the buffer is too short for the record; place 0 */

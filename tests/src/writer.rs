@@ -102,7 +102,7 @@ fn claim(marked: u32, claim: u32, played: usize) -> Result<(), Refused> {
     if marked == 0 {
         return if played < 52 { Err(refused(13, played)) } else { Ok(()) };
     }
-    if played == 0 || played == 52 || played % 4 != 0 {
+    if played == 0 || played == 52 {
         return Err(refused(14, played));
     }
     if claim > 13 - played as u32 / 4 {

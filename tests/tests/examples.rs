@@ -52,6 +52,17 @@ fn one_club_and_a_claim() {
     }
 }
 
+/// The same after three cards, in the middle of the first trick: thirteen tricks are left. 12 tricks score 20 + 50 + 5 × 20, 13 one more.
+#[test]
+fn a_claim_in_the_middle_of_a_trick() {
+    for judge in JUDGES {
+        let record = |claim| suits(1, &[3, 0, 0, 0], &[13, 26, 39], Some(claim));
+        assert_eq!(judged(judge, &record(12)), (0, 170));
+        assert_eq!(judged(judge, &record(13)), (0, 190));
+        assert_eq!(judged(judge, &record(14)).0, 15 * 1024 + 14);
+    }
+}
+
 /// Level, strain, doubling, tricks, vulnerable, and what declarer's side scores: P1 to P6, by the Rust judge's function.
 const SCORES: [(u8, u8, u8, u8, bool, i32); 6] = [
     (3, 4, 0, 9, false, 400),
@@ -130,6 +141,11 @@ fn card(word: &str) -> u64 {
 /// One club by N on board 1, where nobody is vulnerable. A line is a trick, the seat that leads and the four cards in order of play; all thirteen
 /// say which seat was dealt which card. With a claim, only the first `played` tricks are in the record.
 fn one_club_played(tricks: &[&str; 13], played: usize, claim: Option<u64>) -> Vec<u8> {
+    one_club_cards(tricks, 4 * played, claim)
+}
+
+/// The same with so many cards in the record.
+fn one_club_cards(tricks: &[&str; 13], count: usize, claim: Option<u64>) -> Vec<u8> {
     let (mut deal, mut cards) = (vec![4; 52], Vec::new());
     for trick in tricks {
         let (leader, words) = trick.split_once(' ').unwrap();
@@ -139,7 +155,7 @@ fn one_club_played(tricks: &[&str; 13], played: usize, claim: Option<u64>) -> Ve
             cards.push(card(word));
         }
     }
-    record(1, deal, &[3, 0, 0, 0], &cards[..4 * played], claim)
+    record(1, deal, &[3, 0, 0, 0], &cards[..count], claim)
 }
 
 /// Accepted by both judges, with tricks won by N's side, the same after Law 64, NS's score, and the revokes.
@@ -186,6 +202,18 @@ const FIVE_LATER: [&str; 13] = [
     "N CK D7 HK C7",
     "N CA H3 HA C8",
 ];
+
+/// The revoke of P9 in a trick that a claim leaves unfinished: one trick, as far as E's side gets one by the claim. N's side has one trick of two, and
+/// eleven are left. 7 tricks score 20 + 50.
+#[test]
+fn a_revoke_in_an_unfinished_trick() {
+    let hearts = [revoke(3, 1, 2)];
+    for cards in [10, 11] {
+        expect_law_64(&one_club_cards(&NONE_LATER, cards, Some(5)), 6, 7, 70, &hearts);
+        expect_law_64(&one_club_cards(&NONE_LATER, cards, Some(10)), 11, 12, 170, &hearts);
+        expect_law_64(&one_club_cards(&NONE_LATER, cards, Some(11)), 12, 12, 170, &hearts);
+    }
+}
 
 /// P9: the two tricks of the revoke, down to those that E's side won from trick 3 on, played or claimed. 12 tricks score 20 + 50 + 5 × 20, 8 tricks
 /// 20 + 50 + 20.

@@ -69,7 +69,7 @@ cardNotHeld = 12
 abbrev pub playUnfinished : ℕ
 playUnfinished = 13
 
--- Law 68: a claim at another point than the end of a trick, or on a board that was passed out
+-- Law 68: a claim before the first card or after the last, or on a board that was passed out
 abbrev pub noClaimPoint : ℕ
 noClaimPoint = 14
 

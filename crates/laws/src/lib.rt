@@ -44,7 +44,7 @@ pub const CARD_NOT_HELD: u8 = 12;
 // A contract without a claim, and fewer than 52 cards.
 pub const PLAY_UNFINISHED: u8 = 13;
 
-// Law 68: a claim at another point than the end of a trick, or on a board that was passed out.
+// Law 68: a claim before the first card or after the last, or on a board that was passed out.
 pub const NO_CLAIM_POINT: u8 = 14;
 
 // Law 68: a claim of more tricks than are left.

@@ -1,12 +1,12 @@
 -- Law 68 by the number of cards played.
 -- Assumes nothing.
-use Prim.Native.Nat.{ℕ, _%_}
+use Prim.Native.Nat.{ℕ}
 use mathlib.Core.Bool.{Bool, not, _&&_}
-use lib.Dec.{eqb, leb}
+use lib.Dec.{leb}
 
--- so many cards are the end of a trick, the first to the twelfth
+-- so many cards are neither none nor all
 unfoldable pub pointAt : ℕ → Bool
-pointAt played = eqb (played % 4) 0 && (leb 4 played && leb played 48)
+pointAt played = leb 1 played && leb played 51
 
 -- there is a contract, and a claim may stand after so many cards
 unfoldable pub mayClaim : Bool → ℕ → Bool

@@ -10,13 +10,10 @@ pub fn may_claim(out: bool, played: u8) -> bool
     if out {
         return false;
     }
-    if played % 4 != 0 {
+    if played < 1 {
         return false;
     }
-    if played < 4 {
-        return false;
-    }
-    played <= 48
+    played <= 51
 }
 
 // The tricks left after so many cards.

@@ -1,5 +1,5 @@
 -- `play::claims::may_claim` meets its contract. Assumes nothing.
-use borrow.Author.Tests.{eq-eqb, ne-eqb, le-leb, lt-leb}
+use borrow.Author.Tests.{le-leb, lt-leb}
 use Rattle.play.specs.Claims.{pointAt, mayClaim}
 use Rattle.play.proofs.claims.may_claim.Statement.{statement}
 use Rattle.play.proofs.claims.may_claim.Tie as tie
@@ -10,15 +10,11 @@ returns c = simp (c .if1 .taken)
 
 returns-2 : tie.Need-returns-2
 unfolding mayClaim pointAt
-returns-2 c = simp (c .before .if1 .left, ne-eqb _ _ (c .if2 .taken))
+returns-2 c = simp (c .before .if1 .left, lt-leb _ _ (c .if2 .taken))
 
 returns-3 : tie.Need-returns-3
 unfolding mayClaim pointAt
-returns-3 c = simp (c .before .before .if1 .left, eq-eqb _ _ (c .before .if2 .left), lt-leb _ _ (c .if3 .taken))
-
-returns-4 : tie.Need-returns-4
-unfolding mayClaim pointAt
-returns-4 c = simp (c .before .before .if1 .left, eq-eqb _ _ (c .before .if2 .left), le-leb _ _ (c .if3 .left))
+returns-3 c = simp (c .before .if1 .left, le-leb _ _ (c .if2 .left))
 
 pub may-claim-spec : {M : Type 1} → statement M
-may-claim-spec = tie.close (tie.spec returns returns-2 returns-3 returns-4)
+may-claim-spec = tie.close (tie.spec returns returns-2 returns-3)
