@@ -79,7 +79,7 @@ claimTooMany = 15
 abbrev pub notPadding : ℕ
 notPadding = 16
 
--- a tally that is not as described
+-- a tally, or a state of a team match, that is not as described
 abbrev pub malformedTally : ℕ
 malformedTally = 17
 
@@ -98,3 +98,11 @@ invalidScore = 20
 -- a score that the tally does not have
 abbrev pub scoreNotInTally : ℕ
 scoreNotInTally = 21
+
+-- a board of a team match that is outside 1 to 127, or was used already
+abbrev pub boardNotFree : ℕ
+boardNotFree = 29
+
+-- a 33rd board of a team match
+abbrev pub tooManyBoards : ℕ
+tooManyBoards = 30

@@ -1,0 +1,86 @@
+-- What a call answers and leaves, by the tests that it makes. Assumes nothing.
+use Prim.Native.Nat.{ℕ, _≤_, _<_}
+use native.Mathlib.Omega.{arith}
+use mathlib.Core.Path.{_≡_, refl, sym, ap, _∙_}
+use mathlib.Core.Bool.{Bool, true, false, not, _&&_}
+use borrow.Author.Tests.{lt-leb, le-leb}
+use lib.IntN.{ℤ, _-ℤ_}
+use lib.ListN.{length}
+use Rattle.score.specs.declared.Imps.{Imps}
+use Rattle.score.specs.declared.ImpAnswer.the-variants.{Refused, Scored}
+use Rattle.score.specs.Units.{impAnswer}
+use Rattle.laws.specs.Choice.{if_then_else_}
+use Rattle.laws.specs.Refusals.{Answer, refused, answered, malformedTally, invalidScore, boardNotFree, tooManyBoards}
+use Rattle.laws.specs.Law77.{validScore}
+use Rattle.laws.specs.Law78.{impsOf, imps}
+use Rattle.laws.specs.TeamMatch.{Call, isFree, answerTo, leaving, impsOn}
+use Rattle.laws.proofs.Tests.{by-test}
+use Rattle.team_match.specs.declared.TeamMatch.{TeamMatch}
+use Rattle.team_match.specs.declared.Played.{Played}
+use Rattle.team_match.specs.Matches.{boardsIn, isMatch, answerOn, withImps, afterOn}
+
+-- IMPs are refused where a score isn't valid, and answered where both are
+never : {A : Type 0} (z : ℤ) (n : ℕ) → answered z ≡ refused n → A
+never z n e = absurd (let k : _≡_ {A = ℕ} 0 1 = cc in omega arith)
+
+module _ (first second : ℤ) where
+  not-valid : (n : ℕ) → refused n ≡ imps first second → (validScore first && validScore second) ≡ false
+  unfolding imps
+  not-valid n e =
+      by-test (validScore first && validScore second)
+      (λ (q : (validScore first && validScore second) ≡ true). never (impsOf (first -ℤ second)) n (sym (rw q at e)))
+      (λ (q : (validScore first && validScore second) ≡ false). q)
+
+  pub valid-both : (z : ℤ) → answered z ≡ imps first second → (validScore first && validScore second) ≡ true
+  unfolding imps
+  valid-both z e =
+      by-test (validScore first && validScore second)
+      (λ (q : (validScore first && validScore second) ≡ true). q)
+      (λ (q : (validScore first && validScore second) ≡ false). never z invalidScore (rw q at e))
+
+  pub valid-imps : (validScore first && validScore second) ≡ true → imps first second ≡ answered (impsOf (first -ℤ second))
+  unfolding imps
+  valid-imps q = rw q
+
+  same-answer : (y z : ℤ) → answered y ≡ answered z → y ≡ z
+  same-answer y z e = cc
+
+  pub scored : (z : ℤ) → answered z ≡ imps first second → z ≡ impsOf (first -ℤ second)
+  scored z e = same-answer z _ (e ∙ valid-imps (valid-both z e))
+
+module _ (m : TeamMatch) (c : Call) where
+  -- ---- the answers, in the order of the tests
+  pub no-match : isMatch m ≡ false → answerOn m c ≡ refused malformedTally
+  unfolding answerOn
+  no-match e = rw e
+
+  pub no-score : isMatch m ≡ true → (n : ℕ) → refused n ≡ imps (c .first) (c .second) → answerOn m c ≡ refused invalidScore
+  unfolding answerOn answerTo
+  no-score e n q = rw (e, not-valid (c .first) (c .second) n q)
+
+  module _ (ok : isMatch m ≡ true) (z : ℤ) (q : answered z ≡ imps (c .first) (c .second)) where
+    pub not-free : isFree (c .board) (boardsIn m) ≡ false → answerOn m c ≡ refused boardNotFree
+    unfolding answerOn answerTo
+    not-free e = rw (ok, valid-both (c .first) (c .second) z q, e)
+
+    pub full : isFree (c .board) (boardsIn m) ≡ true → 32 ≤ length (boardsIn m) → answerOn m c ≡ refused tooManyBoards
+    unfolding answerOn answerTo
+    full e h = rw (ok, valid-both (c .first) (c .second) z q, e, le-leb _ _ h)
+
+    pub taken : isFree (c .board) (boardsIn m) ≡ true → length (boardsIn m) < 32 → answerOn m c ≡ answered z
+    unfolding answerOn answerTo
+    taken e h = rw (ok, valid-both (c .first) (c .second) z q, e, lt-leb _ _ h) (sym q)
+
+  -- ---- the answer and the state together
+  -- what `play` gives
+  abbrev pub Gives : Played → Type 0
+  Gives r = (r .state ≡ afterOn m c) × (impAnswer (r .answer) ≡ answerOn m c)
+
+  pub gives-refusal : (n : ℕ) {r : Played} → answerOn m c ≡ refused n → r ≡ record { state = m; answer = Refused n } → Gives r
+  unfolding afterOn
+  gives-refusal n e q = rw (q, e) (refl, refl)
+
+  pub gives-board : (i : Imps) {r : Played} → i .0 ≡ impsOn c → answerOn m c ≡ answered (i .0)
+      → r ≡ record { state = withImps m (c .board) (i .0); answer = Scored i } → Gives r
+  unfolding afterOn
+  gives-board i z e q = rw (q, e) (ap (withImps m (c .board)) z, refl)
