@@ -2,16 +2,17 @@
 -- added to the first team's total; the other team's total is its negation. A run of calls is written latest first: in `c ∷ run`, c came after run.
 -- It knows no state of a match: what a call answers goes by the boards that were accepted before it.
 -- Assumes nothing.
-use Prim.Native.Nat.{ℕ}
-use mathlib.Core.Bool.{Bool, not, _&&_}
-use mathlib.Core.List.{List, [], _∷_, map}
+use Prim.Native.Nat.{ℕ, _≤_}
+use mathlib.Core.Path.{_≡_}
+use mathlib.Core.Bool.{Bool, true, false, not, _&&_}
+use mathlib.Core.List.{List, [], _∷_}
 use lib.Dec.{leb, eqb}
 use lib.IntN.{ℤ, pos, negℤ, _+ℤ_, _-ℤ_}
 use lib.ListN.{length}
-use Rattle.laws.specs.Choice.{if_then_else_, some}
+use Rattle.laws.specs.Choice.{if_then_else_, howMany, some}
 use Rattle.laws.specs.Refusals.{Answer, refused, answered, invalidScore, boardNotFree, tooManyBoards}
 use Rattle.laws.specs.Law77.{validScore}
-use Rattle.laws.specs.Law78.{impsOf, imps}
+use Rattle.laws.specs.Law78.{sameScore, impsOf, imps}
 
 -- how many boards a match may have
 abbrev pub mostBoards : ℕ
@@ -72,3 +73,29 @@ pub record Totals : Type 0 where
 -- the other team's total is the negation of the first team's
 abbrev pub totalsOf : ℤ → Totals
 totalsOf total = record { first = total; second = negℤ total }
+
+-- ---- matches, and when two are of the same boards
+-- boards that can be played one after the other: numbers from 1 to 127 that are distinct, with valid scores
+unfoldable pub Playable : List Call → Type 0
+Playable [] = Unit {0}
+Playable (c ∷ calls) =
+    (1 ≤ c .board) × (c .board ≤ 127) × (isUsed (c .board) (boardsOf calls) ≡ false)
+    × (validScore (c .first) ≡ true) × (validScore (c .second) ≡ true) × Playable calls
+
+-- the boards of a match: at most 32 of them
+pub record Boards (calls : List Call) : Type 0 where
+  pub room : length calls ≤ mostBoards
+  pub playable : Playable calls
+
+-- two boards have the same number and the same scores
+unfoldable pub sameCall : Call → Call → Bool
+sameCall a b = eqb (a .board) (b .board) && (sameScore (a .first) (b .first) && sameScore (a .second) (b .second))
+
+-- two lists have the same boards with the same scores, each as often
+unfoldable pub SameBoards : List Call → List Call → Type 0
+SameBoards calls calls2 = (c : Call) → howMany (sameCall c) calls ≡ howMany (sameCall c) calls2
+
+-- the boards with their scores swapped, as the other team has them
+unfoldable pub swapped : List Call → List Call
+swapped [] = []
+swapped (c ∷ calls) = record { board = c .board; first = c .second; second = c .first } ∷ swapped calls

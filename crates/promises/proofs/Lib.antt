@@ -12,3 +12,7 @@ pub mod TalliesMatchpoints
 pub mod Tallies
 pub mod Demand2Imps
 pub mod Percentages
+pub mod TeamMatchRuns
+pub mod TeamMatchOrder
+pub mod TeamMatchReached
+pub mod TeamMatch

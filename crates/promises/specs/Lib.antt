@@ -9,3 +9,4 @@ pub mod Demand3
 pub mod Tallies
 pub mod Demand2Imps
 pub mod Percentages
+pub mod TeamMatch

@@ -3,7 +3,9 @@ use Prim.Native.Nat.{ℕ, _≤_, _<_}
 use native.Mathlib.Omega.{arith}
 use mathlib.Core.Path.{_≡_, refl, sym, ap, _∙_}
 use mathlib.Core.Bool.{Bool, true, false, not, _&&_}
-use borrow.Author.Tests.{lt-leb, le-leb}
+use mathlib.Core.List.{List}
+use borrow.Author.Tests.{lt-leb, le-leb, leb-true, leb-false, not-true}
+use lib.Dec.{leb}
 use lib.IntN.{ℤ, _-ℤ_}
 use lib.ListN.{length}
 use Rattle.score.specs.declared.Imps.{Imps}
@@ -13,8 +15,8 @@ use Rattle.laws.specs.Choice.{if_then_else_}
 use Rattle.laws.specs.Refusals.{Answer, refused, answered, malformedTally, invalidScore, boardNotFree, tooManyBoards}
 use Rattle.laws.specs.Law77.{validScore}
 use Rattle.laws.specs.Law78.{impsOf, imps}
-use Rattle.laws.specs.TeamMatch.{Call, isFree, answerTo, leaving, impsOn}
-use Rattle.laws.proofs.Tests.{by-test}
+use Rattle.laws.specs.TeamMatch.{Call, isUsed, isFree, answerTo, leaving, impsOn}
+use Rattle.laws.proofs.Tests.{by-test, and-left, and-right, and-both}
 use Rattle.team_match.specs.declared.TeamMatch.{TeamMatch}
 use Rattle.team_match.specs.declared.Played.{Played}
 use Rattle.team_match.specs.Matches.{boardsIn, isMatch, answerOn, withImps, afterOn}
@@ -84,3 +86,53 @@ module _ (m : TeamMatch) (c : Call) where
       → r ≡ record { state = withImps m (c .board) (i .0); answer = Scored i } → Gives r
   unfolding afterOn
   gives-board i z e q = rw (q, e) (ap (withImps m (c .board)) z, refl)
+
+-- ---- what is answered goes by which boards are used and by how many
+pub same-used : (used used2 : List ℕ) (c : Call) → isUsed (c .board) used ≡ isUsed (c .board) used2 → length used ≡ length used2
+    → answerTo used c ≡ answerTo used2 c
+unfolding answerTo isFree
+same-used used used2 c e q = rw (e, q)
+
+-- a call that is answered, taken apart
+pub record Taken (used : List ℕ) (c : Call) (z : ℤ) : Type 0 where
+  pub one : validScore (c .first) ≡ true
+  pub two : validScore (c .second) ≡ true
+  pub from : 1 ≤ c .board
+  pub to : c .board ≤ 127
+  pub free : isUsed (c .board) used ≡ false
+  pub room : length used < 32
+  pub worth : z ≡ impsOn c
+
+module _ (used : List ℕ) (c : Call) (z : ℤ) where
+  answered-only : (valid free full : Bool)
+      → (if not valid then refused invalidScore else if not free then refused boardNotFree else if full then refused tooManyBoards
+      else imps (c .first) (c .second)) ≡ answered z
+      → (valid ≡ true) × (free ≡ true) × (full ≡ false) × (imps (c .first) (c .second) ≡ answered z)
+  answered-only true true true e = never z tooManyBoards (sym e)
+  answered-only true true false e = (refl, refl, refl, e)
+  answered-only true false full e = never z boardNotFree (sym e)
+  answered-only false free full e = never z invalidScore (sym e)
+
+  pub taken-apart : answerTo used c ≡ answered z → Taken used c z
+  unfolding answerTo isFree
+  taken-apart e =
+      let v = validScore (c .first) && validScore (c .second) in
+      let last = leb (c .board) 127 && not (isUsed (c .board) used) in
+      let r = answered-only v (leb 1 (c .board) && last) (leb 32 (length used)) e in
+      let f = and-right (leb 1 (c .board)) last (r .1) in
+      record {
+        one = and-left _ (validScore (c .second)) (r .0);
+        two = and-right (validScore (c .first)) _ (r .0);
+        from = leb-true _ _ (and-left (leb 1 (c .board)) last (r .1));
+        to = leb-true _ _ (and-left (leb (c .board) 127) (not (isUsed (c .board) used)) f);
+        free = not-true _ (and-right (leb (c .board) 127) (not (isUsed (c .board) used)) f);
+        room = leb-false _ _ (r .2);
+        worth = scored (c .first) (c .second) z (sym (r .3));
+      }
+
+  -- such a call is answered
+  pub answered-to : Taken used c z → answerTo used c ≡ answered z
+  unfolding answerTo isFree
+  answered-to t =
+      rw (t .one, t .two, le-leb 1 (c .board) (t .from), le-leb (c .board) 127 (t .to), t .free, lt-leb 32 (length used) (t .room), t .worth)
+      (valid-imps (c .first) (c .second) (and-both _ _ (t .one) (t .two)))

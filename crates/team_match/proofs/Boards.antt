@@ -4,15 +4,15 @@ use native.Mathlib.Nat.{add-zero, zero-add}
 use native.Mathlib.Numerals.{add-one}
 use native.Mathlib.Omega.{arith}
 use mathlib.Core.Path.{_≡_, refl, sym, ap, _∙_}
-use mathlib.Core.Bool.{Bool, true, false, not, _&&_}
+use mathlib.Core.Bool.{Bool, true, false, not, _&&_, _||_}
 use mathlib.Core.List.{List, [], _∷_}
-use borrow.Author.Tests.{eq-eqb, ne-eqb, leb-true}
+use borrow.Author.Tests.{eq-eqb, ne-eqb, eqb-true, eqb-false, leb-true}
 use lib.Dec.{eqb, leb}
-use lib.ListN.{length, getD, drop, set}
-use lib.Seq.{drop-cons}
+use lib.ListN.{length, getD, drop, set, replicate}
+use lib.Seq.{drop-cons, getD-set-same, getD-set-other}
 use Rattle.laws.specs.Choice.{if_then_else_, some}
 use Rattle.laws.specs.TeamMatch.{isUsed, isFree}
-use Rattle.laws.proofs.Tests.{and-left, and-right}
+use Rattle.laws.proofs.Tests.{by-test, and-left, and-right}
 use Rattle.team_match.specs.Matches.{placesFrom}
 
 -- how many places hold from a place on
@@ -38,8 +38,8 @@ pub count-end : (l : List Bool) (i : ℕ) → length l ≤ i → countFrom l i �
 count-end l i h = none-behind l i i h
 
 -- ---- which boards
-none-before : (b i : ℕ) (l : List Bool) → b < i → some (eqb b) (placesFrom i l) ≡ false
-unfolding placesFrom some
+pub none-before : (b i : ℕ) (l : List Bool) → b < i → isUsed b (placesFrom i l) ≡ false
+unfolding placesFrom isUsed some
 none-before b i [] h = refl
 none-before b i (true ∷ l) h = rw (ne-eqb b i (λ e. omega arith), none-before b (suc i) l (omega arith))
 none-before b i (false ∷ l) h = none-before b (suc i) l (omega arith)
@@ -48,7 +48,7 @@ later : (i k : ℕ) → i + suc k ≡ suc i + k
 later i k = omega arith
 
 used-from : (l : List Bool) (i k : ℕ) → some (eqb (i + k)) (placesFrom i l) ≡ getD l k false
-unfolding placesFrom some
+unfolding placesFrom isUsed some
 used-from [] i k = refl
 used-from (true ∷ l) i zero = rw (add-zero, eq-eqb i i refl)
 used-from (true ∷ l) i (suc k) = rw (ne-eqb (i + suc k) i (λ e. omega arith), later i k) (used-from l (suc i) k)
@@ -65,3 +65,37 @@ pub free-number : (board : ℕ) (used : List ℕ) → isFree board used ≡ true
 unfolding isFree
 free-number board used e =
     leb-true board 127 (and-left (leb board 127) (not (isUsed board used)) (and-right (leb 1 board) (leb board 127 && not (isUsed board used)) e))
+
+-- ---- a board more
+more-from : (i k : ℕ) (l : List Bool) → k < length l → getD l k false ≡ false → length (placesFrom i (set l k true)) ≡ suc (length (placesFrom i l))
+unfolding placesFrom
+more-from i k [] h e = absurd (omega arith)
+more-from i zero (true ∷ l) h e = cc
+more-from i zero (false ∷ l) h e = refl
+more-from i (suc k) (true ∷ l) h e = ap suc (more-from (suc i) k l (omega arith) e)
+more-from i (suc k) (false ∷ l) h e = more-from (suc i) k l (omega arith) e
+
+pub one-more : (l : List Bool) (board : ℕ) → board < length l → getD l board false ≡ false
+    → length (placesFrom 0 (set l board true)) ≡ suc (length (placesFrom 0 l))
+one-more l board h e = more-from 0 board l h e
+
+-- the place of a board more holds, and the others are as they were
+pub one-place : (l : List Bool) (board b : ℕ) → board < length l → getD (set l board true) b false ≡ (eqb b board || getD l b false)
+one-place l board b h =
+    by-test (eqb b board)
+    (λ (q : eqb b board ≡ true). rw (q, eqb-true b board q) (getD-set-same l board true false h))
+    (λ (q : eqb b board ≡ false). rw q (getD-set-other l board b true false (eqb-false b board q)))
+
+-- no board before the first
+pub none-used : (l : List Bool) (n b : ℕ) → l ≡ replicate n false → (getD l b false ≡ false) × (length (placesFrom 0 l) ≡ 0)
+unfolding placesFrom
+none-used l n b e = rw e (none-at n b, none-from 0 n)
+  where
+    none-at : (n b : ℕ) → getD (replicate n false) b false ≡ false
+    none-at zero b = refl
+    none-at (suc n) zero = refl
+    none-at (suc n) (suc b) = none-at n b
+
+    none-from : (i n : ℕ) → length (placesFrom i (replicate n false)) ≡ 0
+    none-from i zero = refl
+    none-from i (suc n) = none-from (suc i) n
