@@ -19,7 +19,7 @@ use Rattle.team_match.specs.declared.TeamMatch.{TeamMatch}
 use Rattle.team_match.specs.Matches.{placesFrom, boardsIn, isMatch}
 use Rattle.team_match.proofs.Boards.{none-before, used-place}
 use Rattle.team_match.proofs.States.{parts}
-use Rattle.promises.specs.TeamMatch.{left, pointsFor, boardWorth, spread, runFor, Described}
+use Rattle.promises.specs.TeamMatch.{left, pointsFor, boardWorth, mostOnOne, spread, runFor, Described}
 use Rattle.promises.proofs.TeamMatchRuns.{Stands, stands, is-state, all-accepted, boards-length}
 use Rattle.promises.proofs.TeamMatchOrder.{one-state}
 
@@ -89,7 +89,7 @@ module _ (total : ℤ) where
   spread-boards : (imps : ℕ) (boards : List ℕ) → boardsOf (spread total imps boards) ≡ boards
   unfolding spread boardsOf
   spread-boards imps [] = refl
-  spread-boards imps (b ∷ boards) = ap₂ (λ (x : ℕ) (l : List ℕ). x ∷ l) (board-number total b (min imps 24)) (spread-boards (imps - min imps 24) boards)
+  spread-boards imps (b ∷ boards) = ap₂ (λ (x : ℕ) (l : List ℕ). x ∷ l) (board-number total b (min imps mostOnOne)) (spread-boards (imps - min imps mostOnOne) boards)
 
   spread-length : (imps : ℕ) (boards : List ℕ) → length (spread total imps boards) ≡ length boards
   spread-length imps boards = sym (boards-length (spread total imps boards)) ∙ ap length (spread-boards imps boards)
@@ -100,7 +100,7 @@ module _ (total : ℤ) where
       let none : imps ≡ 0 = omega arith in
       rw none (sym (none-of-sign total))
   spread-total imps (b ∷ boards) h =
-      let k = min imps 24 in
+      let k = min imps mostOnOne in
       let whole : (imps - k) + k ≡ imps = omega arith in
       ap₂ _+ℤ_ (spread-total (imps - k) boards (omega arith)) (board-imps total b k (omega arith))
       ∙ sum-of-sign total (imps - k) k ∙ ap (withSignOf total) whole
@@ -109,7 +109,7 @@ module _ (total : ℤ) where
   unfolding spread Playable placesFrom
   spread-playable imps i [] from to = tt
   spread-playable imps i (true ∷ l) from to =
-      let k = min imps 24 in
+      let k = min imps mostOnOne in
       let free : isUsed i (boardsOf (spread total (imps - k) (placesFrom (suc i) l))) ≡ false =
       ap (isUsed i) (spread-boards (imps - k) (placesFrom (suc i) l)) ∙ not-yet i l in
       rw (board-number total i k) (

@@ -54,10 +54,14 @@ unfoldable pub boardWorth : ℤ → ℕ → ℕ → Call
 boardWorth (pos n) board imps = record { board = board; first = pos (pointsFor imps); second = pos 0 }
 boardWorth (negsuc n) board imps = record { board = board; first = pos 0; second = pos (pointsFor imps) }
 
+-- the most IMPs that one board gets
+abbrev pub mostOnOne : ℕ
+mostOnOne = 24
+
 -- so many IMPs spread over some boards: each gets what is left, but at most 24
 unfoldable pub spread : ℤ → ℕ → List ℕ → List Call
 spread total imps [] = []
-spread total imps (board ∷ boards) = boardWorth total board (min imps 24) ∷ spread total (imps - min imps 24) boards
+spread total imps (board ∷ boards) = boardWorth total board (min imps mostOnOne) ∷ spread total (imps - min imps mostOnOne) boards
 
 -- the run that is exhibited for a state: its boards, with its total spread over them
 unfoldable pub runFor : TeamMatch → List Call
