@@ -1,12 +1,12 @@
--- `tree_script::plus_in` meets its contract. Assumes nothing.
+-- `decimal::plus_in` meets its contract. Assumes nothing.
 use native.Mathlib.Omega.{arith}
 use borrow.Author.Needs.{needs}
 use borrow.Author.Tests.{lt-ltb, le-ltb}
 use mir.Syntax.{w16}
 use mir.Facts.{toZ-pos}
-use Rattle.tree_script.specs.Calls.{plusIn}
-use Rattle.tree_script.proofs.plus_in.Statement.{statement}
-use Rattle.tree_script.proofs.plus_in.Tie as tie
+use Rattle.decimal.specs.Scores.{plusIn}
+use Rattle.decimal.proofs.plus_in.Statement.{statement}
+use Rattle.decimal.proofs.plus_in.Tie as tie
 
 returns : tie.Need-returns
 unfolding plusIn

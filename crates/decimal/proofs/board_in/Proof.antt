@@ -1,9 +1,9 @@
--- `tree_script::board_in` meets its contract. Assumes nothing.
+-- `decimal::board_in` meets its contract. Assumes nothing.
 use borrow.Author.Needs.{needs}
 use borrow.Author.Tests.{lt-ltb, le-ltb}
-use Rattle.tree_script.specs.Calls.{boardIn}
-use Rattle.tree_script.proofs.board_in.Statement.{statement}
-use Rattle.tree_script.proofs.board_in.Tie as tie
+use Rattle.decimal.specs.Scores.{boardIn}
+use Rattle.decimal.proofs.board_in.Statement.{statement}
+use Rattle.decimal.proofs.board_in.Tie as tie
 
 returns : tie.Need-returns
 unfolding boardIn

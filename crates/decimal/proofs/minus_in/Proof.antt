@@ -1,10 +1,10 @@
--- `tree_script::minus_in` meets its contract. Assumes nothing.
+-- `decimal::minus_in` meets its contract. Assumes nothing.
 use borrow.Author.Needs.{needs}
 use borrow.Author.Tests.{lt-ltb}
-use Rattle.tree_script.specs.Calls.{minusIn}
-use Rattle.tree_script.proofs.Lines.{small-fits, minus-is}
-use Rattle.tree_script.proofs.minus_in.Statement.{statement}
-use Rattle.tree_script.proofs.minus_in.Tie as tie
+use Rattle.decimal.specs.Scores.{minusIn}
+use Rattle.decimal.proofs.Scores.{small-fits, minus-is}
+use Rattle.decimal.proofs.minus_in.Statement.{statement}
+use Rattle.decimal.proofs.minus_in.Tie as tie
 
 returns : tie.Need-returns
 unfolding minusIn
