@@ -1,9 +1,9 @@
--- `tree_run::with_byte` meets its contract. Assumes nothing.
+-- `script_line::with_byte` meets its contract. Assumes nothing.
 use borrow.Author.Needs.{needs}
 use borrow.Author.Tests.{lt-ltb, le-ltb}
-use Rattle.tree_run.specs.Runs.{withByte}
-use Rattle.tree_run.proofs.with_byte.Statement.{statement}
-use Rattle.tree_run.proofs.with_byte.Tie as tie
+use Rattle.script_line.specs.Lines.{withByte}
+use Rattle.script_line.proofs.with_byte.Statement.{statement}
+use Rattle.script_line.proofs.with_byte.Tie as tie
 
 element-write-next : tie.Need-element-write-next
 element-write-next c = search needs

@@ -1,9 +1,9 @@
--- `tree_run::next_number` meets its contract. Assumes nothing.
+-- `script_line::next_number` meets its contract. Assumes nothing.
 use borrow.Author.Needs.{needs}
 use borrow.Author.Tests.{lt-ltb, le-ltb}
-use Rattle.tree_run.specs.Runs.{nextNumber}
-use Rattle.tree_run.proofs.next_number.Statement.{statement}
-use Rattle.tree_run.proofs.next_number.Tie as tie
+use Rattle.script_line.specs.Lines.{nextNumber}
+use Rattle.script_line.proofs.next_number.Statement.{statement}
+use Rattle.script_line.proofs.next_number.Tie as tie
 
 add-result : tie.Need-add-result
 add-result c = search needs
