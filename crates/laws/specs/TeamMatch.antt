@@ -1,4 +1,4 @@
--- A team match (docs/RULES.md, 12): two teams at two tables. Each board's two scores, the first less the second, become IMPs by Law 78B, which are
+-- A team match (docs/RULES.md, 13): two teams at two tables. Each board's two scores, the first less the second, become IMPs by Law 78B, which are
 -- added to the first team's total; the other team's total is its negation. A run of calls is written latest first: in `c ∷ run`, c came after run.
 -- It knows no state of a match: what a call answers goes by the boards that were accepted before it.
 -- Assumes nothing.
@@ -32,7 +32,7 @@ isUsed board used = some (eqb board) used
 unfoldable pub isFree : ℕ → List ℕ → Bool
 isFree board used = leb 1 board && (leb board 127 && not (isUsed board used))
 
--- what a call answers where so many boards are used: 20 if either score isn't valid, else 29 if the board isn't free, else 30 if there are 32 already,
+-- what a call answers where these boards are used: 20 if either score isn't valid, else 29 if the board isn't free, else 30 if there are 32 already,
 -- else the IMPs of the first score less the second
 unfoldable pub answerTo : List ℕ → Call → Answer ℤ
 answerTo used c =

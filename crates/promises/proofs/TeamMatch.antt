@@ -11,7 +11,7 @@ use Rattle.laws.proofs.Scale.{imps-neg}
 use Rattle.team_match.specs.Matches.{answerOn, afterOn, totalsOn}
 use Rattle.team_match.proofs.Told.{one-totals}
 use Rattle.promises.specs.TeamMatch.{left, OfRun, OfTeamMatches}
-use Rattle.promises.proofs.TeamMatchRuns.{Stands, stands, is-state, answers, all-accepted}
+use Rattle.promises.proofs.TeamMatchRuns.{stands, is-state, answers, all-accepted}
 use Rattle.promises.proofs.TeamMatchOrder.{same-state}
 use Rattle.promises.proofs.TeamMatchReached.{described}
 

@@ -1,18 +1,17 @@
 -- Lists with the same boards and the same scores, in whatever order, have the same total and use the same boards. Assumes nothing.
-use Prim.Native.Nat.{ℕ, zero, suc, _≤_, _<_, _+_}
+use Prim.Native.Nat.{ℕ, _<_, _+_}
 use native.Mathlib.Omega.{arith}
 use mathlib.Core.Path.{_≡_, refl, sym, ap, _∙_}
 use mathlib.Core.Bool.{Bool, true, false, _&&_, _||_}
 use mathlib.Core.List.{List, [], _∷_}
 use borrow.Author.Tests.{eqb-true, eq-eqb}
 use lib.Dec.{eqb}
-use lib.IntN.{ℤ, pos, _+ℤ_, +ℤ-assoc, +ℤ-comm}
-use lib.ListN.{length}
+use lib.IntN.{ℤ, _+ℤ_, +ℤ-assoc, +ℤ-comm}
 use lib.Seq.{ext-getD}
 use Rattle.laws.specs.Choice.{if_then_else_, howMany, some}
 use Rattle.laws.specs.Law78.{sameScore}
 use Rattle.laws.specs.TeamMatch.{Call, isUsed, boardsOf, acceptedIn, impsOn, totalOf, sameCall, SameBoards}
-use Rattle.laws.proofs.Tests.{by-test, and-left, and-right, and-both}
+use Rattle.laws.proofs.Tests.{by-test, and-left, and-right}
 use Rattle.laws.proofs.Scores.{same-true, is-self}
 use Rattle.team_match.specs.declared.TeamMatch.{TeamMatch}
 use Rattle.promises.specs.TeamMatch.{left}

@@ -1,20 +1,20 @@
 -- Every state that passes the test is left by the run that is exhibited for it: its boards, with its total spread over them. Assumes nothing.
-use Prim.Native.Nat.{ℕ, zero, suc, _≤_, _<_, _+_, _-_, _*_, min}
+use Prim.Native.Nat.{ℕ, suc, _≤_, _+_, _-_, _*_, min}
 use native.Mathlib.Omega.{arith}
 use mathlib.Core.Path.{_≡_, refl, sym, ap, ap₂, _∙_}
 use mathlib.Core.Bool.{Bool, true, false}
 use mathlib.Core.List.{List, [], _∷_}
 use borrow.Author.Tests.{eqb-true}
 use lib.Dec.{eqb}
-use lib.IntN.{ℤ, pos, negsuc, negℤ, natAbs, _+ℤ_, _-ℤ_, +ℤ-idl, +ℤ-idr, negℤ-+ℤ}
+use lib.IntN.{ℤ, pos, negsuc, negℤ, natAbs, _+ℤ_, +ℤ-idl, +ℤ-idr, negℤ-+ℤ}
 use lib.ListN.{length, getD}
-use Rattle.laws.specs.Choice.{if_then_else_, howMany}
+use Rattle.laws.specs.Choice.{howMany}
 use Rattle.laws.specs.Law77.{validScore}
 use Rattle.laws.specs.Law78.{lowerEnds, lowerEnd, impsForSize, withSignOf, impsOf}
 use Rattle.laws.specs.TeamMatch.{Call, isUsed, boardsOf, acceptedIn, impsOn, totalOf, Playable, Boards}
 use Rattle.laws.proofs.Tests.{not-both}
 use Rattle.laws.proofs.Counts.{everyBelow, every-below}
-use Rattle.laws.proofs.Scale.{imps-neg, worth}
+use Rattle.laws.proofs.Scale.{imps-neg}
 use Rattle.team_match.specs.declared.TeamMatch.{TeamMatch}
 use Rattle.team_match.specs.Matches.{placesFrom, boardsIn, isMatch}
 use Rattle.team_match.proofs.Boards.{none-before, used-place}
@@ -89,7 +89,9 @@ module _ (total : ℤ) where
   spread-boards : (imps : ℕ) (boards : List ℕ) → boardsOf (spread total imps boards) ≡ boards
   unfolding spread boardsOf
   spread-boards imps [] = refl
-  spread-boards imps (b ∷ boards) = ap₂ (λ (x : ℕ) (l : List ℕ). x ∷ l) (board-number total b (min imps mostOnOne)) (spread-boards (imps - min imps mostOnOne) boards)
+  spread-boards imps (b ∷ boards) =
+      let k = min imps mostOnOne in
+      ap₂ (λ (x : ℕ) (l : List ℕ). x ∷ l) (board-number total b k) (spread-boards (imps - k) boards)
 
   spread-length : (imps : ℕ) (boards : List ℕ) → length (spread total imps boards) ≡ length boards
   spread-length imps boards = sym (boards-length (spread total imps boards)) ∙ ap length (spread-boards imps boards)

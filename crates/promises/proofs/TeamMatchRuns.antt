@@ -1,5 +1,5 @@
 -- What a run of calls of a team match leaves stands for the boards that it accepts: at every call, by one step. Assumes nothing.
-use Prim.Native.Nat.{ℕ, zero, suc, _≤_, _<_, _+_, _*_}
+use Prim.Native.Nat.{ℕ, suc, _≤_, _<_, _+_, _*_}
 use native.Mathlib.Omega.{arith}
 use mathlib.Core.Path.{_≡_, refl, sym, ap, _∙_}
 use mathlib.Core.Bool.{Bool, true, false, _||_}
@@ -16,7 +16,7 @@ use Rattle.laws.proofs.Scale.{at-most-24-imps}
 use Rattle.team_match.specs.declared.TeamMatch.{TeamMatch}
 use Rattle.team_match.specs.Matches.{boardsIn, isMatch, startOf, answerOn, withImps, afterOn}
 use Rattle.team_match.proofs.Boards.{used-place, one-more, one-place, none-used}
-use Rattle.team_match.proofs.States.{Parts, whole}
+use Rattle.team_match.proofs.States.{whole}
 use Rattle.team_match.proofs.Answers.{same-used, Taken, taken-apart, answered-to}
 use Rattle.promises.specs.TeamMatch.{left}
 

@@ -1,12 +1,12 @@
 -- How long the texts of a team match are. Assumes nothing.
-use Prim.Native.Nat.{ℕ, suc, _+_, _≤_, _<_, _^_}
+use Prim.Native.Nat.{ℕ, suc, _+_, _≤_, _<_}
 use native.Mathlib.Omega.{arith}
 use mathlib.Core.Path.{_≡_}
 use lib.IntN.{ℤ, pos, negsuc}
 use lib.ListN.{length, length-append}
 use mir.Syntax.{w32}
 use mir.Val.{SFits}
-use Rattle.laws.specs.Decimal.{decimal, signedDecimal}
+use Rattle.laws.specs.Decimal.{signedDecimal}
 use Rattle.sheet_text.specs.Answers.{refusedText}
 use Rattle.sheet_text.specs.Team.{impsText, totalsText}
 use Rattle.sheet_text.proofs.Answering.{refused-length}

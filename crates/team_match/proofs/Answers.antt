@@ -12,10 +12,10 @@ use Rattle.score.specs.declared.Imps.{Imps}
 use Rattle.score.specs.declared.ImpAnswer.the-variants.{Refused, Scored}
 use Rattle.score.specs.Units.{impAnswer}
 use Rattle.laws.specs.Choice.{if_then_else_}
-use Rattle.laws.specs.Refusals.{Answer, refused, answered, malformedTally, invalidScore, boardNotFree, tooManyBoards}
+use Rattle.laws.specs.Refusals.{refused, answered, malformedTally, invalidScore, boardNotFree, tooManyBoards}
 use Rattle.laws.specs.Law77.{validScore}
 use Rattle.laws.specs.Law78.{impsOf, imps}
-use Rattle.laws.specs.TeamMatch.{Call, isUsed, isFree, answerTo, leaving, impsOn}
+use Rattle.laws.specs.TeamMatch.{Call, isUsed, isFree, answerTo, impsOn}
 use Rattle.laws.proofs.Tests.{by-test, and-left, and-right, and-both}
 use Rattle.team_match.specs.declared.TeamMatch.{TeamMatch}
 use Rattle.team_match.specs.declared.Played.{Played}

@@ -10,7 +10,7 @@ use borrow.Author.Tests.{eq-eqb, ne-eqb, eqb-true, eqb-false, leb-true}
 use lib.Dec.{eqb, leb}
 use lib.ListN.{length, getD, drop, set, replicate}
 use lib.Seq.{drop-cons, getD-set-same, getD-set-other}
-use Rattle.laws.specs.Choice.{if_then_else_, some}
+use Rattle.laws.specs.Choice.{some}
 use Rattle.laws.specs.TeamMatch.{isUsed, isFree}
 use Rattle.laws.proofs.Tests.{by-test, and-left, and-right}
 use Rattle.team_match.specs.Matches.{placesFrom}

@@ -11,13 +11,12 @@ use score::add_imps;
 use score::imps_of;
 use score::imps_size;
 ghost use mathlib.Core.Path.{_≡_};
-ghost use mathlib.Core.Bool.{true, false, not};
+ghost use mathlib.Core.Bool.{true, false};
 ghost use lib.IntN.{natAbs, negℤ};
 ghost use lib.ListN.{length};
 ghost use Prim.Native.Nat.{_≤_};
 ghost use Rattle.score.specs.Units.{impAnswer};
-ghost use Rattle.laws.specs.Law78.{impsOf};
-ghost use Rattle.laws.specs.TeamMatch.{Call, isFree};
+ghost use Rattle.laws.specs.TeamMatch.{isFree};
 ghost use Rattle.team_match.specs.Matches.{boardsIn, isMatch, startOf, withImps, answerOn, afterOn, totalsOn, totalsAnswer};
 
 // The first team's total, and for each number from 0 to 127 whether that board was used; 0 is no board's number.

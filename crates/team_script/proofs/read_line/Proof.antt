@@ -4,7 +4,7 @@ use borrow.Author.Needs.{needs}
 use lib.Seq.{length-take-le}
 use Rattle.decimal.specs.Numbers.{numberOn}
 use Rattle.decimal.proofs.Scores.{rest-is}
-use Rattle.team_script.specs.Boards.{field, behind, asked, askedOn}
+use Rattle.team_script.specs.Boards.{field, asked, askedOn}
 use Rattle.team_script.proofs.Fields.{field-is}
 use Rattle.team_script.proofs.read_line.Statement.{statement}
 use Rattle.team_script.proofs.read_line.Tie as tie

@@ -1,5 +1,5 @@
 -- `try_team::state` is safe, and ends. Assumes nothing.
-use Prim.Native.Nat.{_≤_, _-_}
+use Prim.Native.Nat.{_-_}
 use borrow.Author.Needs.{needs}
 use Rattle.try_team.proofs.state.Statement.{statement}
 use Rattle.try_team.proofs.state.Tie as tie
