@@ -1,4 +1,5 @@
 -- `decimal::board_in` meets its contract. Assumes nothing.
+use native.Mathlib.Omega.{arith}
 use borrow.Author.Needs.{needs}
 use borrow.Author.Tests.{lt-ltb, le-ltb}
 use Rattle.decimal.specs.Scores.{boardIn}
@@ -7,7 +8,7 @@ use Rattle.decimal.proofs.board_in.Tie as tie
 
 returns : tie.Need-returns
 unfolding boardIn
-returns c = rw (lt-ltb _ _ (c .if1 .taken))
+returns c = rw (lt-ltb 255 (c .before .args .n) (omega arith))
 
 cast-result : tie.Need-cast-result
 cast-result c = search needs

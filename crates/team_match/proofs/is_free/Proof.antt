@@ -14,7 +14,9 @@ returns c = rw (c .if1 .taken)
 
 returns-2 : tie.Need-returns-2
 unfolding isFree
-returns-2 c = simp (lt-leb _ _ (c .if2 .taken), le-leb 1 (c .before .before .args .board) (omega arith))
+returns-2 c =
+    let b = c .before .before .args .board in
+    rw (le-leb 1 b (omega arith), lt-leb b 127 (omega arith))
 
 element-copy-out-result : tie.Need-element-copy-out-result
 element-copy-out-result c = search needs
