@@ -38,12 +38,14 @@ unfolding totalsOn
 of-run run =
     let s = stands run in
     let a = answers (left run) (acceptedIn run) s in
-    let t : totalsOn (left run) ≡ answered (totalsOf (totalOf (acceptedIn run))) = rw (is-state (left run) (acceptedIn run) s, s .total) in
+    let k = is-state (left run) (acceptedIn run) s in
+    let t : totalsOn (left run) ≡ answered (totalsOf (totalOf (acceptedIn run))) = rw (k, s .total) in
     record {
       boards = s .boards;
       total = s .total;
       places = s .places;
       used = s .used;
+      state = k;
       answers = a;
       plays = λ c r q e. (q ∙ goes-on run c, e ∙ a c);
       unchanged = stays run;

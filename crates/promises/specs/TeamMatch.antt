@@ -32,6 +32,8 @@ pub record OfRun (run : List Call) : Type 0 where
   -- the boards used are theirs: of 128 places, those of their numbers hold and no others
   pub places : length (left run .used) ≡ 128
   pub used : (board : ℕ) → getD (left run .used) board false ≡ isUsed board (boardsOf (acceptedIn run))
+  -- what is left is a state, so that no call of a run is refused with 17
+  pub state : isMatch (left run) ≡ true
   -- the next call, whatever it is, is refused exactly when the rules say, with their number; else it is answered its IMPs
   pub answers : (c : Call) → answerOn (left run) c ≡ answerTo (boardsOf (acceptedIn run)) c
   -- every answer that the contract of `team_match::play` allows stands for that, and leaves the state of the longer run
