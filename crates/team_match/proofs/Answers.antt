@@ -1,15 +1,14 @@
 -- What a call answers and leaves, by the tests that it makes. Assumes nothing.
 use Prim.Native.Nat.{ℕ, _≤_, _<_}
 use native.Mathlib.Omega.{arith}
-use mathlib.Core.Path.{_≡_, refl, sym, ap, _∙_}
+use mathlib.Core.Path.{_≡_, refl, sym, _∙_}
 use mathlib.Core.Bool.{Bool, true, false, not, _&&_}
 use mathlib.Core.List.{List}
 use borrow.Author.Tests.{lt-leb, le-leb, leb-true, leb-false, not-true}
 use lib.Dec.{leb}
 use lib.IntN.{ℤ, _-ℤ_}
 use lib.ListN.{length}
-use Rattle.score.specs.declared.Imps.{Imps}
-use Rattle.score.specs.declared.ImpAnswer.the-variants.{Refused, Scored}
+use Rattle.score.specs.declared.ImpAnswer.the-variants.{Refused}
 use Rattle.score.specs.Units.{impAnswer}
 use Rattle.laws.specs.Choice.{if_then_else_}
 use Rattle.laws.specs.Refusals.{refused, answered, malformedTally, invalidScore, boardNotFree, tooManyBoards}
@@ -19,20 +18,16 @@ use Rattle.laws.specs.TeamMatch.{Call, isUsed, isFree, answerTo, impsOn}
 use Rattle.laws.proofs.Tests.{by-test, and-left, and-right, and-both}
 use Rattle.team_match.specs.declared.TeamMatch.{TeamMatch}
 use Rattle.team_match.specs.declared.Played.{Played}
-use Rattle.team_match.specs.Matches.{boardsIn, isMatch, answerOn, withImps, afterOn}
+use Rattle.team_match.specs.Matches.{boardsIn, isMatch, answerOn, accepted, afterOn}
 
 -- IMPs are refused where a score isn't valid, and answered where both are
-never : {A : Type 0} (z : ℤ) (n : ℕ) → answered z ≡ refused n → A
+pub never : {A : Type 0} (z : ℤ) (n : ℕ) → answered z ≡ refused n → A
 never z n e = absurd (let k : _≡_ {A = ℕ} 0 1 = cc in omega arith)
 
-module _ (first second : ℤ) where
-  not-valid : (n : ℕ) → refused n ≡ imps first second → (validScore first && validScore second) ≡ false
-  unfolding imps
-  not-valid n e =
-      by-test (validScore first && validScore second)
-      (λ (q : (validScore first && validScore second) ≡ true). never (impsOf (first -ℤ second)) n (sym (rw q at e)))
-      (λ (q : (validScore first && validScore second) ≡ false). q)
+pub same-answer : (y z : ℤ) → answered y ≡ answered z → y ≡ z
+same-answer y z e = cc
 
+module _ (first second : ℤ) where
   pub valid-both : (z : ℤ) → answered z ≡ imps first second → (validScore first && validScore second) ≡ true
   unfolding imps
   valid-both z e =
@@ -44,11 +39,12 @@ module _ (first second : ℤ) where
   unfolding imps
   valid-imps q = rw q
 
-  same-answer : (y z : ℤ) → answered y ≡ answered z → y ≡ z
-  same-answer y z e = cc
-
   pub scored : (z : ℤ) → answered z ≡ imps first second → z ≡ impsOf (first -ℤ second)
   scored z e = same-answer z _ (e ∙ valid-imps (valid-both z e))
+
+-- both scores are valid
+abbrev pub bothValid : Call → Bool
+bothValid c = validScore (c .first) && validScore (c .second)
 
 module _ (m : TeamMatch) (c : Call) where
   -- ---- the answers, in the order of the tests
@@ -56,22 +52,22 @@ module _ (m : TeamMatch) (c : Call) where
   unfolding answerOn
   no-match e = rw e
 
-  pub no-score : isMatch m ≡ true → (n : ℕ) → refused n ≡ imps (c .first) (c .second) → answerOn m c ≡ refused invalidScore
+  pub no-score : isMatch m ≡ true → bothValid c ≡ false → answerOn m c ≡ refused invalidScore
   unfolding answerOn answerTo
-  no-score e n q = rw (e, not-valid (c .first) (c .second) n q)
+  no-score ok q = rw (ok, q)
 
-  module _ (ok : isMatch m ≡ true) (z : ℤ) (q : answered z ≡ imps (c .first) (c .second)) where
+  module _ (ok : isMatch m ≡ true) (q : bothValid c ≡ true) where
     pub not-free : isFree (c .board) (boardsIn m) ≡ false → answerOn m c ≡ refused boardNotFree
     unfolding answerOn answerTo
-    not-free e = rw (ok, valid-both (c .first) (c .second) z q, e)
+    not-free e = rw (ok, q, e)
 
     pub full : isFree (c .board) (boardsIn m) ≡ true → 32 ≤ length (boardsIn m) → answerOn m c ≡ refused tooManyBoards
     unfolding answerOn answerTo
-    full e h = rw (ok, valid-both (c .first) (c .second) z q, e, le-leb _ _ h)
+    full e h = rw (ok, q, e, le-leb _ _ h)
 
-    pub taken : isFree (c .board) (boardsIn m) ≡ true → length (boardsIn m) < 32 → answerOn m c ≡ answered z
+    pub taken : isFree (c .board) (boardsIn m) ≡ true → length (boardsIn m) < 32 → answerOn m c ≡ answered (impsOn c)
     unfolding answerOn answerTo
-    taken e h = rw (ok, valid-both (c .first) (c .second) z q, e, lt-leb _ _ h) (sym q)
+    taken e h = rw (ok, q, e, lt-leb _ _ h) (valid-imps (c .first) (c .second) q)
 
   -- ---- the answer and the state together
   -- what `play` gives
@@ -82,10 +78,9 @@ module _ (m : TeamMatch) (c : Call) where
   unfolding afterOn
   gives-refusal n e q = rw (q, e) (refl, refl)
 
-  pub gives-board : (i : Imps) {r : Played} → i .0 ≡ impsOn c → answerOn m c ≡ answered (i .0)
-      → r ≡ record { state = withImps m (c .board) (i .0); answer = Scored i } → Gives r
+  pub gives-board : {r : Played} → answerOn m c ≡ answered (impsOn c) → r ≡ accepted m c → Gives r
   unfolding afterOn
-  gives-board i z e q = rw (q, e) (ap (withImps m (c .board)) z, refl)
+  gives-board e q = rw (q, e) (refl, refl)
 
 -- ---- what is answered goes by which boards are used and by how many
 pub same-used : (used used2 : List ℕ) (c : Call) → isUsed (c .board) used ≡ isUsed (c .board) used2 → length used ≡ length used2

@@ -9,7 +9,9 @@ use lib.ListN.{length, getD, set, replicate}
 use Rattle.laws.specs.Choice.{if_then_else_}
 use Rattle.laws.specs.Refusals.{Answer, refused, answered, malformedTally}
 use Rattle.laws.specs.TeamMatch.{mostBoards, Call, answerTo, leaving, impsOn, Totals as BothTotals, totalsOf}
+use Rattle.score.specs.declared.ImpAnswer.the-variants.{Scored}
 use Rattle.team_match.specs.declared.TeamMatch.{TeamMatch}
+use Rattle.team_match.specs.declared.Played.{Played}
 use Rattle.team_match.specs.declared.TotalsAnswer.{TotalsAnswer}
 use Rattle.team_match.specs.declared.TotalsAnswer.the-variants.{Refused, Totals}
 
@@ -39,6 +41,10 @@ answerOn m c = if isMatch m then answerTo (boardsIn m) c else refused malformedT
 -- a state with one board more, worth so many IMPs
 abbrev pub withImps : TeamMatch → ℕ → ℤ → TeamMatch
 withImps m board gained = record { total = record { 0 = m .total .0 +ℤ gained }; used = set (m .used) board true }
+
+-- a board that is accepted: the state with it, and its IMPs
+abbrev pub accepted : TeamMatch → Call → Played
+accepted m c = record { state = withImps m (c .board) (impsOn c); answer = Scored (record { 0 = impsOn c }) }
 
 -- the state after a call: with that board, or unchanged where the call is refused
 unfoldable pub afterOn : TeamMatch → Call → TeamMatch

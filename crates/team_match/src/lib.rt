@@ -10,14 +10,16 @@ use score::Imps;
 use score::add_imps;
 use score::imps_of;
 use score::imps_size;
+use score::valid;
 ghost use mathlib.Core.Path.{_≡_};
-ghost use mathlib.Core.Bool.{true, false};
+ghost use mathlib.Core.Bool.{true, _&&_};
 ghost use lib.IntN.{natAbs, negℤ};
 ghost use lib.ListN.{length};
 ghost use Prim.Native.Nat.{_≤_};
 ghost use Rattle.score.specs.Units.{impAnswer};
+ghost use Rattle.laws.specs.Law77.{validScore};
 ghost use Rattle.laws.specs.TeamMatch.{isFree};
-ghost use Rattle.team_match.specs.Matches.{boardsIn, isMatch, startOf, withImps, answerOn, afterOn, totalsOn, totalsAnswer};
+ghost use Rattle.team_match.specs.Matches.{boardsIn, isMatch, startOf, withImps, accepted, answerOn, afterOn, totalsOn, totalsAnswer};
 
 // The first team's total, and for each number from 0 to 127 whether that board was used; 0 is no board's number.
 pub struct TeamMatch {
@@ -90,6 +92,16 @@ fn is_free(m: TeamMatch, board: u8) -> bool
     !m.used[board as usize]
 }
 
+// Whether both scores are valid.
+fn both_valid(first: i16, second: i16) -> bool
+    ensures { λ r. ⌜ r ≡ (validScore first && validScore second) ⌝ }
+{
+    if !valid(first) {
+        return false;
+    }
+    valid(second)
+}
+
 // A refusal, with the state as it was.
 fn refuse(m: TeamMatch, refusal: u8) -> Played
     ensures { λ r. ⌜ r ≡ record { state = m; answer = ImpAnswer.Refused refusal } ⌝ }
@@ -100,8 +112,8 @@ fn refuse(m: TeamMatch, refusal: u8) -> Played
     }
 }
 
-// A board that is accepted: its IMPs in the total, and its place among those used.
-fn accept(m: TeamMatch, board: u8, gained: Imps) -> Played
+// A state with a board more, worth so many IMPs.
+fn with_imps(m: TeamMatch, board: u8, gained: Imps) -> Played
     requires { ⌜ (isMatch m ≡ true) × (board ≤ 127) × (natAbs (gained .0) ≤ 24) ⌝ }
     ensures { λ r. ⌜ r ≡ record { state = withImps m board (gained .0); answer = ImpAnswer.Scored gained } ⌝ }
 {
@@ -121,6 +133,17 @@ fn accept(m: TeamMatch, board: u8, gained: Imps) -> Played
     }
 }
 
+// A board that is accepted: its IMPs in the total, and its place among those used.
+fn accept(m: TeamMatch, board: u8, first: i16, second: i16) -> Played
+    requires { ⌜ (isMatch m ≡ true) × (board ≤ 127) × (validScore first ≡ true) × (validScore second ≡ true) ⌝ }
+    ensures { λ r. ⌜ r ≡ accepted m (record { board = board; first = first; second = second }) ⌝ }
+{
+    let ImpAnswer::Scored(gained) = imps_of(first, second) else {
+        return refuse(m, INVALID_SCORE);
+    };
+    with_imps(m, board, gained)
+}
+
 // One board more: its number, and the scores at the two tables. Refused, the state stays: 17 for the state, 20 for a score, 29 for the board, 30 for
 // a 33rd.
 pub fn play(m: TeamMatch, board: u8, first: i16, second: i16) -> Played
@@ -130,16 +153,16 @@ pub fn play(m: TeamMatch, board: u8, first: i16, second: i16) -> Played
     if !is_match(m) {
         return refuse(m, MALFORMED_TALLY);
     }
-    let ImpAnswer::Scored(gained) = imps_of(first, second) else {
+    if !both_valid(first, second) {
         return refuse(m, INVALID_SCORE);
-    };
+    }
     if !is_free(m, board) {
         return refuse(m, BOARD_NOT_FREE);
     }
     if 32 <= boards_used(m) {
         return refuse(m, TOO_MANY_BOARDS);
     }
-    accept(m, board, gained)
+    accept(m, board, first, second)
 }
 
 // The other team's total.
