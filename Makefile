@@ -2,7 +2,7 @@
 # make demo      judges the records in samples/ and prints a sheet
 # make install   puts header, archive and pkg-config file under PREFIX
 # make bench     the proved judge's speed beside the Rust judge's
-# make fuzz      compares on random records, contents, trees and sheets for FUZZ_SECONDS, from SEED where it is given
+# make fuzz      compares on random records, contents, trees, sheets and team matches for FUZZ_SECONDS, from SEED where it is given
 # What is built beside the proofs stands in build/, since `rt ci` removes target/.
 .PHONY: test demo install install-files bench fuzz outside clean tools rt-tool FORCE
 
@@ -13,6 +13,7 @@ RECORDS = 1000000
 WRITES = 300000
 TREES = 20000
 SHEETS = 3000
+TEAMS = 3000
 BLOCKS = 20000
 
 # The archive that judges and writes; build/stand-in/libjudge.a has the Rust judge and writer behind the same interface.
@@ -20,6 +21,7 @@ ARCHIVE = target/staticlib/libjudge.a
 TREE = target/bin/tree
 SHEET = target/bin/sheet
 CELLS = target/bin/cells
+TEAM = target/bin/team
 MERGES = target/bin/try_merges
 
 CC = cc
@@ -45,7 +47,7 @@ rt-tool:
 tools: rt-tool
 	$(call need,$(CC) $(CXX) cargo valgrind)
 
-$(ARCHIVE) $(TREE) $(SHEET) $(CELLS) $(MERGES): | rt-tool
+$(ARCHIVE) $(TREE) $(SHEET) $(CELLS) $(TEAM) $(MERGES): | rt-tool
 
 SOURCES = crates.txt $(shell find crates -name '*.rt' -o -name '*.antt')
 
@@ -92,7 +94,7 @@ install-files:
 build/rust-built: $(ARCHIVE) FORCE | tools
 	$(CARGO) build --release --offline --locked --quiet
 
-outside: tools build/rust-built build/terminal $(TREE) $(SHEET) $(CELLS)
+outside: tools build/rust-built build/terminal $(TREE) $(SHEET) $(CELLS) $(TEAM)
 	$(CC) $(CFLAGS) -Iinclude tests/c/header.c $(ARCHIVE) -o build/header-c
 	valgrind --quiet --error-exitcode=1 build/header-c
 	$(CXX) $(CXXFLAGS) -Iinclude -x c++ tests/c/header.c -x none $(ARCHIVE) -o build/header-c++
@@ -108,6 +110,7 @@ outside: tools build/rust-built build/terminal $(TREE) $(SHEET) $(CELLS)
 	$(RUST)/writes --count $(WRITES) $(SEED_WORDS)
 	$(RUST)/trees --program $(TREE) --count $(TREES) $(SEED_WORDS)
 	$(RUST)/sheets --program $(SHEET) --cells $(CELLS) --count $(SHEETS) $(SEED_WORDS)
+	$(RUST)/teams --program $(TEAM) --count $(TEAMS) $(SEED_WORDS)
 	$(RUST)/blocks $(or $(SEED),64) $(BLOCKS) >build/blocks.records
 	$(CC) $(CFLAGS) -g -Iinclude tests/c/blocks.c $(ARCHIVE) -o build/blocks
 	valgrind --quiet --error-exitcode=1 --leak-check=full build/blocks build/blocks.records
@@ -117,12 +120,13 @@ outside: tools build/rust-built build/terminal $(TREE) $(SHEET) $(CELLS)
 	$(CC) $(CFLAGS) -Iinclude tests/c/stack.c $(ARCHIVE) -o build/stack
 	build/stack build/blocks.records
 
-# A quarter of the time each for records, contents, trees and sheets.
-fuzz: build/rust-built $(TREE) $(SHEET) $(CELLS)
+# A quarter of the time each for records, contents and trees, an eighth for sheets and an eighth for team matches.
+fuzz: build/rust-built $(TREE) $(SHEET) $(CELLS) $(TEAM)
 	$(RUST)/records --seconds $$(($(FUZZ_SECONDS) / 4)) $(SEED_WORDS)
 	$(RUST)/writes --seconds $$(($(FUZZ_SECONDS) / 4)) $(SEED_WORDS)
 	$(RUST)/trees --program $(TREE) --seconds $$(($(FUZZ_SECONDS) / 4)) $(SEED_WORDS)
-	$(RUST)/sheets --program $(SHEET) --cells $(CELLS) --seconds $$(($(FUZZ_SECONDS) / 4)) $(SEED_WORDS)
+	$(RUST)/sheets --program $(SHEET) --cells $(CELLS) --seconds $$(($(FUZZ_SECONDS) / 8)) $(SEED_WORDS)
+	$(RUST)/teams --program $(TEAM) --seconds $$(($(FUZZ_SECONDS) / 8)) $(SEED_WORDS)
 
 bench: build/rust-built $(MERGES)
 	$(RUST)/bench --merges $(MERGES)

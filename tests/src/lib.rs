@@ -1,5 +1,5 @@
-//! A judge, a writer, a tally and a sheet for duplicate bridge, written from docs/RULES.md alone, and what is needed to compare
-//! the proved library with them: records of all shapes, damaged records, their contents, trees of tally calls, sheets.
+//! A judge, a writer, a tally, a sheet and a team match for duplicate bridge, written from docs/RULES.md alone, and what is needed to compare
+//! the proved library with them: records of all shapes, damaged records, their contents, trees of tally calls, sheets, team matches.
 
 pub mod auction;
 pub mod compare;
@@ -18,6 +18,8 @@ pub mod score;
 pub mod scripts;
 pub mod sheet;
 pub mod tally;
+pub mod team;
+pub mod team_scripts;
 pub mod tree;
 pub mod trial;
 pub mod write_trial;

@@ -7,6 +7,7 @@ use outside::parts::Parts;
 use outside::score::contract_score;
 use outside::sheet::{cells, sheet};
 use outside::tally::Tally;
+use outside::team::{imps, Line, Match, Written};
 use outside::{judge, proved};
 
 const JUDGES: [Judge; 2] = [judge::judge, proved::judge];
@@ -319,4 +320,18 @@ fn sheet_of_four() {
     assert_eq!(sheet(b"0\n-0\n"), "line 2 refused\n");
     assert_eq!(sheet(&b"0\n".repeat(129)), "line 129 refused\n");
     assert_eq!(sheet(&b"0\n".repeat(128)), "NS-SCORE COUNT NS-MP EW-MP\n0 128 127 127\n");
+}
+
+#[test]
+fn imps_of_differences() {
+    assert_eq!([10, 20, 490, 500, 3990, 4000].map(|points| imps(points, 0)), [0, 1, 10, 11, 23, 24]);
+    assert_eq!((imps(0, 500), imps(7600, -7600)), (-11, 24));
+}
+
+#[test]
+fn team_match_of_two_boards() {
+    let written = Written::of(&[Line::Board(1, 420, -50), Line::Board(2, -100, 620)], Match::play);
+    assert_eq!(written.text, "10\n-12\nTOTAL -2 2\n");
+    assert_eq!(Written::of(&[], Match::play).text, "TOTAL 0 0\n");
+    assert_eq!(Written::of(&[Line::Board(1, 420, -50), Line::Unreadable], Match::play).text, "10\nline 2 refused\n");
 }

@@ -30,3 +30,4 @@ pub mod Decimal
 pub mod Sheet
 pub mod Percentages
 pub mod CellSheet
+pub mod TeamMatch

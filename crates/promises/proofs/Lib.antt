@@ -14,3 +14,7 @@ pub mod Demand2Imps
 pub mod Percentages
 pub mod Writing
 pub mod UnfinishedTrick
+pub mod TeamMatchRuns
+pub mod TeamMatchOrder
+pub mod TeamMatchReached
+pub mod TeamMatch

@@ -11,3 +11,4 @@ pub mod Demand2Imps
 pub mod Percentages
 pub mod Writing
 pub mod UnfinishedTrick
+pub mod TeamMatch

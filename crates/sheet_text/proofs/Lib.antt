@@ -9,3 +9,4 @@ pub mod Results
 pub mod FirstBytes
 pub mod Example
 pub mod Answering
+pub mod Teams

@@ -3,3 +3,4 @@ pub mod Putting
 pub mod Whole
 pub mod Answers
 pub mod Columns
+pub mod Team
