@@ -1,8 +1,8 @@
 # make test      the whole gate; its last line is that of `rt ci`
-# make demo      judges the records in samples/ and prints a sheet
+# make demo      judges the records in samples/, prints a sheet and a slip
 # make install   puts header, archive and pkg-config file under PREFIX
 # make bench     the proved judge's speed beside the Rust judge's
-# make fuzz      compares on random records, trees and sheets for FUZZ_SECONDS, from SEED where it is given
+# make fuzz      compares on random records, contents, trees, sheets, slips and team matches for FUZZ_SECONDS, from SEED where it is given
 # What is built beside the proofs stands in build/, since `rt ci` removes target/.
 .PHONY: test demo install install-files bench fuzz outside clean tools rt-tool FORCE
 
@@ -10,15 +10,20 @@ PREFIX = /usr/local
 FUZZ_SECONDS = 60
 SEED =
 RECORDS = 1000000
+WRITES = 300000
 TREES = 20000
 SHEETS = 3000
+SLIPS = 3000
+TEAMS = 3000
 BLOCKS = 20000
 
-# The archive that is judged by; build/stand-in/libjudge.a has the Rust judge behind the same interface.
+# The archive that judges and writes; build/stand-in/libjudge.a has the Rust judge and writer behind the same interface.
 ARCHIVE = target/staticlib/libjudge.a
 TREE = target/bin/tree
 SHEET = target/bin/sheet
 CELLS = target/bin/cells
+SLIP = target/bin/slip
+TEAM = target/bin/team
 MERGES = target/bin/try_merges
 
 CC = cc
@@ -44,7 +49,7 @@ rt-tool:
 tools: rt-tool
 	$(call need,$(CC) $(CXX) cargo valgrind)
 
-$(ARCHIVE) $(TREE) $(SHEET) $(CELLS) $(MERGES): | rt-tool
+$(ARCHIVE) $(TREE) $(SHEET) $(CELLS) $(SLIP) $(TEAM) $(MERGES): | rt-tool
 
 SOURCES = crates.txt $(shell find crates -name '*.rt' -o -name '*.antt')
 
@@ -64,7 +69,7 @@ build/terminal: $(ARCHIVE) $(wildcard terminal/*) include/judge.h
 	@mkdir -p build
 	$(CC) $(CFLAGS) -Iinclude terminal/*.c $(ARCHIVE) -o $@
 
-demo: build/terminal $(SHEET) $(CELLS)
+demo: build/terminal $(SHEET) $(CELLS) $(SLIP)
 	@echo "Records that are accepted:"
 	@build/terminal $(sort $(filter-out samples/refused-%,$(wildcard samples/*.hex)))
 	@echo "Records that are refused:"
@@ -73,21 +78,27 @@ demo: build/terminal $(SHEET) $(CELLS)
 	@$(SHEET) <samples/scores
 	@echo "The same with percentages:"
 	@$(CELLS) <samples/scores
+	@echo "The slip of a record:"
+	@$(SLIP) <crates/try_slip/data/east-west
 
 install: $(ARCHIVE)
 	@$(MAKE) --no-print-directory install-files
+
+# The version is the header's.
+version = $(shell sed -n 's/^.define JUDGE_VERSION_$(1) //p' include/judge.h)
+VERSION = $(call version,MAJOR).$(call version,MINOR).0
 
 install-files:
 	mkdir -p $(DESTDIR)$(PREFIX)/include $(DESTDIR)$(PREFIX)/lib/pkgconfig
 	cp include/judge.h $(DESTDIR)$(PREFIX)/include/judge.h
 	cp $(ARCHIVE) $(DESTDIR)$(PREFIX)/lib/libjudge.a
-	sed 's|@PREFIX@|$(abspath $(PREFIX))|' include/judge.pc.in >$(DESTDIR)$(PREFIX)/lib/pkgconfig/judge.pc
+	sed 's|@PREFIX@|$(abspath $(PREFIX))|; s|@VERSION@|$(VERSION)|' include/judge.pc.in >$(DESTDIR)$(PREFIX)/lib/pkgconfig/judge.pc
 
 # The Rust programs, linked with the archive.
 build/rust-built: $(ARCHIVE) FORCE | tools
 	$(CARGO) build --release --offline --locked --quiet
 
-outside: tools build/rust-built build/terminal $(TREE) $(SHEET) $(CELLS)
+outside: tools build/rust-built build/terminal $(TREE) $(SHEET) $(CELLS) $(SLIP) $(TEAM)
 	$(CC) $(CFLAGS) -Iinclude tests/c/header.c $(ARCHIVE) -o build/header-c
 	valgrind --quiet --error-exitcode=1 build/header-c
 	$(CXX) $(CXXFLAGS) -Iinclude -x c++ tests/c/header.c -x none $(ARCHIVE) -o build/header-c++
@@ -98,21 +109,30 @@ outside: tools build/rust-built build/terminal $(TREE) $(SHEET) $(CELLS)
 	rm -rf build/installed
 	@$(MAKE) --no-print-directory install-files PREFIX=$(abspath build/installed)
 	tests/install.sh $(abspath build/installed) $(CC)
-	$(CARGO) test --release --offline --locked --quiet --test examples --test refusals --test faults
+	$(CARGO) test --release --offline --locked --quiet --test examples --test refusals --test faults --test write_refusals --test write_faults
 	$(RUST)/records --count $(RECORDS) $(SEED_WORDS)
+	$(RUST)/writes --count $(WRITES) $(SEED_WORDS)
 	$(RUST)/trees --program $(TREE) --count $(TREES) $(SEED_WORDS)
 	$(RUST)/sheets --program $(SHEET) --cells $(CELLS) --count $(SHEETS) $(SEED_WORDS)
+	$(RUST)/slips --program $(SLIP) --count $(SLIPS) $(SEED_WORDS)
+	$(RUST)/teams --program $(TEAM) --count $(TEAMS) $(SEED_WORDS)
 	$(RUST)/blocks $(or $(SEED),64) $(BLOCKS) >build/blocks.records
 	$(CC) $(CFLAGS) -g -Iinclude tests/c/blocks.c $(ARCHIVE) -o build/blocks
 	valgrind --quiet --error-exitcode=1 --leak-check=full build/blocks build/blocks.records
+	$(RUST)/write_blocks $(or $(SEED),64) $(BLOCKS) >build/blocks.contents
+	$(CC) $(CFLAGS) -g -Iinclude tests/c/write_blocks.c $(ARCHIVE) -o build/write_blocks
+	valgrind --quiet --error-exitcode=1 --leak-check=full build/write_blocks build/blocks.contents
 	$(CC) $(CFLAGS) -Iinclude tests/c/stack.c $(ARCHIVE) -o build/stack
 	build/stack build/blocks.records
 
-# Half the time for records, a quarter for trees and a quarter for sheets.
-fuzz: build/rust-built $(TREE) $(SHEET) $(CELLS)
-	$(RUST)/records --seconds $$(($(FUZZ_SECONDS) / 2)) $(SEED_WORDS)
-	$(RUST)/trees --program $(TREE) --seconds $$(($(FUZZ_SECONDS) / 4)) $(SEED_WORDS)
-	$(RUST)/sheets --program $(SHEET) --cells $(CELLS) --seconds $$(($(FUZZ_SECONDS) / 4)) $(SEED_WORDS)
+# A quarter of the time each for records and contents, an eighth each for trees, sheets, slips and team matches.
+fuzz: build/rust-built $(TREE) $(SHEET) $(CELLS) $(SLIP) $(TEAM)
+	$(RUST)/records --seconds $$(($(FUZZ_SECONDS) / 4)) $(SEED_WORDS)
+	$(RUST)/writes --seconds $$(($(FUZZ_SECONDS) / 4)) $(SEED_WORDS)
+	$(RUST)/trees --program $(TREE) --seconds $$(($(FUZZ_SECONDS) / 8)) $(SEED_WORDS)
+	$(RUST)/sheets --program $(SHEET) --cells $(CELLS) --seconds $$(($(FUZZ_SECONDS) / 8)) $(SEED_WORDS)
+	$(RUST)/slips --program $(SLIP) --seconds $$(($(FUZZ_SECONDS) / 8)) $(SEED_WORDS)
+	$(RUST)/teams --program $(TEAM) --seconds $$(($(FUZZ_SECONDS) / 8)) $(SEED_WORDS)
 
 bench: build/rust-built $(MERGES)
 	$(RUST)/bench --merges $(MERGES)

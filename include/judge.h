@@ -1,14 +1,18 @@
-/* The judge of table records of duplicate bridge, for C99 and C++.
+/* The judge and the writer of table records of duplicate bridge, for C99 and C++.
  *
- * The library libjudge.a has one function, judge_record. docs/RULES.md has the record's layout and the rules.
+ * The library libjudge.a has two functions, judge_record and judge_write_record. docs/RULES.md has the record's layout and the rules.
  *
- * Proved, of the library's source: what this header says judge_record returns, writes and leaves, for every record and every two
- * buffers. Not proved, and tried by tests: the compiler's work on that source, and all else in this header, which is plain C. */
+ * Proved, of the library's source: what this header says that they return, write and leave, for every record, all contents and every
+ * buffer. Not proved, and tried by tests: the compiler's work on that source, and all else in this header, which is plain C. */
 #ifndef JUDGE_H
 #define JUDGE_H
 
 #include <stddef.h>
 #include <stdint.h>
+
+/* The version of this interface. A changed signature or size raises the first number, a function more the second. */
+#define JUDGE_VERSION_MAJOR 1
+#define JUDGE_VERSION_MINOR 1
 
 #ifdef __cplusplus
 extern "C" {
@@ -31,6 +35,24 @@ enum { JUDGE_ANSWER_BYTES = 7, JUDGE_REVOKE_BYTES = 36, JUDGE_RECORD_MOST = 296 
 uint32_t judge_record(const uint8_t *record, size_t record_len, uint8_t *answer, size_t answer_len, uint8_t *revokes,
                       size_t revokes_len);
 
+/* Writes one table record from its contents: the board, the table, the seat that was dealt card 0, 1, .. 51, the codes of the calls and
+ * of the cards in their order, and a claim. `marked` 0 is no claim, anything else a claim of `claim` tricks for declarer's side.
+ *
+ * Returns the number of bytes written, at most JUDGE_RECORD_MOST: the record stands at the front of `record`, and the bytes behind it
+ * stay as they were. judge_record accepts what is written; and the contents of any record that it accepts are written as the same bytes
+ * again. Otherwise returns refusal * 1024 + place, and no byte is changed. So a number from 1024 on is a refusal, and one below it is not.
+ *
+ * No number and no length is trusted. Contents that judge_record would refuse are refused as it does, with the same number and place in
+ * the same order; 1, 2 and 16 do not occur. Of numbers that no record can hold: a board over 127 or a table over 511 is 3; a holder over 3,
+ * or another number of holders than 52, is 4 with place 4, before the cards of each seat are counted; a code over 63 is 5 or 11; over 63
+ * cards are 10 with place 63; a claim over 15 is 15 with place 15. Last comes 22, for a buffer that is too short.
+ *
+ * What C has to see to is what it has to for judge_record, of these four slices: true lengths, the buffer writable and apart from the
+ * other three. A null pointer beside the length 0 is taken. Nothing is kept between calls. */
+uint32_t judge_write_record(uint32_t board, uint32_t table, const uint8_t *holders, size_t holders_len, const uint8_t *calls,
+                            size_t calls_len, const uint8_t *cards, size_t cards_len, uint32_t marked, uint32_t claim,
+                            uint8_t *record, size_t record_len);
+
 /* The refusals by number. Calls and plays count from 0.
  *
  * The number is no rank. One refusal is returned, the first that applies in this order:
@@ -46,24 +68,28 @@ enum judge_refusal {
     JUDGE_ACCEPTED = 0,
     JUDGE_BUFFER_TOO_SHORT = 1,      /* place 0: answer under 7 bytes; 1: revokes under 36 */
     JUDGE_RECORD_ENDS = 2,           /* the record ends before a field is whole; place 0 */
-    JUDGE_NO_BOARD_OR_TABLE = 3,     /* place 0: board 0; 1: table 0 */
-    JUDGE_NOT_THIRTEEN_CARDS = 4,    /* Law 1; place: the first such seat */
-    JUDGE_NO_SUCH_CALL = 5,          /* call code 38 to 63; place: the call */
+    JUDGE_NO_BOARD_OR_TABLE = 3,     /* place 0: board 0, or over 127; 1: table 0, or over 511 */
+    JUDGE_NOT_THIRTEEN_CARDS = 4,    /* Law 1; place: the first such seat; 4: not 52 holders from 0 to 3 */
+    JUDGE_NO_SUCH_CALL = 5,          /* call code from 38 on; place: the call */
     JUDGE_BID_NOT_ABOVE = 6,         /* Law 27: bid not above the last bid; place: the call */
     JUDGE_DOUBLE_NOT_ALLOWED = 7,    /* Law 36: double or redouble not allowed; place: the call */
     JUDGE_CALL_AFTER_END = 8,        /* Law 39; place: the call */
     JUDGE_AUCTION_NOT_OVER = 9,      /* Law 22; place: the number of calls */
-    JUDGE_PLAY_COUNT = 10,           /* over 52, or over 0 when passed out; place: the play count */
-    JUDGE_NO_SUCH_CARD = 11,         /* card code 52 to 63; place: the play */
+    JUDGE_PLAY_COUNT = 10,           /* over 52, or over 0 when passed out; place: the play count, at most 63 */
+    JUDGE_NO_SUCH_CARD = 11,         /* card code from 52 on; place: the play */
     JUDGE_CARD_NOT_HELD = 12,        /* Law 44: card dealt to another seat; place: the play */
     JUDGE_CARDS_MISSING = 13,        /* a contract, no claim, under 52 cards; place: the play count */
-    JUDGE_CLAIM_NOT_ALLOWED = 14,    /* Law 68: claim at another point, or passed out; place: the play count */
-    JUDGE_CLAIM_TOO_HIGH = 15,       /* Law 68: more tricks than are left; place: the claim */
+    JUDGE_CLAIM_NOT_ALLOWED = 14,    /* Law 68: claim after no card or all 52, or passed out; place: the play count */
+    JUDGE_CLAIM_TOO_HIGH = 15,       /* Law 68: more tricks than are left; place: the claim, at most 15 */
     JUDGE_NOT_ENDED = 16,            /* a padding bit is 1, or a byte follows; place 0 */
+    JUDGE_NO_ROOM_FOR_RECORD = 22,   /* judge_write_record alone: the buffer is too short for the record; place 0 */
     JUDGE_CARD_ALREADY_PLAYED = 23   /* Law 44: card that this seat has played already; place: the play */
 };
 
-/* The two parts of a number that is not 0. */
+/* Whether what either function returned is a refusal. */
+static inline int judge_is_refusal(uint32_t number) { return number >= 1024u; }
+
+/* The two parts of a refusal. */
 static inline enum judge_refusal judge_refusal_of(uint32_t number) { return (enum judge_refusal)(number / 1024u); }
 static inline unsigned judge_place_of(uint32_t number) { return (unsigned)(number % 1024u); }
 

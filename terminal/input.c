@@ -1,35 +1,47 @@
 #include "input.h"
 
 #include <stdlib.h>
+#include <string.h>
 
 static const char NO_MEMORY[] = "no memory for the record";
 static const char NOT_READ[] = "cannot be read to its end";
 
-/* Puts a byte at the end; false where there is no memory for it. */
-static int put(struct bytes *record, size_t *room, int byte) {
-    if (record->length == *room) {
-        size_t more = *room ? 2 * *room : 512;
-        uint8_t *at = more > *room ? realloc(record->at, more) : NULL;
+FILE *open_input(const char *name, const char **shown) {
+    int standard = strcmp(name, "-") == 0;
+    FILE *file = standard ? stdin : fopen(name, "rb");
+    *shown = standard ? "standard input" : name;
+    if (!file) fprintf(stderr, "%s cannot be opened\n", name);
+    return file;
+}
+
+void close_input(FILE *file) {
+    if (file != stdin) fclose(file);
+}
+
+int put_byte(struct bytes *bytes, int byte) {
+    if (bytes->length == bytes->room) {
+        size_t more = bytes->room ? 2 * bytes->room : 512;
+        uint8_t *at = more > bytes->room ? realloc(bytes->at, more) : NULL;
         if (!at) return 0;
-        record->at = at;
-        *room = more;
+        bytes->at = at;
+        bytes->room = more;
     }
-    record->at[record->length++] = (uint8_t)byte;
+    bytes->at[bytes->length++] = (uint8_t)byte;
     return 1;
 }
 
 /* Room from the start, so that an empty record has an address too. */
-static size_t first_room(struct bytes *record) {
+static int first_room(struct bytes *record) {
     record->length = 0;
     record->at = malloc(512);
-    return record->at ? 512 : 0;
+    record->room = record->at ? 512 : 0;
+    return record->at != NULL;
 }
 
 const char *read_binary(FILE *file, struct bytes *record) {
-    size_t room = first_room(record);
-    if (room == 0) return NO_MEMORY;
+    if (!first_room(record)) return NO_MEMORY;
     for (int c = getc(file); c != EOF; c = getc(file))
-        if (!put(record, &room, c)) return NO_MEMORY;
+        if (!put_byte(record, c)) return NO_MEMORY;
     return ferror(file) ? NOT_READ : NULL;
 }
 
@@ -52,13 +64,12 @@ static int next(FILE *file) {
 }
 
 const char *read_hex(FILE *file, struct bytes *record) {
-    size_t room = first_room(record);
-    if (room == 0) return NO_MEMORY;
+    if (!first_room(record)) return NO_MEMORY;
     for (int c = next(file); c != EOF; c = next(file)) {
         int high = digit(c);
         int low = high < 0 ? -1 : digit(getc(file));
         if (low < 0) return "is not hexadecimal, two digits a byte";
-        if (!put(record, &room, 16 * high + low)) return NO_MEMORY;
+        if (!put_byte(record, 16 * high + low)) return NO_MEMORY;
     }
     return ferror(file) ? NOT_READ : NULL;
 }

@@ -1,4 +1,4 @@
-/* A record's bytes, read from a file. */
+/* A file's bytes, read to its end. */
 #ifndef INPUT_H
 #define INPUT_H
 
@@ -9,7 +9,16 @@
 struct bytes {
     uint8_t *at; /* never null once read; the caller frees it */
     size_t length;
+    size_t room;
 };
+
+/* Opens a file, or takes standard input where the name is -. `shown` is what to call it in a sentence; null where it cannot be opened,
+ * which is then said on standard error. */
+FILE *open_input(const char *name, const char **shown);
+void close_input(FILE *file);
+
+/* Puts a byte at the end; false where there is no memory for it. */
+int put_byte(struct bytes *bytes, int byte);
 
 /* Reads a file to its end. Gives 0, or a sentence that says why not. */
 const char *read_binary(FILE *file, struct bytes *record);

@@ -1,20 +1,23 @@
-/* Judges table records: a line for each, the judgement or the refusal in words. Exits 0 only if all were accepted. */
+/* Judges table records: a line for each, the judgement or the refusal in words; or writes one from words. */
 #include <stdio.h>
 #include <stdlib.h>
 #include <string.h>
 
 #include "input.h"
 #include "judge.h"
+#include "status.h"
 #include "words.h"
+#include "write.h"
 
 static const char USAGE[] =
     "usage: terminal [-b | -x] [FILE]...\n"
+    "       terminal -w [FILE]\n"
     "Judges the table record in each FILE, or in standard input where there is none or it is -.\n"
     "A file is read as bytes, or as hexadecimal where its name ends in .hex; -b and -x say so for all.\n"
+    "With -w, writes the bytes of the record that FILE, or standard input, has in words, as samples/README.md describes them.\n"
     "Calls and plays count from 0. Exits 0 if all were accepted, 1 if one was refused, 2 if one could not be read.\n";
 
-enum form { BY_NAME, BINARY, HEX };
-enum status { ACCEPTED = 0, REFUSED = 1, NOT_READ = 2 };
+enum form { BY_NAME, BINARY, HEX, WORDS };
 
 static int ends_in_hex(const char *name) {
     size_t length = strlen(name);
@@ -34,15 +37,11 @@ static enum status judge(const char *name, const struct bytes *record) {
 }
 
 static enum status judge_file(const char *name, enum form form) {
-    int standard = strcmp(name, "-") == 0;
-    const char *shown = standard ? "standard input" : name;
-    FILE *file = standard ? stdin : fopen(name, "rb");
-    struct bytes record = {NULL, 0};
+    const char *shown;
+    FILE *file = open_input(name, &shown);
+    struct bytes record = {NULL, 0, 0};
     enum status status = NOT_READ;
-    if (!file) {
-        fprintf(stderr, "%s cannot be opened\n", shown);
-        return NOT_READ;
-    }
+    if (!file) return NOT_READ;
     int hex = form == HEX || (form == BY_NAME && ends_in_hex(name));
     const char *fault = hex ? read_hex(file, &record) : read_binary(file, &record);
     if (fault)
@@ -50,8 +49,13 @@ static enum status judge_file(const char *name, enum form form) {
     else
         status = judge(shown, &record);
     free(record.at);
-    if (!standard) fclose(file);
+    close_input(file);
     return status;
+}
+
+static int usage(void) {
+    fputs(USAGE, stderr);
+    return NOT_READ;
 }
 
 int main(int count, char **words) {
@@ -63,18 +67,24 @@ int main(int count, char **words) {
             form = BINARY;
         else if (strcmp(words[k], "-x") == 0)
             form = HEX;
-        else {
-            fputs(USAGE, stderr);
-            return NOT_READ;
+        else if (strcmp(words[k], "-w") == 0)
+            form = WORDS;
+        else
+            return usage();
+    }
+    if (form == WORDS) {
+        if (count > k + 1) return usage();
+        worst = write_file(k < count ? words[k] : "-");
+    } else if (k == count) {
+        worst = judge_file("-", form);
+    } else {
+        for (; k < count; k++) {
+            enum status status = judge_file(words[k], form);
+            if (status > worst) worst = status;
         }
     }
-    if (k == count) worst = judge_file("-", form);
-    for (; k < count; k++) {
-        enum status status = judge_file(words[k], form);
-        if (status > worst) worst = status;
-    }
     if (fflush(stdout) != 0 || ferror(stdout)) {
-        fputs("the judgements cannot be written\n", stderr);
+        fputs("what is due cannot be written\n", stderr);
         return NOT_READ;
     }
     return worst;

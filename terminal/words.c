@@ -36,19 +36,26 @@ void print_refusal(FILE *out, uint32_t number) {
     case JUDGE_ACCEPTED: fprintf(out, "accepted\n"); return;
     case JUDGE_BUFFER_TOO_SHORT: fprintf(out, place ? "list of revokes under 36 bytes\n" : "answer under 7 bytes\n"); return;
     case JUDGE_RECORD_ENDS: fprintf(out, "the record ends before a field is whole\n"); return;
-    case JUDGE_NO_BOARD_OR_TABLE: fprintf(out, place ? "table 0\n" : "board 0\n"); return;
-    case JUDGE_NOT_THIRTEEN_CARDS: fprintf(out, "deal: %s does not have 13 cards\n", SEATS[place & 3u]); return;
+    case JUDGE_NO_BOARD_OR_TABLE: fprintf(out, place ? "table not 1 to 511\n" : "board not 1 to 127\n"); return;
+    case JUDGE_NOT_THIRTEEN_CARDS:
+        if (place > 3) {
+            fprintf(out, "deal: a card is in no hand\n");
+            return;
+        }
+        fprintf(out, "deal: %s does not have 13 cards\n", SEATS[place]);
+        return;
     case JUDGE_NO_SUCH_CALL: fprintf(out, "call %u: no such call\n", place); return;
     case JUDGE_BID_NOT_ABOVE: fprintf(out, "call %u: bid not above the last bid\n", place); return;
     case JUDGE_DOUBLE_NOT_ALLOWED: fprintf(out, "call %u: double or redouble not allowed\n", place); return;
     case JUDGE_CALL_AFTER_END: fprintf(out, "call %u: the auction was over\n", place); return;
     case JUDGE_AUCTION_NOT_OVER: fprintf(out, "after %u calls: the auction is not over\n", place); return;
-    case JUDGE_PLAY_COUNT: fprintf(out, "play count %u: over 52, or cards for a passed-out board\n", place); return;
+    case JUDGE_PLAY_COUNT: fprintf(out, "play count %u%s: over 52, or cards for a passed-out board\n", place, place < 63 ? "" : " or more"); return;
     case JUDGE_NO_SUCH_CARD: fprintf(out, "play %u: no such card\n", place); return;
     case JUDGE_CARD_NOT_HELD: fprintf(out, "play %u: card not in that hand\n", place); return;
     case JUDGE_CARDS_MISSING: fprintf(out, "after %u cards: no claim, and not all 52 cards\n", place); return;
     case JUDGE_CLAIM_NOT_ALLOWED: fprintf(out, "after %u cards: a claim cannot stand here\n", place); return;
-    case JUDGE_CLAIM_TOO_HIGH: fprintf(out, "claim of %u: more tricks than are left\n", place); return;
+    case JUDGE_CLAIM_TOO_HIGH: fprintf(out, "claim of %u%s: more tricks than are left\n", place, place < 15 ? "" : " or more"); return;
+    case JUDGE_NO_ROOM_FOR_RECORD: fprintf(out, "no room for the record\n"); return;
     case JUDGE_CARD_ALREADY_PLAYED: fprintf(out, "play %u: card already played\n", place); return;
     case JUDGE_NOT_ENDED: fprintf(out, "a padding bit is 1, or a byte follows the record\n"); return;
     }

@@ -17,12 +17,16 @@ same() {
     exit 1
 }
 
+# version NAME: a number of the header's version.
+version() { sed -n "s/^#define JUDGE_VERSION_$1 //p" "$prefix/include/judge.h"; }
+
 cp tests/c/installed.c "$prefix/program.c" || exit 1
 prefix=$(variable prefix)
 includedir=$(variable includedir)
 libdir=$(variable libdir)
 flags=$(field Cflags)
 libraries=$(field Libs)
+same "the version" "$(field Version)" "$(version MAJOR).$(version MINOR).0"
 cd "$prefix" || exit 1
 # shellcheck disable=SC2086
 "$cc" -std=c99 -Wall -Wextra -Wpedantic -Werror $flags program.c $libraries -o program || exit 1

@@ -1,6 +1,6 @@
 #!/bin/sh
 # Tries the terminal, whose path is given: each sample against its line, all in one call, bytes and hexadecimal, files and standard input,
-# what cannot be read, and the exit status. Run from the repository's folder.
+# each sample written from its words, what cannot be read, and the exit status. Run from the repository's folder.
 set -u
 terminal=$1
 work=$2
@@ -66,5 +66,52 @@ same "a missing file" "$("$terminal" "$work/none" 2>&1; echo $?)" "$work/none ca
 same "a missing file among others" "$("$terminal" "$work/none" samples/claim.hex 2>/dev/null; echo $?)" "$good
 2"
 same "an unknown option" "$("$terminal" -q 2>/dev/null; echo $?)" "2"
+
+# Each sample written from its words: its own bytes, or the words of its refusal. A record that lacks bytes cannot be written.
+for text in samples/*.txt; do
+    hex=${text%.txt}.hex
+    "$terminal" -w "$text" >"$work/written" 2>"$work/said"
+    status=$?
+    case $text in
+    samples/refused-short.txt) same "$text" "$(cat "$work/said"; echo $status)" "$text, line 9: a record is written whole
+2" ;;
+    samples/refused-*) same "$text" "$(cat "$work/said"; echo $status)" "$(sed "s|$hex|$text|" "${text%.txt}.expected")
+1" ;;
+    *) bytes "$hex" | cmp -s - "$work/written" && same "$text" "$(cat "$work/said"; echo $status)" 0 || same "$text" "other bytes" "those of $hex" ;;
+    esac
+    [ $status = 0 ] || same "$text, bytes of a refused record" "$(wc -c <"$work/written" | tr -d ' ')" 0
+done
+same "written and judged" "$("$terminal" -w <samples/claim.txt | "$terminal"; echo $?)" "$good
+0"
+
+# refused_words WHAT SENTENCE: what is said of samples/passed-out.txt with the change that the sed command on standard input makes.
+refused_words() {
+    sed -f - samples/passed-out.txt >"$work/changed.txt"
+    same "$1" "$("$terminal" -w "$work/changed.txt" 2>&1; echo $?)" "$work/changed.txt$2"
+}
+echo 's/^board .*/board 128/' | refused_words "board 128" ": refused, board not 1 to 127
+1"
+echo 's/^table .*/table 99999999999/' | refused_words "a table beyond 32 bits" ": refused, table not 1 to 511
+1"
+echo 's/hand N AKQ/hand N AK/' | refused_words "a card in no hand" ": refused, deal: a card is in no hand
+1"
+echo '$a claim 16' | refused_words "a claim when passed out" ": refused, after 0 cards: a claim cannot stand here
+1"
+echo '$a trick SA SJ S8 S5' | refused_words "cards when passed out" ": refused, play count 4: over 52, or cards for a passed-out board
+1"
+echo 's/hand E JT9/hand E AT9/' | refused_words "a card in two hands" ", line 5: a card is in two hands
+2"
+echo 's/^calls.*/calls P P 8C/' | refused_words "no call" ", line 8: no such call
+2"
+echo '$a trick SA S1' | refused_words "no card" ", line 9: no such card
+2"
+echo 's/^board.*/board/' | refused_words "no number" ", line 2: a number is missing
+2"
+echo '$a tricks SA' | refused_words "an unknown line" ", line 9: this says nothing of a record
+2"
+same "two files to write" "$("$terminal" -w samples/claim.txt samples/slam.txt 2>/dev/null; echo $?)" "2"
+sed 's/^claim.*/claim 16/' samples/claim.txt >"$work/changed.txt"
+same "a claim of 16" "$("$terminal" -w "$work/changed.txt" 2>&1; echo $?)" "$work/changed.txt: refused, claim of 15 or more: more tricks than are left
+1"
 [ $failed = 0 ] && echo "terminal: every sample and form as it should be"
 exit $failed

@@ -1,5 +1,5 @@
 /* Tries include/judge.h as C99 and as C++: the helpers on bytes worked out by hand, null pointers, short buffers, the order of the
- * checks, and the passed-out board of docs/RULES.md. */
+ * checks, and the passed-out board of docs/RULES.md, judged and written. */
 #include "judge.h"
 
 #include <stdio.h>
@@ -58,7 +58,13 @@ static void unpacks_a_revoke(void) {
 static void unpacks_a_number(void) {
     expect("refusal of 6151", judge_refusal_of(6151), JUDGE_BID_NOT_ABOVE);
     expect("place of 6151", (long)judge_place_of(6151), 7);
-    expect("the last refusal", JUDGE_NOT_ENDED, 16);
+    expect("the last refusal of the table", JUDGE_NOT_ENDED, 16);
+    expect("no room", JUDGE_NO_ROOM_FOR_RECORD, 22);
+    expect("a card again", JUDGE_CARD_ALREADY_PLAYED, 23);
+    expect("a length is no refusal", judge_is_refusal(1023), 0);
+    expect("a refusal", judge_is_refusal(3 * 1024), 1);
+    expect("the version's first number", JUDGE_VERSION_MAJOR, 1);
+    expect("the version's second number", JUDGE_VERSION_MINOR >= 1, 1);
 }
 
 /* N all clubs, E diamonds, S hearts, W spades, four passes; and a byte that is no part of it. */
@@ -123,6 +129,48 @@ static void checks_in_order(void) {
     expect_untouched("buffers after a refusal in order");
 }
 
+static uint8_t record[40], holders[53], four_passes[4];
+
+/* Writes the passed-out board for the given board and table in a buffer of so many bytes. */
+static long passed_out(uint32_t board, uint32_t table, size_t room) {
+    return (long)judge_write_record(board, table, holders, 52, four_passes, 4, NULL, 0, 0, 0, record, room);
+}
+
+static void fill_to_write(void) {
+    fill();
+    memset(record, 0x55, sizeof record);
+    for (size_t card = 0; card < 52; card++) holders[card] = (uint8_t)(card / 13);
+}
+
+static void writes_the_example(void) {
+    fill_to_write();
+    expect("the example written", passed_out(1, 1, 20), 20);
+    expect("its bytes", memcmp(record, PASSED_OUT, 20), 0);
+    expect("the bytes behind it", memcmp(record + 20, all_fives, 20), 0);
+    fill_to_write();
+    expect("the example in a longer buffer", passed_out(1, 1, 40), 20);
+    expect("the longer buffer", memcmp(record, PASSED_OUT, 20) != 0 || memcmp(record + 20, all_fives, 20) != 0, 0);
+}
+
+static void refuses_to_write(void) {
+    fill_to_write();
+    expect("a buffer of 19", passed_out(1, 1, 19), 22 * 1024);
+    expect("board 128, table 512, no room", passed_out(128, 512, 0), 3 * 1024);
+    expect("table 512", passed_out(127, 512, 40), 3 * 1024 + 1);
+    holders[51] = 4;
+    expect("a holder over 3", passed_out(1, 1, 40), 4 * 1024 + 4);
+    holders[51] = 0;
+    expect("fourteen cards for N", passed_out(1, 1, 40), 4 * 1024);
+    fill_to_write();
+    expect("53 holders", (long)judge_write_record(1, 1, holders, 53, four_passes, 4, NULL, 0, 0, 0, record, 40), 4 * 1024 + 4);
+    expect("a card when passed out", (long)judge_write_record(1, 1, holders, 52, four_passes, 4, holders, 1, 0, 0, record, 40), 10 * 1024 + 1);
+    expect("a claim when passed out", (long)judge_write_record(1, 1, holders, 52, four_passes, 4, NULL, 0, 256, 0, record, 40), 14 * 1024);
+    expect("null holders", (long)judge_write_record(1, 1, NULL, 0, four_passes, 4, NULL, 0, 0, 0, record, 40), 4 * 1024 + 4);
+    expect("null calls", (long)judge_write_record(1, 1, holders, 52, NULL, 0, NULL, 0, 0, 0, record, 40), 9 * 1024);
+    expect("null buffer", (long)judge_write_record(1, 1, holders, 52, four_passes, 4, NULL, 0, 0, 0, NULL, 0), 22 * 1024);
+    expect("the buffer after a refusal", memcmp(record, all_fives, sizeof record), 0);
+}
+
 int main(void) {
     unpacks_the_answer();
     unpacks_the_largest();
@@ -132,5 +180,7 @@ int main(void) {
     refuses_short_buffers();
     takes_null_pointers();
     checks_in_order();
+    writes_the_example();
+    refuses_to_write();
     return failed;
 }

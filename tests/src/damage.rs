@@ -176,9 +176,8 @@ fn no_claim(random: &mut Random, m: &mut Made) -> Option<u64> {
 
 fn claim_elsewhere(random: &mut Random, m: &mut Made) -> u64 {
     if m.contract.is_some() {
-        let most = m.parts.cards.len();
-        let points: Vec<usize> = (0..=most).filter(|&n| n == 0 || n == 52 || n % 4 != 0).collect();
-        m.parts.cards.truncate(*random.pick(&points));
+        let end = if m.parts.cards.len() == 52 && random.percent(50) { 52 } else { 0 };
+        m.parts.cards.truncate(end);
     }
     m.parts.claim = Some(random.below(16) as u64);
     m.parts.count();

@@ -126,7 +126,7 @@ fn cards(bits: &mut Reader, dealt: &Hands, play: &mut Play) -> Result<u8, Refuse
     if field(bits, 1)? == 0 {
         return if count < 52 { Err(refused(13, count)) } else { Ok(0) };
     }
-    if count == 0 || count == 52 || count % 4 != 0 {
+    if count == 0 || count == 52 {
         return Err(refused(14, count));
     }
     let claim = field(bits, 4)?;

@@ -26,7 +26,8 @@ pub fn transferred(revokes: &[u8], winners: &[u8], declarer: u8, claimed: [u8; 2
         before |= mark;
         *due = match free {
             true => 0,
-            false if winners[trick(r) - 1] == seat(r) => 2,
+            // A trick that a claim left unfinished has no winner.
+            false if winners.get(trick(r) - 1) == Some(&seat(r)) => 2,
             false => 1,
         };
     }

@@ -1,8 +1,9 @@
-//! A judge, a tally and a sheet for duplicate bridge, written from docs/RULES.md alone, and what is needed to compare
-//! the proved library with them: records of all shapes, damaged records, trees of tally calls, sheets.
+//! A judge, a writer, a tally, a sheet and a team match for duplicate bridge, written from docs/RULES.md alone, and what is needed to compare
+//! the proved library with them: records of all shapes, damaged records, their contents, trees of tally calls, sheets, team matches.
 
 pub mod auction;
 pub mod compare;
+pub mod contents;
 pub mod damage;
 pub mod deal;
 pub mod judge;
@@ -16,9 +17,14 @@ pub mod run;
 pub mod score;
 pub mod scripts;
 pub mod sheet;
+pub mod slip;
 pub mod tally;
+pub mod team;
+pub mod team_scripts;
 pub mod tree;
 pub mod trial;
+pub mod write_trial;
+pub mod writer;
 
 #[cfg(not(feature = "stand_in"))]
 pub mod proved;

@@ -1,10 +1,45 @@
-//! The proved judge, as the archive exports it.
+//! The proved judge and writer, as the archive exports them.
+use crate::contents::Contents;
 
 extern "C" {
     fn judge_record(record: *const u8, record_len: usize, answer: *mut u8, answer_len: usize, list: *mut u8, list_len: usize) -> u32;
+    fn judge_write_record(
+        board: u32,
+        table: u32,
+        holders: *const u8,
+        holders_len: usize,
+        calls: *const u8,
+        calls_len: usize,
+        cards: *const u8,
+        cards_len: usize,
+        marked: u32,
+        claim: u32,
+        record: *mut u8,
+        record_len: usize,
+    ) -> u32;
 }
 
 /// The proved judge on slices. Rust's slices keep what its C interface trusts: true lengths and no overlap.
 pub fn judge(record: &[u8], answer: &mut [u8], list: &mut [u8]) -> u32 {
     unsafe { judge_record(record.as_ptr(), record.len(), answer.as_mut_ptr(), answer.len(), list.as_mut_ptr(), list.len()) }
+}
+
+/// The proved writer on slices.
+pub fn write(c: &Contents, record: &mut [u8]) -> u32 {
+    unsafe {
+        judge_write_record(
+            c.board,
+            c.table,
+            c.holders.as_ptr(),
+            c.holders.len(),
+            c.calls.as_ptr(),
+            c.calls.len(),
+            c.cards.as_ptr(),
+            c.cards.len(),
+            c.marked,
+            c.claim,
+            record.as_mut_ptr(),
+            record.len(),
+        )
+    }
 }

@@ -232,7 +232,8 @@ fn scores(random: &mut Random) -> Vec<i32> {
     (0..distinct).map(|_| 10 * (low + random.between(0, (high - low) as usize) as i32)).collect()
 }
 
-fn wrong_score(random: &mut Random) -> i32 {
+/// A score that is not valid, some of them beyond 16 bits.
+pub fn wrong_score(random: &mut Random) -> i32 {
     let size =
         *random.pick(&[1, 5, 9, 415, 7599, 7601, 7610, 7620, 9990, 32760, 32767, 32768, 32770, 65530, 65536, 65540, 65956, 99990, 99999]);
     if random.percent(50) {

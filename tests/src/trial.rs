@@ -2,6 +2,7 @@
 use crate::compare::{Comparison, Judge, Room, Seen};
 use crate::damage;
 use crate::making::{self, Made};
+use crate::play::Play;
 use crate::random::Random;
 use std::collections::BTreeSet;
 
@@ -17,15 +18,17 @@ pub struct Trial {
     comparison: Comparison,
     rounds: u64,
     auctions: BTreeSet<usize>,
-    /// Tricks played, and tricks claimed of the rest.
+    /// Cards played, and tricks claimed of those left.
     claims: BTreeSet<(usize, u64)>,
+    /// Revokes in a trick that a claim left unfinished.
+    unfinished: u64,
 }
 
 impl Trial {
     pub fn new(judge: Judge, seed: u64) -> Self {
         let mut random = Random::new(seed);
         let comparison = Comparison::new(judge, &mut random);
-        Trial { random, comparison, rounds: 0, auctions: BTreeSet::new(), claims: BTreeSet::new() }
+        Trial { random, comparison, rounds: 0, auctions: BTreeSet::new(), claims: BTreeSet::new(), unfinished: 0 }
     }
 
     /// The records compared so far.
@@ -93,7 +96,8 @@ impl Trial {
     fn note(&mut self, made: &Made) {
         self.auctions.insert(made.parts.calls.len());
         if let Some(claim) = made.parts.claim {
-            self.claims.insert((made.parts.cards.len() / 4, claim));
+            self.claims.insert((made.parts.cards.len(), claim));
+            self.unfinished += unfinished_revokes(made);
         }
     }
 
@@ -106,7 +110,8 @@ impl Trial {
             format!("revokes in accepted records:\n{}", counts(&seen.revokes, 0)),
             format!("tricks that changed sides:\n{}", counts(&seen.changed, 0)),
             format!("{} of {} contracts (level, strain, doubling, vulnerability)", contracts(seen), seen.contracts.len()),
-            format!("{} of 316 lengths of auctions, {} of 90 claims", self.auctions.len(), self.claims.len()),
+            format!("{} of 316 lengths of auctions, {} of 402 claims", self.auctions.len(), self.claims.len()),
+            format!("{} revokes in a trick that a claim left unfinished", self.unfinished),
         ]
         .join("\n")
     }
@@ -117,12 +122,23 @@ impl Trial {
         if let Some(number) = (1..=16).chain([23]).find(|&number| seen.refusals[number] < LEAST) {
             return Err(format!("refusal {number} occurred only {} times", seen.refusals[number]));
         }
-        let whole = contracts(seen) == seen.contracts.len() && self.auctions.len() == 316 && self.claims.len() == 90;
+        let whole = contracts(seen) == seen.contracts.len() && self.auctions.len() == 316 && self.claims.len() == 402 && self.unfinished >= LEAST;
         if !whole || seen.revokes[0] == 0 || seen.revokes[36] == 0 || seen.changed[..4].contains(&0) {
             return Err("some contract, length of auction, claim or number of revokes never occurred".to_string());
         }
         Ok(())
     }
+}
+
+/// How many revokes a lawful record has in the trick after its last complete one.
+fn unfinished_revokes(made: &Made) -> u64 {
+    let Some(contract) = made.contract else { return 0 };
+    let mut play = Play::new(made.hands, contract.strain, contract.declarer);
+    for &card in &made.parts.cards {
+        assert!(play.card(card), "a lawful card");
+    }
+    let complete = play.winners().len();
+    play.revokes().iter().filter(|&&r| usize::from(r >> 4) > complete).count() as u64
 }
 
 fn contracts(seen: &Seen) -> usize {

@@ -7,6 +7,7 @@ use outside::parts::Parts;
 use outside::score::contract_score;
 use outside::sheet::{cells, sheet};
 use outside::tally::Tally;
+use outside::team::{imps, Line, Match, Written};
 use outside::{judge, proved};
 
 const JUDGES: [Judge; 2] = [judge::judge, proved::judge];
@@ -49,6 +50,17 @@ fn one_club_and_a_claim() {
         let record = |claim| suits(1, &[3, 0, 0, 0], &[13, 26, 39, 0], Some(claim));
         assert_eq!(judged(judge, &record(12)), (0, 190));
         assert_eq!(judged(judge, &record(13)).0, 15 * 1024 + 13);
+    }
+}
+
+/// The same after three cards, in the middle of the first trick: thirteen tricks are left. 12 tricks score 20 + 50 + 5 × 20, 13 one more.
+#[test]
+fn a_claim_in_the_middle_of_a_trick() {
+    for judge in JUDGES {
+        let record = |claim| suits(1, &[3, 0, 0, 0], &[13, 26, 39], Some(claim));
+        assert_eq!(judged(judge, &record(12)), (0, 170));
+        assert_eq!(judged(judge, &record(13)), (0, 190));
+        assert_eq!(judged(judge, &record(14)).0, 15 * 1024 + 14);
     }
 }
 
@@ -130,6 +142,11 @@ fn card(word: &str) -> u64 {
 /// One club by N on board 1, where nobody is vulnerable. A line is a trick, the seat that leads and the four cards in order of play; all thirteen
 /// say which seat was dealt which card. With a claim, only the first `played` tricks are in the record.
 fn one_club_played(tricks: &[&str; 13], played: usize, claim: Option<u64>) -> Vec<u8> {
+    one_club_cards(tricks, 4 * played, claim)
+}
+
+/// The same with so many cards in the record.
+fn one_club_cards(tricks: &[&str; 13], count: usize, claim: Option<u64>) -> Vec<u8> {
     let (mut deal, mut cards) = (vec![4; 52], Vec::new());
     for trick in tricks {
         let (leader, words) = trick.split_once(' ').unwrap();
@@ -139,7 +156,7 @@ fn one_club_played(tricks: &[&str; 13], played: usize, claim: Option<u64>) -> Ve
             cards.push(card(word));
         }
     }
-    record(1, deal, &[3, 0, 0, 0], &cards[..4 * played], claim)
+    record(1, deal, &[3, 0, 0, 0], &cards[..count], claim)
 }
 
 /// Accepted by both judges, with tricks won by N's side, the same after Law 64, NS's score, and the revokes.
@@ -186,6 +203,18 @@ const FIVE_LATER: [&str; 13] = [
     "N CK D7 HK C7",
     "N CA H3 HA C8",
 ];
+
+/// The revoke of P9 in a trick that a claim leaves unfinished: one trick, as far as E's side gets one by the claim. N's side has one trick of two, and
+/// eleven are left. 7 tricks score 20 + 50.
+#[test]
+fn a_revoke_in_an_unfinished_trick() {
+    let hearts = [revoke(3, 1, 2)];
+    for cards in [10, 11] {
+        expect_law_64(&one_club_cards(&NONE_LATER, cards, Some(5)), 6, 7, 70, &hearts);
+        expect_law_64(&one_club_cards(&NONE_LATER, cards, Some(10)), 11, 12, 170, &hearts);
+        expect_law_64(&one_club_cards(&NONE_LATER, cards, Some(11)), 12, 12, 170, &hearts);
+    }
+}
 
 /// P9: the two tricks of the revoke, down to those that E's side won from trick 3 on, played or claimed. 12 tricks score 20 + 50 + 5 × 20, 8 tricks
 /// 20 + 50 + 20.
@@ -291,4 +320,18 @@ fn sheet_of_four() {
     assert_eq!(sheet(b"0\n-0\n"), "line 2 refused\n");
     assert_eq!(sheet(&b"0\n".repeat(129)), "line 129 refused\n");
     assert_eq!(sheet(&b"0\n".repeat(128)), "NS-SCORE COUNT NS-MP EW-MP\n0 128 127 127\n");
+}
+
+#[test]
+fn imps_of_differences() {
+    assert_eq!([10, 20, 490, 500, 3990, 4000].map(|points| imps(points, 0)), [0, 1, 10, 11, 23, 24]);
+    assert_eq!((imps(0, 500), imps(7600, -7600)), (-11, 24));
+}
+
+#[test]
+fn team_match_of_two_boards() {
+    let written = Written::of(&[Line::Board(1, 420, -50), Line::Board(2, -100, 620)], Match::play);
+    assert_eq!(written.text, "10\n-12\nTOTAL -2 2\n");
+    assert_eq!(Written::of(&[], Match::play).text, "TOTAL 0 0\n");
+    assert_eq!(Written::of(&[Line::Board(1, 420, -50), Line::Unreadable], Match::play).text, "10\nline 2 refused\n");
 }

@@ -1,7 +1,10 @@
-//! A comparison that cannot fail shows nothing: judges with one fault each, every one of which it has to find.
+//! A comparison that cannot fail shows nothing: judges and team matches with one fault each, every one of which it has to find.
 use outside::compare::Judge;
 use outside::judge::judge;
+use outside::random::Random;
 use outside::reader::Reader;
+use outside::team::{imps, Match, Play, Written, MOST_BOARDS};
+use outside::team_scripts::Script;
 use outside::trial::Trial;
 
 const FAULTS: [(&str, Judge); 12] = [
@@ -106,5 +109,51 @@ fn found(judge: Judge) -> bool {
 fn every_fault_is_found() {
     for (fault, judge) in FAULTS {
         assert!(found(judge), "a judge that {fault} was not found out");
+    }
+}
+
+const TEAM_FAULTS: [(&str, Play); 6] = [
+    ("takes the second score less the first", |m, board, first, second| m.play(board, second, first)),
+    ("takes a board twice", |m, board, first, second| {
+        m.used.remove(&board);
+        m.play(board, first, second)
+    }),
+    ("takes a 33rd board", |m, board, first, second| match m.play(board, first, second) {
+        Err(30) => {
+            m.total += imps(first, second);
+            m.used.insert(board);
+            Ok(imps(first, second))
+        }
+        answer => answer,
+    }),
+    ("looks at the board before the scores", |m, board, first, second| match m.used.contains(&board) || !(1..=127).contains(&board) {
+        true => Err(29),
+        false => m.play(board, first, second),
+    }),
+    ("looks for room before it looks at the board", |m, board, first, second| match m.play(board, first, second) {
+        Err(29) if m.used.len() == MOST_BOARDS => Err(30),
+        answer => answer,
+    }),
+    ("adds a refused board's IMPs to the total", |m, board, first, second| {
+        let answer = m.play(board, first, second);
+        if answer == Err(29) {
+            m.total += imps(first, second);
+        }
+        answer
+    }),
+];
+
+/// Team matches after which a fault must have been found: those of the gate.
+const MATCHES: usize = 3_000;
+
+#[test]
+fn every_fault_of_a_team_match_is_found() {
+    for (fault, play) in TEAM_FAULTS {
+        let mut random = Random::new(64);
+        let found = (0..MATCHES).any(|_| {
+            let script = Script::of_boards(&mut random);
+            Written::of(&script.lines, play).text != Written::of(&script.lines, Match::play).text
+        });
+        assert!(found, "a team match that {fault} was not found out");
     }
 }

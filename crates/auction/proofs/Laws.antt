@@ -10,7 +10,9 @@ use borrow.Author.Tests.{leb-true, leb-false, le-leb, lt-ltb, le-ltb, eqb-true, 
 use lib.Dec.{eqb, ltb}
 use Rattle.laws.specs.Choice.{if_then_else_}
 use Rattle.laws.specs.Refusals.{accepted}
-use Rattle.laws.specs.Auction.{pass, double, redouble, lastBid, sufficient, mayDouble, mayRedouble, isOver, allowed, contract}
+use Rattle.laws.specs.Auction.{pass, double, redouble, lastBid, sufficient, mayDouble, mayRedouble, isOver, allowed, contract, trumpAfter, openingAfter}
+use Rattle.laws.specs.Auction as Law
+use Rattle.laws.specs.Cards.{clockwise}
 use Rattle.laws.specs.CallRefusal.{isCall, callRefusal}
 use Rattle.laws.proofs.Tests.{by-test}
 use Rattle.laws.proofs.CallRefusals.{accepted-is}
@@ -72,3 +74,12 @@ module _ (d : ℕ) (h : List ℕ) (c : ℕ) where
 pub contract-is : (d : ℕ) (h : List ℕ) → asLaw (contractOf (positionOf d h)) ≡ contract d h
 unfolding contractOf contract
 contract-is d h = rw (declarer-is d h, last-is d h, doubling-is d h)
+
+-- the trump and the opening leader of the contract
+pub trump-is : (d : ℕ) (h : List ℕ) → contractOf (positionOf d h) .strain ≡ trumpAfter h
+unfolding contract trumpAfter
+trump-is d h = ap (λ (k : Law.Contract). k .strain) (contract-is d h)
+
+pub opening-is : (d : ℕ) (h : List ℕ) → clockwise (contractOf (positionOf d h) .declarer) 1 ≡ openingAfter d h
+unfolding contract openingAfter
+opening-is d h = ap (λ (k : Law.Contract). clockwise (k .declarer) 1) (contract-is d h)

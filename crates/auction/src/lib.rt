@@ -66,6 +66,15 @@ pub struct Contract {
     pub declarer: u8,
 }
 
+impl Contract {
+    // The seat that leads first: the one after declarer.
+    pub fn opening_leader(self) -> u8
+        ensures { λ r. ⌜ r ≡ clockwise (self .declarer) 1 ⌝ }
+    {
+        (self.declarer % 4 + 1) % 4
+    }
+}
+
 // The seat to the left.
 fn next_seat(seat: u8) -> u8
     ensures { λ r. ⌜ r ≡ clockwise seat 1 ⌝ }

@@ -1,8 +1,8 @@
 -- The loop over the cards: the play's position is that of the history, and its refusal is the Law's.
 -- Assumes nothing.
 use Prim.Native.Nat.{ℕ, _≤_, _<_, _+_}
-use mathlib.Core.Path.{_≡_, refl, sym, ap, ap₂, _∙_, subst}
-use mathlib.Core.List.{List, [], _∷_}
+use mathlib.Core.Path.{_≡_, refl, sym, ap, _∙_, subst}
+use mathlib.Core.List.{List, []}
 use lib.ListN.{length}
 use Rattle.laws.specs.Law44.{cardsPlayed}
 use Rattle.laws.specs.CardRefusal.{cardRefusal}
@@ -10,31 +10,15 @@ use Rattle.laws.specs.Reading.{Reading, Reading.refused, Reading.found, read, r
 use Rattle.deal.specs.Hands.{wordsOf}
 use Rattle.play.specs.declared.Play.{Play}
 use Rattle.play.specs.Position.{startOf, step, verdictOf, verdictNumber}
-use Rattle.play.specs.History.{positionOf, AllPlayed}
-use Rattle.play.proofs.Verdicts.{verdict-law}
+use Rattle.play.specs.History.{positionOf}
+use Rattle.play.proofs.Starts.{starts-with, starts-itself}
+use Rattle.play.proofs.Verdicts.{all-played, verdict-law}
 use Rattle.judge.specs.Sections.{noCards, cardsOf}
-use Rattle.judge.proofs.Turns.{Clean, Reached, begins, ends, short, stops, goes}
+use Rattle.judge.proofs.Turns.{Reached, begins, ends, short, stops, goes}
 
 placed : (g : List ℕ) → cardsPlayed g ≡ length g
 unfolding cardsPlayed
 placed g = refl
-
--- a history without a refused card
-pub all-played : (deal : List ℕ) (trump opening : ℕ) (g : List ℕ) → Clean (cardRefusal trump opening deal) g → AllPlayed deal trump opening g
-unfolding Clean AllPlayed
-all-played deal trump opening [] w = tt
-all-played deal trump opening (c ∷ g) w = (w .0, all-played deal trump opening g (w .1))
-
--- a position that starts with the deal has it
-starts-with : {p : Play} (deal hands : List ℕ) (trump opening : ℕ) → p ≡ startOf deal hands trump opening → p .holders ≡ deal
-unfolding startOf
-starts-with deal hands trump opening e = ap (λ (x : Play). x .holders) e
-
-starts-itself : {p : Play} (deal hands : List ℕ) (trump opening : ℕ) → p ≡ startOf deal hands trump opening → hands ≡ wordsOf deal
-    → p ≡ startOf (p .holders) (wordsOf (p .holders)) trump opening
-starts-itself deal hands trump opening e eh =
-    let has = sym (starts-with deal hands trump opening e) in
-    e ∙ ap₂ (λ (d h : List ℕ). startOf d h trump opening) has (eh ∙ ap wordsOf has)
 
 module _ (bytes deal : List ℕ) (trump opening at n : ℕ) where
   abbrev pub CardsAt : Play → ℕ → ℕ → Type 0

@@ -8,15 +8,13 @@ use lib.Dec.{eqb, leb}
 use Rattle.laws.specs.Reading.{Reading.refused, Reading.found, read, refuse}
 use Rattle.laws.proofs.Tests.{and-right}
 use Rattle.judge.specs.declared.claim.Claim.{Claim as Read}
-use Rattle.judge.specs.Sections.{noClaim, claimOf, pointAt, mayClaim, noClaimBy, markedBy, claimBy}
+use Rattle.judge.specs.Sections.{noClaim, claimOf, noClaimBy, markedBy, claimBy}
+use Rattle.play.specs.Claims.{pointAt, mayClaim}
+use Rattle.play.proofs.ClaimPoints.{no-point}
 
 none-left : (b : Bool) → (not b && false) ≡ false
 none-left true = refl
 none-left false = refl
-
-no-point : (out point : Bool) → (out || not point) ≡ not (not out && point)
-no-point true point = refl
-no-point false point = refl
 
 -- ---- no claim
 module _ (out : Bool) (played : ℕ) (bytes : List ℕ) (at : ℕ) where
@@ -68,13 +66,6 @@ module _ (out : Bool) (played : ℕ) (bytes : List ℕ) (at : ℕ) where
     pub marked : (mark ≡ 0 → ⊥) → claimOf (markedBy out played bytes (at + 1)) ≡ claimOf (claimBy out played bytes at)
     unfolding claimBy
     marked z = rw (q, ne-eqb mark 0 z)
-
--- a point for a claim has at most 48 cards played
-pub point-le : (out : Bool) (played : ℕ) → mayClaim out played ≡ true → played ≤ 48
-unfolding mayClaim pointAt
-point-le out played e =
-    let point = and-right (not out) (pointAt played) e in
-    leb-true played 48 (and-right (leb 4 played) (leb played 48) (and-right (eqb (played % 4) 0) (leb 4 played && leb played 48) point))
 
 -- where no claim is marked, nothing more is read
 pub reads-none : (out : Bool) (played at : ℕ) (bytes : List ℕ) → noClaimBy out played [] at ≡ noClaimBy out played bytes at

@@ -19,6 +19,8 @@ use Rattle.laws.specs.Judge as Judge
 use Rattle.laws.proofs.Bits.{number-lt}
 use Rattle.laws.proofs.CardRefusals.{numbered}
 use Rattle.laws.proofs.Numbered.{Fair, at-place, not-0, fair-read, fair-test, fair-each}
+use Rattle.laws.proofs.Histories.{Clean}
+use Rattle.play.proofs.Verdicts.{all-played}
 use Rattle.laws.proofs.Readings.{first-of, first-read, first-test}
 use Rattle.laws.specs.Cards.{clockwise}
 use Rattle.laws.specs.Record.{Parts}
@@ -34,8 +36,6 @@ use Rattle.judge.specs.declared.cards.Cards.{Cards}
 use Rattle.judge.specs.declared.whole.Judged.{Judged}
 use Rattle.judge.specs.Sections.{cardsBy, cardsOf}
 use Rattle.judge.specs.Whole.{OfCards, OfCalls, afterCards, afterCalls, noJudgement, judgedOf}
-use Rattle.judge.proofs.Turns.{Clean}
-use Rattle.judge.proofs.CardTurns.{all-played}
 
 -- ---- a reading of codes that succeeds: none was refused, and the bit behind them
 pub found-same : {A : Type 0} {h g : A} {at e : ℕ} → _≡_ {A = Reading A} (found h at) (found g e) → (h ≡ g) × (at ≡ e)

@@ -39,7 +39,8 @@ use Rattle.judge.specs.Settled.{headFields, wonIn, afterIn, stakeIn, set
 use Rattle.judge.specs.Whole.{OfCards, listedIn, afterCards, noJudgement, judgedOf, boardFields}
 use Rattle.judge.specs.declared.claim.Claim.{Claim as Read}
 use Rattle.judge.specs.declared.whole.Judged.{Judged}
-use Rattle.judge.specs.Sections.{claimOf, pointAt, noClaimBy, markedBy, claimBy}
+use Rattle.judge.specs.Sections.{claimOf, noClaimBy, markedBy, claimBy}
+use Rattle.play.specs.Claims.{pointAt}
 
 -- the parts of a record with these calls and cards, latest first
 abbrev pub partsOf : ℕ → ℕ → List ℕ → List ℕ → List ℕ → Claim → Parts

@@ -8,12 +8,8 @@ use mathlib.Core.Path.{_≡_, refl, sym, ap, _∙_}
 use mathlib.Core.List.{List, [], _∷_}
 use borrow.Author.Tests.{eq-eqb, ne-eqb}
 use lib.ListN.{length}
+use Rattle.laws.proofs.Histories.{Clean}
 use Rattle.laws.specs.Reading.{Reading, Reading.refused, Reading.found, read, refuse, readEach}
-
--- no code of the history is refused after those before it
-unfoldable pub Clean : (List ℕ → ℕ → ℕ) → List ℕ → Type 0
-Clean rule [] = Unit {0}
-Clean rule (c ∷ h) = (rule h c ≡ 0) × Clean rule h
 
 -- after i of n codes, at the bit `here`: a is the state of their history
 pub record Reached (w : ℕ) (place : List ℕ → ℕ) (rule : List ℕ → ℕ → ℕ) (bytes : List ℕ) (at n : ℕ) {A : Type 0} (state : List ℕ → A) (a : A)

@@ -16,6 +16,7 @@ use Rattle.auction.specs.Position.{positionOf}
 use Rattle.deal.specs.Hands.{wordsOf}
 use Rattle.play.specs.Position.{startOf}
 use Rattle.play.specs.History as Play
+use Rattle.play.specs.Claims.{pointAt}
 use Rattle.judge.specs.declared.reading.Heading.{Heading}
 use Rattle.judge.specs.declared.reading.Calls.{Calls}
 use Rattle.judge.specs.declared.reading.Deal.{Deal}
@@ -80,16 +81,7 @@ claimOf (refused n place) = noClaim n place
 claimOf (found none at) = record { refusal = 0; next = at; marked = false; tricks = 0 }
 claimOf (found (agreed tricks) at) = record { refusal = 0; next = at; marked = true; tricks = tricks }
 
--- the Laws' section, here and below, by whether the board was passed out and the number of cards played
--- so many cards are the end of a trick, the first to the twelfth
-unfoldable pub pointAt : ℕ → Bool
-pointAt played = eqb (played % 4) 0 && (leb 4 played && leb played 48)
-
--- there is a contract, and a claim may stand after so many cards
-unfoldable pub mayClaim : Bool → ℕ → Bool
-mayClaim out played = not out && pointAt played
-
--- no claim
+-- the Laws' section, here and below, by whether the board was passed out and the number of cards played: no claim
 unfoldable pub noClaimBy : Bool → ℕ → Reader Claim
 noClaimBy out played = do
   refuse playUnfinished played (not out && not (eqb played 52))

@@ -11,7 +11,7 @@ ghost use mathlib.Core.Bool.{not};
 ghost use mathlib.Core.List.{[]};
 ghost use Prim.Native.Nat.{_<_};
 ghost use Rattle.laws.specs.Reading.{overfull};
-ghost use Rattle.judge.specs.Sections.{noClaim, claimOf, mayClaim, noClaimBy, markedBy, claimBy};
+ghost use Rattle.judge.specs.Sections.{noClaim, claimOf, noClaimBy, markedBy, claimBy};
 
 // The claim and the bit behind it; or the number of its refusal, 0 where there is none.
 pub struct Claim {
@@ -49,34 +49,18 @@ fn read_no_claim(out: bool, played: u8, at: usize) -> Claim
     }
 }
 
-// Whether a claim may stand after so many cards.
-fn may_claim(out: bool, played: u8) -> bool
-    ensures { λ r. ⌜ r ≡ mayClaim out played ⌝ }
-{
-    if out {
-        return false;
-    }
-    if played % 4 != 0 {
-        return false;
-    }
-    if played < 4 {
-        return false;
-    }
-    played <= 48
-}
-
 // The tricks of a marked claim.
 fn read_marked_claim(bytes: &[u8], out: bool, played: u8, at: usize) -> Claim
     requires { ⌜ at < 65536 ⌝ }
     ensures { λ r. ⌜ r ≡ claimOf (markedBy out played (now (bytes .entry)) at) ⌝ }
 {
-    if !may_claim(out, played) {
+    if !play::may_claim(out, played) {
         return no_claim(NO_CLAIM_POINT, played as u16);
     }
     let Field::Value(tricks) = field::read(bytes, at, 4) else {
         return no_claim(RECORD_ENDS, 0);
     };
-    let left = 13 - played / 4;
+    let left = play::tricks_left(played);
     let t = narrow(tricks);
     if left < t {
         return no_claim(CLAIM_TOO_MANY, tricks);

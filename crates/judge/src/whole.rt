@@ -17,9 +17,8 @@ use play::Revokes;
 use play::Tricks;
 ghost use mathlib.Core.Path.{_≡_};
 ghost use mathlib.Core.List.{List};
-ghost use Prim.Native.Nat.{ℕ, _+_, _-_, _*_, _/_, _<_, _≤_};
+ghost use Prim.Native.Nat.{ℕ, _+_, _*_, _<_, _≤_};
 ghost use lib.ListN.{length};
-ghost use Rattle.laws.specs.Cards.{clockwise};
 ghost use Rattle.laws.specs.Record.{number};
 ghost use Rattle.laws.specs.Judge.{readRecord};
 ghost use Rattle.deal.specs.Hands.{wordsOf};
@@ -44,17 +43,6 @@ fn refused(refusal: u32) -> Judged
         bits: 0,
         revokes,
     }
-}
-
-// The tricks left after so many cards.
-fn tricks_left(played: u8) -> u8
-    ensures { λ r. ⌜ r ≡ 13 - played / 4 ⌝ }
-{
-    let complete = played / 4;
-    if 13 < complete {
-        return 0;
-    }
-    13 - complete
 }
 
 // The answer's bits, passed out or with a contract, with a claim or without one.
@@ -109,19 +97,21 @@ fn judge_claim(
     }
     let ts = p.tricks();
     let rs = p.revokes();
-    let bits = settle_board(board, table, out, k, ts, rs, claimed, tricks_left(played));
+    let bits = settle_board(
+        board,
+        table,
+        out,
+        k,
+        ts,
+        rs,
+        claimed,
+        play::tricks_left(played),
+    );
     Judged {
         refusal: 0,
         bits,
         revokes: rs,
     }
-}
-
-// The seat that leads first: the one after declarer.
-fn opening_leader(declarer: u8) -> u8
-    ensures { λ r. ⌜ r ≡ clockwise declarer 1 ⌝ }
-{
-    (declarer % 4 + 1) % 4
 }
 
 // The cards, and what follows them.
@@ -139,15 +129,7 @@ fn judge_play(
 {
     let out = a.is_passed_out();
     let k = a.contract();
-    let cards = read_cards(
-        bytes,
-        holders,
-        hands,
-        out,
-        k.strain,
-        opening_leader(k.declarer),
-        at,
-    );
+    let cards = read_cards(bytes, holders, hands, out, k.strain, k.opening_leader(), at);
     if cards.refusal != 0 {
         return refused(cards.refusal);
     }

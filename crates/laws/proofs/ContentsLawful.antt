@@ -34,7 +34,7 @@ use Rattle.laws.proofs.Accepts.{lent-is, read-back, accepts-parts}
 use Rattle.laws.proofs.Contents.{as-judged}
 
 -- ---- what the checks of a section let through
-heading-kept : (board table from : ℕ) {u : Unit {0}} {m : ℕ} → takeHeading board table [] from ≡ found u m → (board ≤ 127) × (table ≤ 511)
+pub heading-kept : (board table from : ℕ) {u : Unit {0}} {m : ℕ} → takeHeading board table [] from ≡ found u m → (board ≤ 127) × (table ≤ 511)
 unfolding takeHeading
 heading-kept board table from q =
     let a = first-test noBoardOrTable 0 (ltb 127 board) [] from _ q in

@@ -39,7 +39,7 @@ at-place : {n place : ℕ} → refusesContents n ≡ true → place < 1024 → R
 at-place e l = record { number = e; place-lt = l }
 
 -- checks that refuse do so with such a number
-abbrev Sound : {A : Type 0} → Reading A → Type 0
+abbrev pub Sound : {A : Type 0} → Reading A → Type 0
 Sound (refused n place) = Refuses n place
 Sound (found a at) = Unit {0}
 
@@ -60,7 +60,7 @@ unfolding refuse
 sound-last n place true from f = f refl
 sound-last n place false from f = tt
 
-sound-heading : (board table from : ℕ) → Sound (takeHeading board table [] from)
+pub sound-heading : (board table from : ℕ) → Sound (takeHeading board table [] from)
 unfolding takeHeading
 sound-heading board table from =
     sound-test noBoardOrTable 0 (ltb 127 board) from _ (λ t. at-place refl (omega arith)) (λ f.
@@ -68,7 +68,7 @@ sound-heading board table from =
     sound-test noBoardOrTable 1 (ltb 511 table) from _ (λ t. at-place refl (omega arith)) (λ f.
     sound-last noBoardOrTable 1 (eqb table 0) from (λ t. at-place refl (omega arith)))))
 
-sound-deal : (deal : List ℕ) (from : ℕ) → Sound (takeDeal deal [] from)
+pub sound-deal : (deal : List ℕ) (from : ℕ) → Sound (takeDeal deal [] from)
 unfolding takeDeal
 sound-deal deal from =
     sound-test notThirteen noSeat (not (areSeats deal)) from _ (λ t. at-place refl (omega arith)) (λ f.
@@ -85,7 +85,7 @@ module _ (place : List ℕ → ℕ) (rule : List ℕ → ℕ → ℕ) (Good : Li
       sound-test (rule h c) (place h) (not (eqb (rule h c) accepted)) from _ (λ t. at-place (number h c t) (few h g (omega arith))) (λ f.
       sound-each l (c ∷ h) from (more h c (eqb-true _ _ (not-false _ f)) g) (λ b gb le. few b gb (omega arith)))
 
-sound-calls : (d : ℕ) (calls : List ℕ) (from : ℕ) → Sound (takeCalls d calls [] from)
+pub sound-calls : (d : ℕ) (calls : List ℕ) (from : ℕ) → Sound (takeCalls d calls [] from)
 unfolding takeCalls AllAllowed callPlace
 sound-calls d calls from =
     sound-on (takeEach callPlace (callRefusal d) calls [] [] from) _
@@ -95,7 +95,7 @@ sound-calls d calls from =
     sound-test auctionUnfinished (length calls) (not (isOver h)) m _
     (λ t. at-place refl (omega (arith, allowed-each d calls (each-kept callPlace (callRefusal d) calls [] from q) .few))) (λ f. tt))
 
-sound-cards : (d : ℕ) (deal h cards : List ℕ) (from : ℕ) → Sound (takeCards d deal h cards [] from)
+pub sound-cards : (d : ℕ) (deal h cards : List ℕ) (from : ℕ) → Sound (takeCards d deal h cards [] from)
 unfolding takeCards cardsPlayed
 sound-cards d deal h cards from =
     let rule = cardRefusal (trumpAfter h) (openingAfter d h) deal in

@@ -1,28 +1,28 @@
 -- How far the checks of contents go: what lets a section pass, and where codes are refused. Assumes nothing.
 use Prim.Native.Nat.{ℕ, zero, suc, _≤_, _<_, min}
 use native.Mathlib.Omega.{arith}
-use mathlib.Core.Path.{_≡_, refl, _∙_}
-use mathlib.Core.Bool.{Bool, true, false, _&&_, _||_}
+use mathlib.Core.Path.{_≡_, refl, sym, _∙_}
+use mathlib.Core.Bool.{Bool, true, false, not, _&&_, _||_}
 use mathlib.Core.List.{List, [], _∷_, reverse, reverseAux}
-use borrow.Author.Tests.{eq-eqb, ne-eqb, le-ltb, lt-ltb, le-leb, lt-leb}
+use borrow.Author.Tests.{eqb-false, eq-eqb, ne-eqb, le-ltb, lt-ltb, le-leb, lt-leb}
 use lib.Dec.{ltb, eqb}
 use lib.ListN.{length, getD, take, length-reverse, length-take}
 use Rattle.laws.specs.Choice.{some}
-use Rattle.laws.specs.Refusals.{accepted, noBoardOrTable, notThirteen, noCall, tooManyCards, noCard, claimTooMany}
-use Rattle.laws.specs.Cards.{noSeat, cardsDealt}
+use Rattle.laws.specs.Refusals.{accepted, noBoardOrTable, notThirteen, noCall, auctionUnfinished, tooManyCards, noCard, claimTooMany}
+use Rattle.laws.specs.Cards.{noSeat, cardsDealt, seatWithoutThirteen}
 use Rattle.laws.specs.Auction.{callPlace, isOver, passedOut, allowed, trumpAfter, openingAfter}
 use Rattle.laws.specs.CallRefusal.{callRefusal}
 use Rattle.laws.specs.Law44.{cardsPlayed, tricksLeft, playable}
 use Rattle.laws.specs.CardRefusal.{cardRefusal}
 use Rattle.laws.specs.Law68.{agreed, atClaimPoint, claimable}
 use Rattle.laws.specs.Lawful.{firstOf}
-use Rattle.laws.specs.Reading.{Reading.refused, Reading.found}
+use Rattle.laws.specs.Reading.{Reading, Reading.refused, Reading.found, refuse}
 use Rattle.laws.specs.Contents.{takeHeading, areSeats, takeDeal, takeEach, takeCalls, takeCards, takeClaim}
 use Rattle.laws.proofs.Tests.{by-test, not-both}
 use Rattle.laws.proofs.Histories.{Each, each-place}
 use Rattle.laws.proofs.CallRefusals.{accepted-is}
 use Rattle.laws.proofs.CardRefusals.{accepted-is as card-accepted-is}
-use Rattle.laws.proofs.Readings.{test-is, test-stops}
+use Rattle.laws.proofs.Readings.{refused-found, first-of, first-test, test-is, test-stops}
 use Rattle.laws.proofs.Sections.{short-none}
 use Rattle.laws.proofs.Contents.{none-over}
 
@@ -156,3 +156,59 @@ pub claim-stops : (h g : List ℕ) (tricks from : ℕ) → passedOut h ≡ false
     → takeClaim h g (agreed tricks) [] from ≡ refused claimTooMany (min tricks 15)
 unfolding takeClaim claimable
 claim-stops h g tricks from played point more = simp (played, point, lt-leb tricks (tricksLeft g) more, test-is, test-stops)
+
+-- a value is no refusal, and a refusal has one number
+pub found-refused : {A P : Type 0} {n place end : ℕ} {a : A} → _≡_ {A = Reading A} (found a end) (refused n place) → P
+found-refused e = refused-found (sym e)
+
+number-of : {A : Type 0} {n m p q : ℕ} → _≡_ {A = Reading A} (refused n p) (refused m q) → n ≡ m
+number-of e = cc
+
+-- ---- a check reads nothing, so what passes is where it was
+stays-refuse : (n place : ℕ) (test : Bool) (from : ℕ) {m : ℕ} {u : Unit {0}} → refuse n place test [] from ≡ found u m → m ≡ from
+unfolding refuse
+stays-refuse n place true from e = refused-found e
+stays-refuse n place false from {m} e = let z : from ≡ m = cc in sym z
+
+pub heading-stays : (board table from : ℕ) {u : Unit {0}} {m : ℕ} → takeHeading board table [] from ≡ found u m → m ≡ from
+unfolding takeHeading
+heading-stays board table from q =
+    let a = first-test noBoardOrTable 0 (ltb 127 board) [] from _ q in
+    let b = first-test noBoardOrTable 0 (eqb board 0) [] from _ (a .1) in
+    let c = first-test noBoardOrTable 1 (ltb 511 table) [] from _ (b .1) in
+    stays-refuse noBoardOrTable 1 (eqb table 0) from (c .1)
+
+pub deal-stays : (deal : List ℕ) (from : ℕ) {u : Unit {0}} {m : ℕ} → takeDeal deal [] from ≡ found u m → m ≡ from
+unfolding takeDeal
+deal-stays deal from q =
+    stays-refuse notThirteen (seatWithoutThirteen deal) (not (eqb (seatWithoutThirteen deal) noSeat)) from
+    (first-test notThirteen noSeat (not (areSeats deal)) [] from _ q .1)
+
+module _ (place : List ℕ → ℕ) (rule : List ℕ → ℕ → ℕ) where
+  pub each-stays : (l h : List ℕ) (from : ℕ) {g : List ℕ} {m : ℕ} → takeEach place rule l h [] from ≡ found g m → m ≡ from
+  unfolding takeEach
+  each-stays [] h from {m = m} e = let z : from ≡ m = cc in sym z
+  each-stays (c ∷ l) h from e = each-stays l (c ∷ h) from (first-test (rule h c) (place h) (not (eqb (rule h c) accepted)) [] from _ e .1)
+
+  -- a code is refused with a number that is not 0
+  pub each-numbered : (l h : List ℕ) (from : ℕ) {n p : ℕ} → takeEach place rule l h [] from ≡ refused n p → n ≡ accepted → ⊥
+  unfolding takeEach refuse
+  each-numbered [] h from e z = found-refused e
+  each-numbered (c ∷ l) h from {n} {p} e z =
+      by-test (eqb (rule h c) accepted)
+      (λ (t : eqb (rule h c) accepted ≡ true). each-numbered l (c ∷ h) from (rw t at e) z)
+      (λ (t : eqb (rule h c) accepted ≡ false). eqb-false (rule h c) accepted t (number-of (rw t at e) ∙ z))
+
+pub calls-stay : (d : ℕ) (calls : List ℕ) (from : ℕ) {h : List ℕ} {m : ℕ} → takeCalls d calls [] from ≡ found h m → m ≡ from
+unfolding takeCalls
+calls-stay d calls from {h} {m} q =
+    let a = first-of (takeEach callPlace (callRefusal d) calls [] [] from) _ q in
+    let t = first-test auctionUnfinished (length calls) (not (isOver (a .0))) [] (a .1) _ (a .3) in
+    let last : a .1 ≡ m = cc in
+    sym last ∙ each-stays callPlace (callRefusal d) calls [] from (a .2)
+
+pub cards-stay : (d : ℕ) (deal h cards : List ℕ) (from : ℕ) {g : List ℕ} {m : ℕ} → takeCards d deal h cards [] from ≡ found g m → m ≡ from
+unfolding takeCards
+cards-stay d deal h cards from q =
+    let t = first-test tooManyCards (min (length cards) 63) (ltb 52 (length cards) || (passedOut h && ltb 0 (length cards))) [] from _ q in
+    each-stays cardsPlayed (cardRefusal (trumpAfter h) (openingAfter d h) deal) cards [] from (t .1)

@@ -1,9 +1,11 @@
 -- Members of a list that a rule allows each after those before it: along the list, and for every place. Assumes nothing.
 use Prim.Native.Nat.{ℕ, zero, suc, _^_, _<_}
 use native.Mathlib.Omega.{arith}
+use mathlib.Core.Path.{_≡_}
 use mathlib.Core.Logic.{_↔_}
 use mathlib.Core.List.{List, [], _∷_, reverseAux}
 use lib.ListN.{length, getD, take}
+use Rattle.laws.specs.Refusals.{accepted}
 use Rattle.laws.specs.Record.{row}
 use Rattle.laws.specs.Lawful.{firstOf}
 use Rattle.laws.proofs.Written.{Fit}
@@ -12,6 +14,11 @@ use Rattle.laws.proofs.Written.{Fit}
 unfoldable pub Each : (List ℕ → ℕ → Type 0) → List ℕ → List ℕ → Type 0
 Each Ok h [] = Unit {0}
 Each Ok h (c ∷ l) = Ok h c × Each Ok (c ∷ h) l
+
+-- no code of the history, latest first, is refused after those before it
+unfoldable pub Clean : (List ℕ → ℕ → ℕ) → List ℕ → Type 0
+Clean rule [] = Unit {0}
+Clean rule (c ∷ h) = (rule h c ≡ accepted) × Clean rule h
 
 module _ (Ok : List ℕ → ℕ → Type 0) where
   at-place : (h l : List ℕ) → Each Ok h l → (k : ℕ) → k < length l → Ok (reverseAux (take k l) h) (getD l k 0)

@@ -16,7 +16,7 @@ use Rattle.laws.specs.Law77.{validScore}
 use Rattle.laws.specs.Law78.{lowerEnds, lowerEnd, impsForSize, impsOf, imps, opposite}
 use Rattle.laws.proofs.Tests.{by-test}
 use Rattle.laws.proofs.Counts.{many-le, everyBelow, every-below}
-use Rattle.laws.proofs.Integers.{swap-difference}
+use Rattle.laws.proofs.Integers.{swap-difference, size-neg}
 
 pub at-most-24 : (size : ℕ) → impsForSize size ≤ 24
 unfolding impsForSize lowerEnds
@@ -103,6 +103,12 @@ unfolding impsOf
 imps-neg (pos zero) = rw none-for-zero
 imps-neg (pos (suc n)) = refl
 imps-neg (negsuc n) = sym (negℤ-negℤ (pos (impsForSize (suc n))))
+
+-- a board is worth at most 24 IMPs, either way
+pub at-most-24-imps : (z : ℤ) → natAbs (impsOf z) ≤ 24
+unfolding impsOf
+at-most-24-imps (pos n) = at-most-24 n
+at-most-24-imps (negsuc n) = rw (size-neg (pos (impsForSize (suc n)))) (at-most-24 (suc n))
 
 -- ---- the answers, by what the tests say
 module _ (a b : ℤ) where

@@ -30,4 +30,5 @@ pub mod Decimal
 pub mod Sheet
 pub mod Percentages
 pub mod CellSheet
+pub mod TeamMatch
 pub mod Slip

@@ -69,7 +69,7 @@ cardNotHeld = 12
 abbrev pub playUnfinished : ℕ
 playUnfinished = 13
 
--- Law 68: a claim at another point than the end of a trick, or on a board that was passed out
+-- Law 68: a claim before the first card or after the last, or on a board that was passed out
 abbrev pub noClaimPoint : ℕ
 noClaimPoint = 14
 
@@ -81,7 +81,7 @@ claimTooMany = 15
 abbrev pub notPadding : ℕ
 notPadding = 16
 
--- a tally that is not as described
+-- a tally, or a state of a team match, that is not as described
 abbrev pub malformedTally : ℕ
 malformedTally = 17
 
@@ -108,6 +108,14 @@ shortRecordBuffer = 22
 -- Law 44: a card that the seat at turn has played already
 abbrev pub cardAlreadyPlayed : ℕ
 cardAlreadyPlayed = 23
+
+-- a board of a team match that is outside 1 to 127, or was used already
+abbrev pub boardNotFree : ℕ
+boardNotFree = 29
+
+-- a 33rd board of a team match
+abbrev pub tooManyBoards : ℕ
+tooManyBoards = 30
 
 -- the numbers that a record is refused with: 1 to 16, and 23
 abbrev pub refusesRecord : ℕ → Bool

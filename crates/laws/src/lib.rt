@@ -44,7 +44,7 @@ pub const CARD_NOT_HELD: u8 = 12;
 // A contract without a claim, and fewer than 52 cards.
 pub const PLAY_UNFINISHED: u8 = 13;
 
-// Law 68: a claim at another point than the end of a trick, or on a board that was passed out.
+// Law 68: a claim before the first card or after the last, or on a board that was passed out.
 pub const NO_CLAIM_POINT: u8 = 14;
 
 // Law 68: a claim of more tricks than are left.
@@ -53,7 +53,7 @@ pub const CLAIM_TOO_MANY: u8 = 15;
 // A padding bit is 1, or a byte follows.
 pub const NOT_PADDING: u8 = 16;
 
-// A tally that is not as described.
+// A tally, or a state of a team match, that is not as described.
 pub const MALFORMED_TALLY: u8 = 17;
 
 // Tallies of two boards merged.
@@ -73,6 +73,12 @@ pub const SHORT_RECORD_BUFFER: u8 = 22;
 
 // Law 44: a card that the seat at turn has played already.
 pub const CARD_ALREADY_PLAYED: u8 = 23;
+
+// A board of a team match that is outside 1 to 127, or was used already.
+pub const BOARD_NOT_FREE: u8 = 29;
+
+// A 33rd board of a team match.
+pub const TOO_MANY_BOARDS: u8 = 30;
 
 // A refusal and its place as one number: refusal × 1024 + place.
 pub fn refusal_number(refusal: u8, place: u16) -> u32

@@ -2,7 +2,7 @@
 use Prim.Native.Nat.{ℕ, _<_}
 use mathlib.Core.Path.{_≡_, refl}
 use mathlib.Core.Bool.{Bool, true, false, not, _&&_}
-use mathlib.Core.List.{List}
+use mathlib.Core.List.{List, [], _∷_}
 use native.Mathlib.Omega.{arith}
 use borrow.Author.Tests.{leb-false}
 use lib.Dec.{eqb, leb}
@@ -13,6 +13,7 @@ use Rattle.laws.specs.Cards.{noSeat, dealtTo}
 use Rattle.laws.specs.Law44.{toPlay, isPlayed, holds, hasPlayed, playable}
 use Rattle.laws.specs.CardRefusal.{cardRefusal}
 use Rattle.laws.proofs.Tests.{by-test}
+use Rattle.laws.proofs.Histories.{Clean}
 use Rattle.deal.proofs.Built.{at-seat}
 use Rattle.deal.proofs.Words.{word-bit}
 use Rattle.play.specs.declared.Play.{Play}
@@ -21,6 +22,12 @@ use Rattle.play.specs.Position.{wasDealt, verdictOf, verdictNumber}
 use Rattle.play.specs.History.{positionOf, AllPlayed}
 use Rattle.play.proofs.Holders.{turn-seat, holds-law}
 use Rattle.play.proofs.Stands.{Stands, stands, turn-is}
+
+-- a history without a refused card
+pub all-played : (deal : List ℕ) (trump opening : ℕ) (g : List ℕ) → Clean (cardRefusal trump opening deal) g → AllPlayed deal trump opening g
+unfolding Clean AllPlayed
+all-played deal trump opening [] w = tt
+all-played deal trump opening (c ∷ g) w = (w .0, all-played deal trump opening g (w .1))
 
 -- a card that the seat was dealt is in its hand or played
 number-of : (own played : Bool)

@@ -2,3 +2,4 @@ pub mod Words
 pub mod Position
 pub mod Told
 pub mod History
+pub mod Claims

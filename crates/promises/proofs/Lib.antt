@@ -12,4 +12,9 @@ pub mod Tallies
 pub mod Demand2Imps
 pub mod Percentages
 pub mod Writing
+pub mod UnfinishedTrick
+pub mod TeamMatchRuns
+pub mod TeamMatchOrder
+pub mod TeamMatchReached
+pub mod TeamMatch
 pub mod Slip

@@ -10,4 +10,6 @@ pub mod Tallies
 pub mod Demand2Imps
 pub mod Percentages
 pub mod Writing
+pub mod UnfinishedTrick
+pub mod TeamMatch
 pub mod Slip

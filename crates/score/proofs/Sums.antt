@@ -47,3 +47,9 @@ pub within-true : (z : ℤ) → ltZ z (negsuc 2147483647) ≡ false → ltZ (pos
 unfolding impsFit
 within-true (pos n) l h = lt-ltb n (2 ^ 31) (within (pos n) l h)
 within-true (negsuc n) l h = lt-ltb n (2 ^ 31) (within (negsuc n) l h)
+
+-- a number of few IMPs fits
+pub few-fit : (z : ℤ) → natAbs z < 2 ^ 31 → impsFit z ≡ true
+unfolding impsFit
+few-fit (pos n) h = lt-ltb n (2 ^ 31) h
+few-fit (negsuc n) h = lt-ltb n (2 ^ 31) (omega arith)

@@ -2,7 +2,7 @@
 use laws::INVALID_SCORE;
 ghost use mathlib.Core.Path.{_≡_};
 ghost use mathlib.Core.Bool.{true};
-ghost use lib.IntN.{pos, _-ℤ_};
+ghost use lib.IntN.{pos, natAbs, _-ℤ_};
 ghost use lib.ListN.{getD};
 ghost use lib.Signed.{leZ};
 ghost use Prim.Native.Nat.{_<_};
@@ -141,6 +141,17 @@ pub fn add_imps(a: Imps, b: Imps) -> ImpSum
     ensures { λ r. ⌜ impSum r ≡ impsAdded (a .0) (b .0) ⌝ }
 {
     total_imps(a.0, b.0)
+}
+
+// How many IMPs, gained or lost.
+pub fn imps_size(imps: Imps) -> u64
+    ensures { λ r. ⌜ r ≡ natAbs (imps .0) ⌝ }
+{
+    let n = imps.0 as i64;
+    if n < 0 {
+        return (-n) as u64;
+    }
+    n as u64
 }
 
 // The sum of two numbers of matchpoints, exact, or that it does not fit.

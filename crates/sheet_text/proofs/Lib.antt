@@ -9,4 +9,5 @@ pub mod Results
 pub mod FirstBytes
 pub mod Example
 pub mod Answering
+pub mod Teams
 pub mod SingleLines

@@ -3,4 +3,5 @@ pub mod Putting
 pub mod Whole
 pub mod Answers
 pub mod Columns
+pub mod Team
 pub mod AfterName

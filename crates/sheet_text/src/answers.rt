@@ -15,7 +15,7 @@ ghost use lib.ListN.{length};
 ghost use Rattle.sheet_text.specs.Answers.{refusedText, pointsText, hexDigit, hexDigits, bitsText, saidText, entryText, tallyText};
 ghost use Rattle.sheet_text.specs.Putting.{Put, written, lengthWithin, leftIn};
 
-fn put_refused(out: &mut [u8], n: u8) -> usize
+pub(crate) fn put_refused(out: &mut [u8], n: u8) -> usize
     requires { ⌜ length (refusedText n) ≤ length (now out) ⌝ }
     ensures { λ r. ⌜ Put (now (out .entry)) 0 (refusedText n) (now (out .exit)) r ⌝ }
 {

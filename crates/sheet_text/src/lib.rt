@@ -1,9 +1,10 @@
 // The sheet of a text of scores. Here: a line and the score on it are read, and the parts of the sheet are put into bytes at a place; each answers the
 // place after what it put. `whole` has the results of all lines, the table, and the sheets; `columns` what a table gives for each side; `answers` the
-// text of what the calls of a script answer; `named` single lines.
+// text of what the calls of a script answer; `named` single lines; `team` the text of a team match.
 mod answers;
 mod columns;
 mod named;
+mod team;
 mod whole;
 
 pub use answers::write_said;
@@ -13,13 +14,17 @@ use decimal::read_number;
 pub use named::write_named;
 pub use named::write_pair;
 use score::valid;
+pub use team::write_board;
+pub use team::write_refusal;
+pub use team::write_totals;
 pub use whole::Outcome;
 pub use whole::lend;
 pub use whole::write;
 pub use whole::write_cells;
 ghost use mathlib.Core.Path.{_≡_};
 ghost use mathlib.Core.List.{[], _∷_};
-ghost use Prim.Native.Nat.{_+_, _≤_, _<_};
+ghost use Prim.Native.Nat.{_+_, _≤_, _<_, _^_};
+ghost use lib.IntN.{natAbs};
 ghost use lib.ListN.{length, drop};
 ghost use Rattle.laws.specs.Decimal.{digit, decimal, signedDecimal};
 ghost use Rattle.laws.specs.Sheet.{fields};
@@ -157,16 +162,23 @@ fn put_decimal(out: &mut [u8], at: usize, n: u64) -> usize
     put_digit(out, next, n % 10)
 }
 
-// A score in decimal, with a minus where it is negative.
+// A number in decimal, with a minus where it is negative.
+fn put_signed(out: &mut [u8], at: usize, n: i64) -> usize
+    requires { ⌜ (at + length (signedDecimal n) ≤ length (now out)) × (natAbs n ≤ 2 ^ 31) ⌝ }
+    ensures { λ r. ⌜ Put (now (out .entry)) at (signedDecimal n) (now (out .exit)) r ⌝ }
+{
+    if n < 0 {
+        let next = put_byte(out, at, 45);
+        return put_decimal(out, next, (-n) as u64);
+    }
+    put_decimal(out, at, n as u64)
+}
+
 fn put_score(out: &mut [u8], at: usize, score: i16) -> usize
     requires { ⌜ at + length (signedDecimal score) ≤ length (now out) ⌝ }
     ensures { λ r. ⌜ Put (now (out .entry)) at (signedDecimal score) (now (out .exit)) r ⌝ }
 {
-    if score < 0 {
-        let next = put_byte(out, at, 45);
-        return put_decimal(out, next, (-(score as i64)) as u64);
-    }
-    put_decimal(out, at, score as u64)
+    put_signed(out, at, score as i64)
 }
 
 // A space and a number.

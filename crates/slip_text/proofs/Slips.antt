@@ -1,12 +1,13 @@
 -- The text of the judge's items is the slip, and it is short. Assumes nothing.
-use Prim.Native.Nat.{ℕ, _+_, _≤_}
+use Prim.Native.Nat.{ℕ, _≤_, _<_}
 use native.Mathlib.Omega.{arith}
 use mathlib.Core.Path.{_≡_, refl, sym, ap, _∙_}
 use mathlib.Core.Bool.{true, false}
 use mathlib.Core.List.{List, [], _∷_, _++_, append-assoc, append-nil}
-use lib.Dec.{lit≤}
+use lib.Dec.{leb, lit≤}
+use borrow.Author.Tests.{leb-true, leb-false, le-leb, lt-leb, ne-eqb}
 use lib.IntN.{ℤ}
-use lib.ListN.{length}
+use lib.ListN.{length, length-append}
 use Rattle.laws.specs.Auction.{passedOut}
 use Rattle.laws.specs.Record.{Parts}
 use Rattle.laws.specs.Reading.{Reading, Reading.refused as stopped, Reading.found}
@@ -14,14 +15,17 @@ use Rattle.laws.specs.Judge.{readRecord, Outcome, Outcome.refused, Outcome.acce
 use Rattle.laws.specs.Judgement.{callsOf, declarerOf, stakeOf, afterOf, scoreOf}
 use Rattle.laws.specs.Decimal.{lastDigits, decimal, signedDecimal}
 use Rattle.laws.specs.Lawful.{Lawful}
+use Rattle.laws.specs.Refusals.{refusesRecord}
 use Rattle.laws.specs.Slip.{Name, isNothing, itemsAmong, itemsOf, wordOf, sumWord, line, lines, refusalLine, slipOf, slip, mostSlipBytes}
 use Rattle.laws.proofs.Accepts.{judged, lent-is}
-use Rattle.laws.proofs.Tests.{by-test}
+use Rattle.laws.proofs.Numbered.{Ruled, ruled}
+use Rattle.laws.proofs.Tests.{by-test, not-both}
 use Rattle.judge.specs.declared.slip.Items.{Items}
 use Rattle.judge.specs.declared.slip.Explained.{Explained}
 use Rattle.judge.specs.declared.slip.Explained.the-variants.{Refused, Granted}
 use Rattle.judge.specs.Explained.{noItems, itemsIn, explainedOf}
 use Rattle.judge.proofs.Explaining.{bid-parts, out-parts, parts-possible}
+use Rattle.sheet_text.proofs.Printed.{length-by}
 use Rattle.slip_text.specs.Text.{itemLine, itemsText}
 use Rattle.slip_text.proofs.Enough.{contract-le}
 
@@ -92,16 +96,24 @@ module _ (bytes : List ℕ) {x : Explained} (ex : x ≡ explainedOf (judgeOf byt
       rw (g .2) (parts-short (g .0) (accepted-lawful bytes (g .0) (g .1)))
 
 -- ---- every slip has at most 72 bytes, whatever the bytes that it is of
-refused-short : (n place : ℕ) → Numbered n place → length (refusalLine n place) ≤ mostSlipBytes
-unfolding refusalLine
-refused-short n place f =
-    let few : n ≤ 23 = number-le n (f .number) in
-    simp length-append (omega (arith, length-by 1 n (omega arith), length-by 3 place (omega (arith, f .place-lt))))
+number-le : (n : ℕ) → refusesRecord n ≡ true → n ≤ 23
+number-le n e =
+    by-test (leb n 23)
+    (λ (q : leb n 23 ≡ true). leb-true n 23 q)
+    (λ (q : leb n 23 ≡ false).
+    let above : 23 < n = leb-false n 23 q in
+    not-both (refusesRecord n) e (rw (le-leb 1 n (omega arith), lt-leb n 16 (omega arith), ne-eqb n 23 (λ z. omega arith))))
 
+refused-short : (n place : ℕ) → refusesRecord n ≡ true → place < 1024 → length (refusalLine n place) ≤ mostSlipBytes
+unfolding refusalLine
+refused-short n place e h =
+    simp length-append (omega (arith, length-by 1 n (omega (arith, number-le n e)), length-by 3 place (omega arith)))
+
+-- the theorem
 pub enough : (bytes : List ℕ) → length (slip bytes) ≤ mostSlipBytes
-unfolding slip
+unfolding slip slipOf
 enough bytes = go (judgeOf bytes 7 36) refl (ruled bytes 7 36)
   where
     go : (o : Outcome) → judgeOf bytes 7 36 ≡ o → Ruled o → length (slipOf o) ≤ mostSlipBytes
-    go (refused n place) e f = ?
-    go (accepted p) e f = ?
+    go (refused n place) e f = refused-short n place (f .number) (f .place-lt)
+    go (accepted p) e f = rw (← items-text p) (parts-short p (accepted-lawful bytes p e))

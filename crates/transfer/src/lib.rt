@@ -17,6 +17,9 @@ ghost use Rattle.transfer.specs.Inputs.{
   transferredIn,
 };
 
+// What stands for the winner of a trick that is not complete: no seat.
+const NOBODY: u8 = 4;
+
 fn at_most(n: u16, most: u16) -> u16
     ensures { λ r. ⌜ r ≡ min n most ⌝ }
 {
@@ -54,7 +57,7 @@ fn winner_of(ts: Tricks, trick: u8) -> u8
     if at < at_most(ts.count as u16, 13) as usize {
         return ts.winners[at];
     }
-    4
+    NOBODY
 }
 
 // The tricks that revoke i entitles the other side to.

@@ -46,7 +46,8 @@ pub fn feed(run: Run, bytes: &[u8]) -> Run
         let fed = tree_run::take(r, bytes[i]);
         let next = fed.run;
         let reply = fed.reply;
-        report(reply, next.number);
+        let line = next.line;
+        report(reply, line.number);
         r = next;
         i += 1;
     }
@@ -60,7 +61,8 @@ pub fn finish(run: Run) -> Run
     let fed = tree_run::finish(run);
     let last = fed.run;
     let reply = fed.reply;
-    report(reply, last.number);
+    let line = last.line;
+    report(reply, line.number);
     if last.over {
         return last;
     }

@@ -1,10 +1,12 @@
 -- A run of a script, byte by byte: what it leaves, and what each byte brings. Assumes nothing.
-use Prim.Native.Nat.{ℕ, _+_, _-_}
+use Prim.Native.Nat.{ℕ, _-_}
 use mathlib.Core.Bool.{Bool, true, false}
-use lib.Dec.{ltb, eqb}
-use lib.ListN.{set, take, replicate}
+use lib.Dec.{eqb}
+use lib.ListN.{replicate}
 use Rattle.laws.specs.Choice.{if_then_else_}
 use Rattle.laws.specs.Sheet.{newline}
+use Rattle.script_line.specs.declared.Line.{Line}
+use Rattle.script_line.specs.Lines.{firstLine, withByte, nextLine, tooLong, textOf}
 use Rattle.tally.specs.declared.Tally.{Tally}
 use Rattle.tally.specs.Tallies.{noTally}
 use Rattle.tree_script.specs.declared.Call.{Call}
@@ -21,18 +23,7 @@ use Rattle.tree_stack.specs.Stacks.{tallyAt, lacks, stepOf}
 
 -- before the first byte: an empty stack and an empty line
 unfoldable pub startOf : Run
-startOf =
-    record {
-      stack = record { tallies = replicate 16 noTally; used = 0 };
-      line = replicate 18 0;
-      length = 0;
-      number = 0;
-      over = false;
-    }
-
--- the number of the line after so many; the last that the type can hold stays
-unfoldable pub nextNumber : ℕ → ℕ
-nextNumber n = if ltb n 18446744073709551615 then n + 1 else n
+startOf = record { stack = record { tallies = replicate 16 noTally; used = 0 }; line = firstLine; over = false }
 
 -- an answer ends the run
 abbrev pub isStopped : Said → Bool
@@ -44,16 +35,9 @@ isStopped (Awarded bits) = false
 isStopped Alone = false
 isStopped Stopped = true
 
--- a byte at the end of the line; a line of more than 18 bytes is longer than any call, and its length stays 19
-unfoldable pub withByte : Run → ℕ → Run
-withByte r b =
-    if ltb (r .length) 18
-    then record { stack = r .stack; line = set (r .line) (r .length) b; length = r .length + 1; number = r .number; over = r .over }
-    else record { stack = r .stack; line = r .line; length = 19; number = r .number; over = r .over }
-
 -- the call on the line so far
-unfoldable pub callIn : Run → Call
-callIn r = if ltb 18 (r .length) then Unreadable else callOn (take (r .length) (r .line))
+unfoldable pub callIn : Line → Call
+callIn l = if tooLong l then Unreadable else callOn (textOf l)
 
 -- nothing is answered
 abbrev pub silently : Run → Fed
@@ -65,22 +49,24 @@ lineDone r =
     record {
       run =
           record {
-            stack = stepOf (r .stack) (callIn r) .stack;
-            line = r .line;
-            length = 0;
-            number = nextNumber (r .number);
-            over = isStopped (stepOf (r .stack) (callIn r) .said);
+            stack = stepOf (r .stack) (callIn (r .line)) .stack;
+            line = nextLine (r .line);
+            over = isStopped (stepOf (r .stack) (callIn (r .line)) .said);
           };
-      reply = Answer (stepOf (r .stack) (callIn r) .said);
+      reply = Answer (stepOf (r .stack) (callIn (r .line)) .said);
     }
+
+-- a byte more on the line
+abbrev pub lengthened : Run → ℕ → Run
+lengthened r b = record { stack = r .stack; line = withByte (r .line) b; over = false }
 
 -- one byte more; a run that is over takes none
 unfoldable pub takenByte : Run → ℕ → Fed
-takenByte r b = if r .over then silently r else if eqb b newline then lineDone r else silently (withByte r b)
+takenByte r b = if r .over then silently r else if eqb b newline then lineDone r else silently (lengthened r b)
 
 -- the end of the script: its last line may lack a newline
 unfoldable pub finishedOf : Run → Fed
-finishedOf r = if r .over then silently r else if eqb (r .length) 0 then silently r else lineDone r
+finishedOf r = if r .over then silently r else if eqb (r .line .length) 0 then silently r else lineDone r
 
 -- the top tally of a stack; an all-zero one where it has none
 unfoldable pub topOf : Stack → Tally

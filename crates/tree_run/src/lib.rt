@@ -1,4 +1,8 @@
 // A run of a script: bytes are taken one by one, and each line is a call, whose answer is handed back.
+use script_line::Line;
+use script_line::first_line;
+use script_line::next_line;
+use script_line::with_byte;
 use tally::Tally;
 use tree_script::Call;
 use tree_script::read_call;
@@ -7,14 +11,12 @@ use tree_stack::Stack;
 use tree_stack::make_call;
 ghost use mathlib.Core.Path.{_≡_};
 ghost use Rattle.tally.specs.Tallies.{noTally};
-ghost use Rattle.tree_run.specs.Runs.{startOf, nextNumber, isStopped, withByte, callIn, lineDone, takenByte, finishedOf, topOf};
+ghost use Rattle.tree_run.specs.Runs.{startOf, isStopped, callIn, lineDone, takenByte, finishedOf, topOf};
 
-// A run under way: the stack, the line so far and its length (19 where it is longer than any call), how many lines were whole, and whether it is over.
+// A run under way: the stack, the line so far, and whether it is over.
 pub struct Run {
     pub stack: Stack,
-    pub line: [u8; 18],
-    pub length: usize,
-    pub number: u64,
+    pub line: Line,
     pub over: bool,
 }
 
@@ -48,23 +50,12 @@ pub fn start() -> Run
         tallies: tallies,
         used: 0,
     };
+    let line = first_line();
     Run {
         stack: stack,
-        line: [0u8; 18],
-        length: 0,
-        number: 0,
+        line: line,
         over: false,
     }
-}
-
-// The number of the line after so many.
-fn next_number(n: u64) -> u64
-    ensures { λ r. ⌜ r ≡ nextNumber n ⌝ }
-{
-    if n < 18446744073709551615 {
-        return n + 1;
-    }
-    n
 }
 
 // Whether an answer ends the run.
@@ -82,48 +73,31 @@ fn is_stopped(said: Said) -> bool
     }
 }
 
-// A byte at the end of the line.
-fn with_byte(run: Run, b: u8) -> Run
-    ensures { λ r. ⌜ r ≡ withByte run b ⌝ }
-{
-    let n = run.length;
-    let mut next = run;
-    if n < 18 {
-        next.line[n] = b;
-        next.length = n + 1;
-        return next;
-    }
-    next.length = 19;
-    next
-}
-
 // The call on the line so far.
-fn call_in(run: Run) -> Call
-    ensures { λ r. ⌜ r ≡ callIn run ⌝ }
+fn call_in(line: Line) -> Call
+    ensures { λ r. ⌜ r ≡ callIn line ⌝ }
 {
-    let n = run.length;
-    if 18 < n {
+    let n = line.length;
+    if 19 < n {
         return Call::Unreadable;
     }
-    let line = run.line;
-    read_call(&line[..n])
+    let bytes = line.bytes;
+    read_call(&bytes[..n])
 }
 
 // The line is whole: its call is made.
 fn line_done(run: Run) -> Fed
     ensures { λ r. ⌜ r ≡ lineDone run ⌝ }
 {
-    let k = next_number(run.number);
     let s = run.stack;
-    let made = make_call(s, call_in(run));
+    let line = run.line;
+    let made = make_call(s, call_in(line));
     let said = made.said;
     let stack = made.stack;
-    let line = run.line;
+    let empty = next_line(line);
     let next = Run {
         stack: stack,
-        line: line,
-        length: 0,
-        number: k,
+        line: empty,
         over: is_stopped(said),
     };
     Fed {
@@ -152,7 +126,14 @@ pub fn take(run: Run, b: u8) -> Fed
     if b == 10 {
         return line_done(run);
     }
-    silent(with_byte(run, b))
+    let s = run.stack;
+    let line = run.line;
+    let longer = with_byte(line, b);
+    silent(Run {
+        stack: s,
+        line: longer,
+        over: false,
+    })
 }
 
 // The end of the script: its last line may lack a newline.
@@ -162,7 +143,8 @@ pub fn finish(run: Run) -> Fed
     if run.over {
         return silent(run);
     }
-    if run.length == 0 {
+    let line = run.line;
+    if line.length == 0 {
         return silent(run);
     }
     line_done(run)

@@ -3,15 +3,16 @@
 use Prim.Native.Nat.{ℕ}
 use mathlib.Core.Bool.{Bool, true, false, _&&_}
 use mathlib.Core.List.{List, [], _∷_}
-use lib.Dec.{eqb, ltb}
-use lib.IntN.{ℤ, pos, negsuc, negℤ}
+use lib.Dec.{eqb}
+use lib.IntN.{ℤ}
 use lib.ListN.{length, drop}
 use Rattle.laws.specs.Choice.{if_then_else_}
-use Rattle.laws.specs.Decimal.{minus, isNumber, value}
+use Rattle.laws.specs.Decimal.{isNumber, value}
+use Rattle.decimal.specs.declared.Score.{Score}
+use Rattle.decimal.specs.declared.Score.the-variants.{Of, Nothing}
+use Rattle.decimal.specs.Scores.{boardIn, scoreOn}
 use Rattle.tree_script.specs.declared.Call.{Call}
 use Rattle.tree_script.specs.declared.Call.the-variants.{Fresh, Add, Merge, Matchpoints, Cell, Award, Unreadable}
-use Rattle.tree_script.specs.declared.Score.{Score}
-use Rattle.tree_script.specs.declared.Score.the-variants.{Of, Nothing}
 
 -- bytes start with a word
 unfoldable pub isPrefix : List ℕ → List ℕ → Bool
@@ -19,28 +20,9 @@ isPrefix [] bytes = true
 isPrefix (w ∷ word) [] = false
 isPrefix (w ∷ word) (b ∷ bytes) = eqb b w && isPrefix word bytes
 
--- a number as a board: one beyond the parameter's type is passed as 0, which is refused with 3
-unfoldable pub boardIn : ℕ → ℕ
-boardIn n = if ltb 255 n then 0 else n
-
--- a number as a score: one beyond the parameter's type is passed as the largest of the type, which is refused with 20
-unfoldable pub plusIn : ℕ → ℤ
-plusIn n = if ltb 32767 n then pos 32767 else pos n
-
--- a number with a minus as a score: one beyond the type is passed as the least of the type
-unfoldable pub minusIn : ℕ → ℤ
-minusIn n = if ltb 32767 n then negsuc 32767 else negℤ (pos n)
-
 -- a fresh tally of a board: one to five digits
 unfoldable pub freshOn : List ℕ → Call
 freshOn bytes = if isNumber bytes then Fresh (boardIn (value bytes)) else Unreadable
-
--- a score: an optional minus and one to five digits
-unfoldable pub scoreOn : List ℕ → Score
-scoreOn bytes =
-    if isPrefix (minus ∷ []) bytes then (if isNumber (drop 1 bytes) then Of (minusIn (value (drop 1 bytes))) else Nothing)
-    else if isNumber bytes then Of (plusIn (value bytes))
-    else Nothing
 
 -- a call with a score
 unfoldable pub withScore : (ℤ → Call) → Score → Call

@@ -1,8 +1,12 @@
 // A line of a script of tally calls, read as a call.
 use decimal::Number;
+use decimal::Score;
+use decimal::board_in;
 use decimal::read_number;
+use decimal::read_score;
 ghost use mathlib.Core.Path.{_≡_};
-ghost use Rattle.tree_script.specs.Calls.{isPrefix, boardIn, plusIn, minusIn, freshOn, scoreOn, withScore, awardOn, tallyCallOn, callOn};
+ghost use Rattle.decimal.specs.Scores.{scoreOn};
+ghost use Rattle.tree_script.specs.Calls.{isPrefix, freshOn, withScore, awardOn, tallyCallOn, callOn};
 
 // A call that a line asks for, with its board, its score or its percentage; or that no call can be read.
 pub enum Call {
@@ -13,12 +17,6 @@ pub enum Call {
     Cell(i16),
     Award(u32),
     Unreadable,
-}
-
-// A score that is read, or none.
-enum Score {
-    Of(i16),
-    Nothing,
 }
 
 // Whether bytes start with a word.
@@ -38,36 +36,6 @@ fn starts(bytes: &[u8], word: &[u8]) -> bool
     true
 }
 
-// A number as a board; 0 where it is beyond the type.
-fn board_in(n: u32) -> u8
-    ensures { λ r. ⌜ r ≡ boardIn n ⌝ }
-{
-    if 255 < n {
-        return 0;
-    }
-    n as u8
-}
-
-// A number as a score; the largest of the type where it is beyond it.
-fn plus_in(n: u32) -> i16
-    ensures { λ r. ⌜ r ≡ plusIn n ⌝ }
-{
-    if 32767 < n {
-        return 32767;
-    }
-    n as i16
-}
-
-// A number with a minus as a score; the least of the type where it is beyond it.
-fn minus_in(n: u32) -> i16
-    ensures { λ r. ⌜ r ≡ minusIn n ⌝ }
-{
-    if 32767 < n {
-        return -32768;
-    }
-    -(n as i16)
-}
-
 // A fresh tally of the board that the bytes say.
 fn fresh_on(bytes: &[u8]) -> Call
     ensures { λ r. ⌜ r ≡ freshOn (now (bytes .entry)) ⌝ }
@@ -78,27 +46,11 @@ fn fresh_on(bytes: &[u8]) -> Call
     Call::Fresh(board_in(n))
 }
 
-// The score that the bytes say, with an optional minus.
-fn score_on(bytes: &[u8]) -> Score
-    ensures { λ r. ⌜ r ≡ scoreOn (now (bytes .entry)) ⌝ }
-{
-    if starts(bytes, b"-") {
-        let Number::Is(n) = read_number(&bytes[1..]) else {
-            return Score::Nothing;
-        };
-        return Score::Of(minus_in(n));
-    }
-    let Number::Is(n) = read_number(bytes) else {
-        return Score::Nothing;
-    };
-    Score::Of(plus_in(n))
-}
-
 // A score to add.
 fn add_on(bytes: &[u8]) -> Call
     ensures { λ r. ⌜ r ≡ withScore Call.Add (scoreOn (now (bytes .entry))) ⌝ }
 {
-    let Score::Of(s) = score_on(bytes) else {
+    let Score::Of(s) = read_score(bytes) else {
         return Call::Unreadable;
     };
     Call::Add(s)
@@ -108,7 +60,7 @@ fn add_on(bytes: &[u8]) -> Call
 fn matchpoints_on(bytes: &[u8]) -> Call
     ensures { λ r. ⌜ r ≡ withScore Call.Matchpoints (scoreOn (now (bytes .entry))) ⌝ }
 {
-    let Score::Of(s) = score_on(bytes) else {
+    let Score::Of(s) = read_score(bytes) else {
         return Call::Unreadable;
     };
     Call::Matchpoints(s)
@@ -118,7 +70,7 @@ fn matchpoints_on(bytes: &[u8]) -> Call
 fn cell_on(bytes: &[u8]) -> Call
     ensures { λ r. ⌜ r ≡ withScore Call.Cell (scoreOn (now (bytes .entry))) ⌝ }
 {
-    let Score::Of(s) = score_on(bytes) else {
+    let Score::Of(s) = read_score(bytes) else {
         return Call::Unreadable;
     };
     Call::Cell(s)

@@ -306,10 +306,11 @@ fn dummy_revokes() {
     );
 }
 
-// A card of another hand, a card that was played, and no card.
+// A card of another hand, a card that its own seat has played, one that another seat has played, and no card.
 fn refusals() {
     show(&[39, 41], 0, 0);
     show(&[39, 40, 41, 42, 42], 0, 0);
+    show(&[39, 40, 41, 42, 41], 0, 0);
     show(&[52], 0, 0);
 }
 

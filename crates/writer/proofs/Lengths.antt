@@ -13,7 +13,7 @@ use Rattle.laws.specs.Record.{bits, claimFields, layout, encode}
 use Rattle.laws.proofs.Tests.{by-test}
 use Rattle.laws.proofs.Spelled.{length-packed}
 use Rattle.laws.proofs.Lengths.{layout-bits}
-use Rattle.writer.specs.Written.{claimOf, contentsOf, lengthOf}
+use Rattle.writer.specs.Given.{claimOf, partsOf, lengthOf}
 
 pub unmarked-length : (calls cards marked : ℕ) {a b : ℕ} → marked ≡ 0 → a ≡ min calls 511 → b ≡ min cards 63
     → (143 + 6 * (a + b)) / 8 ≡ lengthOf calls cards marked
@@ -32,9 +32,9 @@ claim-bits marked tricks =
 
 -- with 52 holders, and counts that their fields can hold, it is the record's length
 pub length-encoded : (board table : ℕ) (holders calls cards : List ℕ) (marked tricks : ℕ) → length holders ≡ 52 → length calls ≤ 511 → length cards ≤ 63
-    → lengthOf (length calls) (length cards) marked ≡ length (encode (contentsOf board table holders calls cards marked tricks))
+    → lengthOf (length calls) (length cards) marked ≡ length (encode (partsOf board table holders calls cards marked tricks))
 unfolding lengthOf encode
 length-encoded board table holders calls cards marked tricks h a b =
-    let p = contentsOf board table holders calls cards marked tricks in
+    let p = partsOf board table holders calls cards marked tricks in
     let last = claim-bits marked tricks in
     rw (min-eq-left a, min-eq-left b, ← last) (omega (arith, length-packed (layout p), layout-bits p))

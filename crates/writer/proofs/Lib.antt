@@ -1,2 +1,10 @@
 pub mod Writing
 pub mod Lengths
+pub mod Turns
+pub mod CallTurns
+pub mod CardTurns
+pub mod Checks
+pub mod Called
+pub mod Composing
+pub mod Contents
+pub mod Records

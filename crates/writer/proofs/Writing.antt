@@ -13,7 +13,7 @@ use Rattle.packing.specs.declared.Packer.{Packer}
 use Rattle.packing.specs.Packed.{newPacker, packerAfter, bytesAfter, packerAfterAll, bytesAfterAll, bytesFinished, bytesPacked}
 use Rattle.packing.proofs.Fields.{Narrow, packed-over}
 use Rattle.packing.proofs.Sequences.{Puts, puts-one, puts-then, puts-whole}
-use Rattle.writer.specs.Written.{claimOf}
+use Rattle.writer.specs.Given.{claimOf}
 
 -- what a call that puts one field, or several, says of the packer and of the buffer
 abbrev One : Packer → List ℕ → Field → Packer → List ℕ → Type 0

@@ -6,7 +6,7 @@ ghost use Prim.Native.Nat.{min};
 ghost use lib.ListN.{length};
 ghost use Rattle.laws.specs.Record.{field, row, claimFields, layout};
 ghost use Rattle.packing.specs.Packed.{packerAfterAll, bytesAfterAll, bytesPacked};
-ghost use Rattle.writer.specs.Written.{claimOf, contentsOf, lengthOf};
+ghost use Rattle.writer.specs.Given.{claimOf, partsOf, lengthOf};
 
 // Board, table and the holder of each card.
 fn put_deal(p: Packer, out: &mut [u8], board: u32, table: u32, holders: &[u8]) -> Packer
@@ -42,7 +42,7 @@ fn put_claim(p: Packer, out: &mut [u8], marked: u32, claim: u32) -> Packer
 
 // Writes the bytes of a record's contents over the front of the buffer. `marked` 0 is no claim.
 // Of a number that its field cannot hold, the last bits alone are written; what the buffer has no room for is not.
-pub fn write_contents(
+pub(crate) fn write_contents(
     board: u32,
     table: u32,
     holders: &[u8],
@@ -53,7 +53,7 @@ pub fn write_contents(
     out: &mut [u8],
 )
     ensures { λ _. ⌜ now (out .exit)
-        ≡ bytesPacked (layout (contentsOf board table (now (holders .entry)) (now (calls .entry)) (now (cards .entry)) marked claim)) (now (out .entry)) ⌝ }
+        ≡ bytesPacked (layout (partsOf board table (now (holders .entry)) (now (calls .entry)) (now (cards .entry)) marked claim)) (now (out .entry)) ⌝ }
 {
     let dealt = put_deal(Packer::new(), out, board, table, holders);
     let called = put_codes(dealt, out, 9, calls);
@@ -69,7 +69,7 @@ fn at_most(n: usize, most: usize) -> usize
 }
 
 // How many bytes a record with so many calls and cards has. More than 511 calls count as 511, and more than 63 cards as 63.
-pub fn length_of(calls: usize, cards: usize, marked: u32) -> usize
+pub(crate) fn length_of(calls: usize, cards: usize, marked: u32) -> usize
     ensures { λ r. ⌜ r ≡ lengthOf calls cards marked ⌝ }
 {
     let codes = at_most(calls, 511) + at_most(cards, 63);

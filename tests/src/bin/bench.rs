@@ -1,16 +1,18 @@
-//! Times the proved judge and the Rust judge on the same records in one run, and merges of tallies. docs/PERFORMANCE.md says what it measures.
+//! Times the proved judge and writer and the Rust ones on the same records in one run, and merges of tallies. docs/PERFORMANCE.md says what it measures.
 use outside::compare::Judge;
+use outside::contents::Contents;
 use outside::making::{self, Made};
 use outside::random::Random;
 use outside::run::{output_of, stop, Words};
 use outside::tally::Tally;
-use outside::{judge, proved};
+use outside::writer::Writer;
+use outside::{judge, proved, writer};
 use std::ffi::c_long;
 use std::hint::black_box;
 
 /// Records of a set: many enough that no branch is learnt by heart.
 const RECORDS: usize = 5_000;
-/// Each judge is timed so often, in turns; the figure is the middle one.
+/// Each of two is timed so often, in turns; the figure is the middle one.
 const TURNS: usize = 15;
 /// Seconds of a turn.
 const TURN: f64 = 0.15;
@@ -35,17 +37,23 @@ fn seconds_of_others() -> f64 {
 fn main() {
     let words = Words::given();
     let mut random = Random::new(words.number("--seed").unwrap_or(2017));
-    println!("| records | proved, a second | Rust, a second | proved / Rust |");
+    println!("| records judged | proved, a second | Rust, a second | proved / Rust |");
     println!("|---|---|---|---|");
-    line("52 cards, 4 to 16 calls", &set(&mut random, |r| full(r, 4, 16)));
-    line("all shapes that are accepted", &set(&mut random, making::lawful));
+    judged("52 cards, 4 to 16 calls", &set(&mut random, |r| full(r, 4, 16)));
+    judged("all shapes that are accepted", &set(&mut random, making::lawful));
     for calls in [4, 20, 80, 160, 319] {
-        line(&format!("52 cards, {calls} calls"), &set(&mut random, |r| full(r, calls, calls)));
+        judged(&format!("52 cards, {calls} calls"), &set(&mut random, |r| full(r, calls, calls)));
     }
     for tricks in [1, 4, 8, 12] {
         let claim = |r: &mut Random| making::with_claim_after(r, tricks);
-        line(&format!("{} cards and a claim, 4 to 7 calls", 4 * tricks), &set(&mut random, claim));
+        judged(&format!("{} cards and a claim, 4 to 7 calls", 4 * tricks), &set(&mut random, claim));
     }
+    println!("\n| records written | proved, a second | Rust, a second | proved / Rust |");
+    println!("|---|---|---|---|");
+    written("52 cards, 4 to 16 calls", &set(&mut random, |r| full(r, 4, 16)));
+    written("all shapes that are accepted", &set(&mut random, making::lawful));
+    written("52 cards, 319 calls", &set(&mut random, |r| full(r, 319, 319)));
+    written("4 cards and a claim, 4 to 7 calls", &set(&mut random, |r| making::with_claim_after(r, 1)));
     let program = words.text("--merges").unwrap_or_else(|| stop("--merges needs the path of the program try_merges"));
     merges(program);
 }
@@ -55,34 +63,50 @@ fn full(random: &mut Random, least: usize, most: usize) -> Made {
     making::with_calls(random, calls)
 }
 
-fn set(random: &mut Random, make: impl Fn(&mut Random) -> Made) -> Vec<Vec<u8>> {
-    (0..RECORDS).map(|_| make(random).parts.bytes()).collect()
+fn set(random: &mut Random, make: impl Fn(&mut Random) -> Made) -> Vec<Made> {
+    (0..RECORDS).map(|_| make(random)).collect()
 }
 
 /// Records judged a second by each judge.
-fn line(what: &str, records: &[Vec<u8>]) {
+fn judged(what: &str, made: &[Made]) {
+    let records: Vec<Vec<u8>> = made.iter().map(|m| m.parts.bytes()).collect();
+    line(what, [proved::judge as Judge, judge::judge], &records, |judge, record| {
+        let (mut answer, mut list) = ([0; 7], [0; 36]);
+        let number = black_box(judge)(black_box(record), black_box(&mut answer), black_box(&mut list));
+        assert_eq!(number, 0, "a record that is accepted");
+    });
+}
+
+/// Records written a second by each writer.
+fn written(what: &str, made: &[Made]) {
+    let contents: Vec<Contents> = made.iter().map(|m| Contents::of(&m.parts)).collect();
+    line(what, [proved::write as Writer, writer::write], &contents, |write, contents| {
+        let mut record = [0; 296];
+        let number = black_box(write)(black_box(contents), black_box(&mut record));
+        assert!(number < 1024, "contents that are written");
+    });
+}
+
+/// Cases a second by the proved function and by the Rust one.
+fn line<F: Copy, C>(what: &str, both: [F; 2], cases: &[C], one: impl Fn(F, &C)) {
     let mut rates = [Vec::new(), Vec::new()];
     for _ in 0..TURNS {
-        for (rates, judge) in rates.iter_mut().zip([proved::judge as Judge, judge::judge]) {
-            rates.push(rate(judge, records));
+        for (rates, function) in rates.iter_mut().zip(both) {
+            rates.push(rate(cases, |case| one(function, case)));
         }
     }
     let [proved, rust] = rates.map(middle);
     println!("| {what} | {proved:.0} | {rust:.0} | {:.2} |", proved / rust);
 }
 
-fn rate(judge: Judge, records: &[Vec<u8>]) -> f64 {
-    let (mut answer, mut list) = ([0; 7], [0; 36]);
+fn rate<C>(cases: &[C], one: impl Fn(&C)) -> f64 {
     let start = own_seconds();
-    let mut judged = 0;
+    let mut done = 0;
     while own_seconds() - start < TURN {
-        for record in records {
-            let number = black_box(judge)(black_box(record), black_box(&mut answer), black_box(&mut list));
-            assert_eq!(number, 0, "a record that is accepted");
-        }
-        judged += records.len();
+        cases.iter().for_each(&one);
+        done += cases.len();
     }
-    judged as f64 / (own_seconds() - start)
+    done as f64 / (own_seconds() - start)
 }
 
 fn middle(mut figures: Vec<f64>) -> f64 {

@@ -63,7 +63,7 @@ impl Random {
 
 /// Plays the cards of a contract to the end or to a claim.
 pub fn fill(random: &mut Random, made: &mut Made) {
-    let count = if random.percent(50) { 4 * random.between(1, 12) } else { 52 };
+    let count = if random.percent(50) { random.between(1, 51) } else { 52 };
     fill_up_to(random, made, count);
 }
 

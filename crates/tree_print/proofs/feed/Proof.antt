@@ -37,8 +37,8 @@ loop-less c = omega arith
 loop-again : tie.Need-loop-again Inv-loop μ-loop
 loop-again c = (
   omega arith,
-  c .before .before .before .before .before .loop .inv .1 ∙ rw (c .before .before .take .ensures)
-      (fed-more _ _ _ (c .before .before .before .before .loop-test .taken)),
+  c .before .before .before .before .before .before .loop .inv .1 ∙ rw (c .before .before .before .take .ensures)
+      (fed-more _ _ _ (c .before .before .before .before .before .loop-test .taken)),
 )
 
 returns : tie.Need-returns Inv-loop μ-loop

@@ -10,7 +10,7 @@ report-requires : tie.Need-report-requires
 report-requires c κs = search needs
 
 returns : tie.Need-returns
-returns c = rw (c .before .before .before .finish .ensures)
+returns c = rw (c .before .before .before .before .finish .ensures)
 
 top-requires : tie.Need-top-requires
 top-requires c κs = search needs
@@ -19,7 +19,7 @@ show-requires : tie.Need-show-requires
 show-requires c κs = search needs
 
 returns-2 : tie.Need-returns-2
-returns-2 c = rw (c .before .before .before .before .before .before .finish .ensures)
+returns-2 c = rw (c .before .before .before .before .before .before .before .finish .ensures)
 
 pub finish-spec : {M : Type 1} → statement M
 finish-spec =

@@ -1,6 +1,6 @@
 -- `tree_run::call_in` meets its contract. Assumes nothing.
 use native.Mathlib.Omega.{arith}
-use mathlib.Core.Path.{_≡_, sym, ap, _∙_}
+use mathlib.Core.Path.{_≡_, sym, _∙_}
 use borrow.Author.Needs.{needs}
 use borrow.Author.Tests.{lt-ltb, le-ltb}
 use lib.ListN.{length}
@@ -13,14 +13,14 @@ returns : tie.Need-returns
 unfolding callIn
 returns c = rw (lt-ltb _ _ (c .if1 .taken))
 
-array-share-prefix-line : tie.Need-array-share-prefix-line
-array-share-prefix-line c =
-    let n : length (c .before .before .args .run .line) ≡ 18 = search needs in
+array-share-prefix-bytes : tie.Need-array-share-prefix-bytes
+array-share-prefix-bytes c =
+    let n : length (c .before .before .args .line .bytes) ≡ 19 = search needs in
     omega (arith, c .before .if1 .left)
 
 slice-aggregate-read-call : tie.Need-slice-aggregate-read-call
 slice-aggregate-read-call c =
-    let n : length (c .before .before .before .args .run .line) ≡ 18 = search needs in
+    let n : length (c .before .before .before .args .line .bytes) ≡ 19 = search needs in
     sym (length-take-le _ _ (omega (arith, c .before .before .if1 .left)))
 
 read-call-requires : tie.Need-read-call-requires
@@ -35,7 +35,7 @@ call-in-spec =
     tie.close
     (tie.spec
     returns
-    array-share-prefix-line
+    array-share-prefix-bytes
     slice-aggregate-read-call
     read-call-requires
     returns-2)

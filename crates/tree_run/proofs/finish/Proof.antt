@@ -1,6 +1,6 @@
 -- `tree_run::finish` meets its contract. Assumes nothing.
-use mathlib.Core.Path.{_≡_, sym, ap, _∙_}
-use borrow.Author.Tests.{eq-eqb, ne-eqb, lt-ltb, le-ltb}
+use mathlib.Core.Path.{_∙_}
+use borrow.Author.Tests.{eq-eqb, ne-eqb}
 use Rattle.tree_run.specs.Runs.{finishedOf}
 use borrow.Author.Needs.{needs}
 use Rattle.tree_run.proofs.finish.Statement.{statement}
@@ -18,14 +18,14 @@ silent-requires-2 c κs = search needs
 
 returns-2 : tie.Need-returns-2
 unfolding finishedOf
-returns-2 c = c .silent2 .ensures ∙ rw (c .before .before .before .if1 .left, eq-eqb _ _ (c .before .if2 .taken))
+returns-2 c = c .silent2 .ensures ∙ rw (c .before .before .before .before .if1 .left, eq-eqb _ _ (c .before .if2 .taken))
 
 line-done-requires : tie.Need-line-done-requires
 line-done-requires c κs = search needs
 
 returns-3 : tie.Need-returns-3
 unfolding finishedOf
-returns-3 c = c .line-done .ensures ∙ rw (c .before .before .before .if1 .left, ne-eqb _ _ (c .before .if2 .left))
+returns-3 c = c .line-done .ensures ∙ rw (c .before .before .before .before .if1 .left, ne-eqb _ _ (c .before .if2 .left))
 
 pub finish-spec : {M : Type 1} → statement M
 finish-spec =

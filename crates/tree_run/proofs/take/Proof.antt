@@ -1,6 +1,6 @@
 -- `tree_run::take` meets its contract. Assumes nothing.
-use mathlib.Core.Path.{_≡_, sym, ap, _∙_}
-use borrow.Author.Tests.{eq-eqb, ne-eqb, lt-ltb, le-ltb}
+use mathlib.Core.Path.{_∙_}
+use borrow.Author.Tests.{eq-eqb, ne-eqb}
 use Rattle.tree_run.specs.Runs.{takenByte}
 use borrow.Author.Needs.{needs}
 use Rattle.tree_run.proofs.take.Statement.{statement}
@@ -28,7 +28,9 @@ silent-requires-2 c κs = search needs
 
 returns-3 : tie.Need-returns-3
 unfolding takenByte
-returns-3 c = c .silent2 .ensures ∙ rw (c .before .with-byte .ensures, c .before .before .before .if1 .left, ne-eqb _ _ (c .before .before .if2 .left))
+returns-3 c =
+    let s = c .before .before .before in
+    c .silent2 .ensures ∙ rw (c .before .with-byte .ensures, s .before .before .if1 .left, ne-eqb _ _ (s .before .if2 .left))
 
 pub take-spec : {M : Type 1} → statement M
 take-spec =

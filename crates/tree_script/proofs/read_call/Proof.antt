@@ -2,8 +2,10 @@
 use mathlib.Core.Path.{sym, ap, _∙_}
 use borrow.Author.Needs.{needs}
 use Rattle.tree_script.specs.declared.Call.the-variants.{Cell}
-use Rattle.tree_script.specs.Calls.{scoreOn, withScore, awardOn, callOn, cellWord, awardWord}
-use Rattle.tree_script.proofs.Lines.{prefix-length, rest-is}
+use Rattle.decimal.specs.Scores.{scoreOn}
+use Rattle.tree_script.specs.Calls.{withScore, awardOn, callOn, cellWord, awardWord}
+use Rattle.decimal.proofs.Scores.{rest-is}
+use Rattle.tree_script.proofs.Lines.{prefix-length}
 use Rattle.tree_script.proofs.read_call.Statement.{statement}
 use Rattle.tree_script.proofs.read_call.Tie as tie
 

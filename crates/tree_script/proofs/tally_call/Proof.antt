@@ -3,8 +3,10 @@ use mathlib.Core.Path.{sym, ap, _∙_}
 use mathlib.Core.List.{[], _∷_}
 use borrow.Author.Needs.{needs}
 use Rattle.tree_script.specs.declared.Call.the-variants.{Add, Matchpoints}
-use Rattle.tree_script.specs.Calls.{freshOn, scoreOn, withScore, freshWord, addWord, matchpointsWord}
-use Rattle.tree_script.proofs.Lines.{prefix-length, rest-is, to-fresh, to-add, to-matchpoints, other-length, to-merge, to-nothing}
+use Rattle.decimal.specs.Scores.{scoreOn}
+use Rattle.tree_script.specs.Calls.{freshOn, withScore, freshWord, addWord, matchpointsWord}
+use Rattle.decimal.proofs.Scores.{rest-is}
+use Rattle.tree_script.proofs.Lines.{prefix-length, to-fresh, to-add, to-matchpoints, other-length, to-merge, to-nothing}
 use Rattle.tree_script.proofs.tally_call.Statement.{statement}
 use Rattle.tree_script.proofs.tally_call.Tie as tie
 

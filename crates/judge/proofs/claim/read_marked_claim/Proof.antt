@@ -8,8 +8,8 @@ use lib.Dec.{lit≤}
 use Rattle.field.specs.Field.{fieldAnswer}
 use Rattle.field.proofs.ThreeBytes.{value-reads, value-lt, short-stops}
 use Rattle.laws.specs.Reading.{Reading.found, read}
-use Rattle.judge.specs.Sections.{mayClaim}
-use Rattle.judge.proofs.Claiming.{claim-elsewhere, claim-short, claim-too-many, claim-agreed, point-le}
+use Rattle.play.specs.Claims.{mayClaim}
+use Rattle.judge.proofs.Claiming.{claim-elsewhere, claim-short, claim-too-many, claim-agreed}
 use borrow.Author.Needs.{needs}
 use Rattle.judge.proofs.claim.read_marked_claim.Statement.{statement}
 use Rattle.judge.proofs.claim.read_marked_claim.Tie as tie
@@ -55,12 +55,12 @@ returns-2 c =
     c .no-claim2 .ensures
     ∙ claim-short _ _ _ _ (may r) (short-stops _ (start-of r .args .at) 4 (lit≤ tt) (sym (r .read .ensures) ∙ ap fieldAnswer (c .before .enum-told .given .1)))
 
-sub-left : tie.Need-sub-left
-sub-left c = let r = c .before .before .before in omega (arith, point-le (start-of r .args .out) (start-of r .args .played) (may r))
+tricks-left-requires : tie.Need-tricks-left-requires
+tricks-left-requires c κs = search needs
 
 narrow-requires : tie.Need-narrow-requires
-narrow-requires c κs = let r = c .before .before .before in
-    omega (arith, value-lt _ (start-of r .args .at) 4 (sym (r .read .ensures) ∙ ap fieldAnswer (c .before .tricks .given .1)))
+narrow-requires c κs = let r = c .before .before .before .before in
+    omega (arith, value-lt _ (start-of r .args .at) 4 (sym (r .read .ensures) ∙ ap fieldAnswer (c .before .before .tricks .given .1)))
 
 no-claim-requires-3 : tie.Need-no-claim-requires-3
 no-claim-requires-3 c κs = search needs
@@ -68,17 +68,21 @@ no-claim-requires-3 c κs = search needs
 returns-3 : tie.Need-returns-3
 returns-3 c =
     let w = c .before .before in
-    let v = w .before in
-    c .no-claim3 .ensures ∙ claim-too-many _ _ _ _ (may (v .before .before .before)) _ (tricks-read v) (rw (w .narrow .ensures) at (c .before .if2 .taken))
+    let l = w .before in
+    let v = l .before in
+    c .no-claim3 .ensures
+    ∙ claim-too-many _ _ _ _ (may (v .before .before .before)) _ (tricks-read v) (rw (w .narrow .ensures, l .tricks-left .ensures) at (c .before .if2 .taken))
 
-add-t13 : tie.Need-add-t13
-add-t13 c = search needs
+add-t12 : tie.Need-add-t12
+add-t12 c = search needs
 
 returns-4 : tie.Need-returns-4
 returns-4 c =
     let w = c .before in
-    let v = w .before in
-    rw (w .narrow .ensures) (claim-agreed _ _ _ _ (may (v .before .before .before)) _ (tricks-read v) (rw (w .narrow .ensures) at (c .if2 .left)))
+    let l = w .before in
+    let v = l .before in
+    rw (w .narrow .ensures)
+    (claim-agreed _ _ _ _ (may (v .before .before .before)) _ (tricks-read v) (rw (w .narrow .ensures, l .tricks-left .ensures) at (c .if2 .left)))
 
 pub read-marked-claim-spec : {M : Type 1} → statement M
 read-marked-claim-spec =
@@ -92,9 +96,9 @@ read-marked-claim-spec =
     enum-told
     no-claim-requires-2
     returns-2
-    sub-left
+    tricks-left-requires
     narrow-requires
     no-claim-requires-3
     returns-3
-    add-t13
+    add-t12
     returns-4)

@@ -1,0 +1,27 @@
+-- `sheet_text::team::put_gained` meets its contract. Assumes nothing.
+use native.Mathlib.Omega.{arith}
+use Rattle.sheet_text.proofs.Puts.{then, put-length}
+use Rattle.sheet_text.proofs.Teams.{imps-length}
+use borrow.Author.Needs.{needs}
+use Rattle.sheet_text.proofs.team.put_gained.Statement.{statement}
+use Rattle.sheet_text.proofs.team.put_gained.Tie as tie
+
+put-imps-requires : tie.Need-put-imps-requires
+put-imps-requires c κs =
+    let st = c .before .before in
+    omega (arith, imps-length (st .args .imps .0), st .pre)
+
+put-byte-requires : tie.Need-put-byte-requires
+put-byte-requires c κs =
+    let st = c .before .before .before .before .before .before in
+    let p = c .before .before .before .put-imps .ensures in
+    omega (arith, imps-length (st .args .imps .0), p .place, put-length p, st .pre)
+
+same-length : tie.Need-same-length
+same-length c = search needs
+
+returns : tie.Need-returns
+returns c = then (c .before .before .before .before .before .before .put-imps .ensures) (c .before .before .put-byte .ensures)
+
+pub put-gained-spec : {M : Type 1} → statement M
+put-gained-spec = tie.close (tie.spec put-imps-requires put-byte-requires same-length returns)

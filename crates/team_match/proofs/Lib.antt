@@ -1,0 +1,4 @@
+pub mod Boards
+pub mod States
+pub mod Answers
+pub mod Told

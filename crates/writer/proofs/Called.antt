@@ -1,0 +1,108 @@
+-- The calls and the cards in the code are the Laws' sections of contents: what follows the loops. Assumes nothing.
+use Prim.Native.Nat.{ℕ, _≤_, _<_, min}
+use native.Mathlib.Omega.{arith}
+use mathlib.Core.Path.{_≡_, refl, sym, ap, _∙_}
+use mathlib.Core.Bool.{Bool, true, false, not, _&&_, _||_}
+use mathlib.Core.List.{List, []}
+use borrow.Author.Tests.{lt-ltb, le-ltb}
+use lib.Dec.{ltb}
+use lib.ListN.{length}
+use Rattle.laws.specs.Choice.{if_then_else_}
+use Rattle.laws.specs.Refusals.{refusalNumber, auctionUnfinished, tooManyCards}
+use Rattle.laws.specs.Auction.{callPlace, isOver}
+use Rattle.laws.specs.CallRefusal.{callRefusal}
+use Rattle.laws.specs.Law44.{cardsPlayed}
+use Rattle.laws.specs.CardRefusal.{cardRefusal}
+use Rattle.laws.specs.Reading.{Reading, Reading.refused, Reading.found, onward, refuse}
+use Rattle.laws.specs.Contents.{takeEach, takeCalls}
+use Rattle.laws.proofs.ContentsLawful.{each-kept, allowed-each}
+use Rattle.laws.proofs.ContentsStop.{each-numbered}
+use Rattle.auction.specs.Asked.{overOf}
+use Rattle.auction.proofs.History.{over-is}
+use Rattle.writer.specs.declared.codes.Calls.{Calls}
+use Rattle.writer.specs.Checked.{refusalIn, noCalls, callsBy, cardsBy}
+
+-- a number that is not 0 makes no refusal 0
+pub not-0 : (n place : ℕ) → (n ≡ 0 → ⊥) → refusalNumber n place ≡ 0 → ⊥
+not-0 n place z e = z (omega arith)
+
+or-true : (b : Bool) → (b || true) ≡ true
+or-true true = refl
+or-true false = refl
+
+-- ---- the calls
+module _ (calls : List ℕ) (d : ℕ) where
+  abbrev each : Reading (List ℕ)
+  each = takeEach callPlace (callRefusal d) calls [] [] 0
+
+  abbrev ended : Reading (List ℕ) → Reading (List ℕ)
+  ended r = onward r (λ h m. onward (refuse auctionUnfinished (length calls) (not (isOver h)) [] m) (λ u k. found h k))
+
+  whole : takeCalls d calls [] 0 ≡ ended each
+  unfolding takeCalls
+  whole = refl
+
+  stopped : (r : Reading (List ℕ)) → (callsBy d r .refusal ≡ 0 → ⊥) → callsBy d r ≡ callsBy d (ended r)
+  stopped (refused n place) e = refl
+  stopped (found h m) e = absurd (e refl)
+
+  not-over : (h : List ℕ) (m : ℕ) → isOver h ≡ false → noCalls auctionUnfinished (length calls) ≡ callsBy d (ended (found h m))
+  unfolding refuse
+  not-over h m o = rw o
+
+  over : (h : List ℕ) (m : ℕ) → isOver h ≡ true → callsBy d (found h m) ≡ callsBy d (ended (found h m))
+  unfolding refuse
+  over h m o = rw o
+
+  module _ (k : Calls) (ek : k ≡ callsBy d each) where
+    pub calls-stopped : (k .refusal ≡ 0 → ⊥) → k ≡ callsBy d (takeCalls d calls [] 0)
+    calls-stopped e = ek ∙ stopped each (rw ek at e) ∙ ap (callsBy d) (sym whole)
+
+    module _ (e : k .refusal ≡ 0) where
+      pub few : length calls ≤ 319
+      few = go each refl (rw ek at e)
+        where
+          go : (r : Reading (List ℕ)) → each ≡ r → callsBy d r .refusal ≡ 0 → length calls ≤ 319
+          go (refused n place) q z = absurd (not-0 n place (each-numbered callPlace (callRefusal d) calls [] 0 q) z)
+          go (found h m) q z = allowed-each d calls (each-kept callPlace (callRefusal d) calls [] 0 q) .few
+
+      pub calls-open : overOf (k .after) ≡ false → noCalls auctionUnfinished (length calls) ≡ callsBy d (takeCalls d calls [] 0)
+      calls-open o = go each refl (rw ek at e) (rw ek at o) ∙ ap (callsBy d) (sym whole)
+        where
+          go : (r : Reading (List ℕ)) → each ≡ r → callsBy d r .refusal ≡ 0 → overOf (callsBy d r .after) ≡ false
+              → noCalls auctionUnfinished (length calls) ≡ callsBy d (ended r)
+          go (refused n place) q z o = absurd (not-0 n place (each-numbered callPlace (callRefusal d) calls [] 0 q) z)
+          go (found h m) q z o = not-over h m (sym (over-is d h) ∙ o)
+
+      pub calls-over : overOf (k .after) ≡ true → k ≡ callsBy d (takeCalls d calls [] 0)
+      calls-over o = ek ∙ go each refl (rw ek at e) (rw ek at o) ∙ ap (callsBy d) (sym whole)
+        where
+          go : (r : Reading (List ℕ)) → each ≡ r → callsBy d r .refusal ≡ 0 → overOf (callsBy d r .after) ≡ true → callsBy d r ≡ callsBy d (ended r)
+          go (refused n place) q z o = absurd (not-0 n place (each-numbered callPlace (callRefusal d) calls [] 0 q) z)
+          go (found h m) q z o = over h m (sym (over-is d h) ∙ o)
+
+-- ---- the cards
+pub few-cards : (out : Bool) (n : ℕ) → n ≤ (if out then 0 else 52) → n ≤ 52
+few-cards true n h = omega arith
+few-cards false n h = h
+
+module _ (out : Bool) (trump opening : ℕ) (deal cards : List ℕ) where
+  abbrev most : ℕ
+  most = if out then 0 else 52
+
+  pub cards-over : most < length cards → refusalNumber tooManyCards (min (length cards) 63) ≡ refusalIn (cardsBy out trump opening deal cards [] 0)
+  unfolding cardsBy refuse
+  cards-over h = rw (over-most out h)
+    where
+      over-most : (b : Bool) → (if b then 0 else 52) < length cards → (ltb 52 (length cards) || (b && ltb 0 (length cards))) ≡ true
+      over-most true h = rw (lt-ltb 0 (length cards) h) (or-true (ltb 52 (length cards)))
+      over-most false h = rw (lt-ltb 52 (length cards) h)
+
+  pub cards-counted : length cards ≤ most → refusalIn (takeEach cardsPlayed (cardRefusal trump opening deal) cards [] [] 0)
+      ≡ refusalIn (cardsBy out trump opening deal cards [] 0)
+  unfolding cardsBy refuse
+  cards-counted h = rw (within out h)
+    where
+      within : (b : Bool) → length cards ≤ (if b then 0 else 52) → (ltb 52 (length cards) || (b && ltb 0 (length cards))) ≡ false
+      within true h = rw (le-ltb 52 (length cards) (omega arith), le-ltb 0 (length cards) h)
+      within false h = rw (le-ltb 52 (length cards) h)

@@ -1,0 +1,7 @@
+/* What became of a record; the worst of them is the exit status. */
+#ifndef STATUS_H
+#define STATUS_H
+
+enum status { ACCEPTED = 0, REFUSED = 1, NOT_READ = 2 };
+
+#endif

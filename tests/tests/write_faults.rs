@@ -1,0 +1,88 @@
+//! A comparison that cannot fail shows nothing: writers with one fault each, every one of which it has to find.
+use outside::contents::Contents;
+use outside::judge::judge;
+use outside::write_trial::WriteTrial;
+use outside::writer::{length, write, Writer};
+
+fn changed(c: &Contents, change: impl Fn(&mut Contents)) -> Contents {
+    let mut c = c.clone();
+    change(&mut c);
+    c
+}
+
+/// A writer that gives another place to a refusal.
+fn other_place(c: &Contents, record: &mut [u8], refusal: u32, place: usize) -> u32 {
+    match write(c, record) {
+        number if number / 1024 == refusal => refusal * 1024 + place as u32,
+        number => number,
+    }
+}
+
+const FAULTS: [(&str, Writer); 16] = [
+    ("refuses all", |_, _| 3 * 1024),
+    ("writes nothing", |c, record| write(c, &mut record.to_vec())),
+    ("clears the buffer on a refusal", |c, record| {
+        let number = write(c, record);
+        if number >= 1024 {
+            record.fill(0);
+        }
+        number
+    }),
+    ("clears the byte behind the record", |c, record| {
+        let number = write(c, record);
+        if let Some(byte) = record.get_mut(number as usize) {
+            *byte = 0;
+        }
+        number
+    }),
+    ("pads with ones", |c, record| {
+        let number = write(c, record);
+        if number < 1024 && c.marked == 0 && (136 + 6 * (c.calls.len() + c.cards.len())) % 8 != 0 {
+            record[number as usize - 1] |= 1;
+        }
+        number
+    }),
+    ("writes what there is room for", |c, record| {
+        let mut whole = [0; 400];
+        let number = write(c, &mut whole);
+        if number < 1024 {
+            let room = record.len().min(number as usize);
+            record[..room].copy_from_slice(&whole[..room]);
+        }
+        number
+    }),
+    ("looks at the room first", |c, record| if record.len() < length(c) { 22 * 1024 } else { write(c, record) }),
+    ("cuts the board to seven bits", |c, record| write(&changed(c, |c| c.board &= 127), record)),
+    ("cuts the table to nine bits", |c, record| write(&changed(c, |c| c.table &= 511), record)),
+    ("cuts a holder to two bits", |c, record| write(&changed(c, |c| c.holders.iter_mut().for_each(|h| *h &= 3)), record)),
+    ("takes the first 52 of more holders", |c, record| write(&changed(c, |c| c.holders.truncate(52)), record)),
+    ("cuts a call to six bits", |c, record| write(&changed(c, |c| c.calls.iter_mut().for_each(|k| *k &= 63)), record)),
+    ("gives the number of cards, however great", |c, record| other_place(c, record, 10, c.cards.len())),
+    ("gives the claim, however great", |c, record| other_place(c, record, 15, (c.claim & 1023) as usize)),
+    ("takes a mark of 256 for none", |c, record| write(&changed(c, |c| c.marked &= 255), record)),
+    ("calls a card played already one of another hand", |c, record| match write(c, record) {
+        number if number / 1024 == 23 => number - 11 * 1024,
+        number => number,
+    }),
+];
+
+/// Contents after which a fault must have been found: those of the gate.
+const CONTENTS: u64 = 300_000;
+
+fn found(writer: Writer) -> bool {
+    let mut trial = WriteTrial::new(writer, judge, 64);
+    while trial.cases() < CONTENTS {
+        if trial.round().is_err() {
+            return true;
+        }
+    }
+    false
+}
+
+#[test]
+fn every_fault_is_found() {
+    assert!(!found(write), "a writer without a fault was found out");
+    for (fault, writer) in FAULTS {
+        assert!(found(writer), "a writer that {fault} was not found out");
+    }
+}

@@ -1,0 +1,155 @@
+//! Contents for each refusal and each kind of place, rooms about a record's length, and two records of docs/RULES.md, by both writers. The numbers and
+//! bytes due are worked out from that page.
+use outside::contents::Contents;
+use outside::writer::Writer;
+use outside::{proved, writer};
+
+const WRITERS: [Writer; 2] = [writer::write, proved::write];
+
+/// What the buffer holds before.
+const BEFORE: u8 = 0xEE;
+
+/// Board 1 and table 1: North has the clubs, East the diamonds, South the hearts, West the spades.
+fn contents(calls: &[u8], cards: &[u8], claim: Option<u32>) -> Contents {
+    let holders = (0..52).map(|card| card / 13).collect();
+    let (marked, claim) = (u32::from(claim.is_some()), claim.unwrap_or(0));
+    Contents { board: 1, table: 1, holders, calls: calls.to_vec(), cards: cards.to_vec(), marked, claim }
+}
+
+fn passed_out() -> Contents {
+    contents(&[0; 4], &[], None)
+}
+
+/// One club by North, and cards from East's lead on.
+fn one_club(cards: &[u8], claim: Option<u32>) -> Contents {
+    contents(&[3, 0, 0, 0], cards, claim)
+}
+
+fn changed(mut c: Contents, change: impl Fn(&mut Contents)) -> Contents {
+    change(&mut c);
+    c
+}
+
+/// Refusal, place, contents.
+fn refused() -> Vec<(u32, u32, Contents)> {
+    let place = |board, table| changed(passed_out(), |c| (c.board, c.table) = (board, table));
+    let holder = |card: usize, holder| changed(passed_out(), |c| c.holders[card] = holder);
+    let calls = |calls: &[u8]| contents(calls, &[], None);
+    vec![
+        (3, 0, place(0, 1)),
+        (3, 0, place(128, 1)),
+        (3, 0, place(129, 512)),
+        (3, 0, place(0, 0)),
+        (3, 1, place(127, 0)),
+        (3, 1, place(1, 512)),
+        (3, 1, place(1, u32::MAX)),
+        (4, 4, holder(0, 4)),
+        (4, 4, holder(51, 255)),
+        (4, 4, changed(passed_out(), |c| c.holders.truncate(51))),
+        (4, 4, changed(passed_out(), |c| c.holders.push(0))),
+        (4, 4, changed(passed_out(), |c| c.holders.clear())),
+        // A holder that is no seat comes before the seats are counted.
+        (4, 4, changed(holder(0, 1), |c| c.holders[51] = 4)),
+        (4, 0, holder(0, 1)),
+        (4, 1, holder(13, 2)),
+        (4, 2, holder(26, 3)),
+        (4, 0, holder(51, 0)),
+        (5, 0, calls(&[38])),
+        (5, 0, calls(&[64])),
+        (5, 1, calls(&[0, 255])),
+        // A code that is no call after the end is 5 and not 8.
+        (5, 4, calls(&[0, 0, 0, 0, 38])),
+        (6, 1, calls(&[3, 3])),
+        (7, 0, calls(&[1])),
+        (7, 1, calls(&[3, 2])),
+        (8, 4, calls(&[0; 5])),
+        (8, 4, calls(&[0; 1000])),
+        (8, 4, calls(&[3, 0, 0, 0, 3])),
+        (9, 0, calls(&[])),
+        (9, 3, calls(&[0; 3])),
+        (9, 3, calls(&[3, 0, 0])),
+        (10, 53, one_club(&[13; 53], None)),
+        (10, 63, one_club(&[13; 63], None)),
+        (10, 63, one_club(&[13; 64], None)),
+        (10, 63, one_club(&[13; 700], Some(1))),
+        (10, 1, contents(&[0; 4], &[13], None)),
+        (10, 63, contents(&[0; 4], &[99; 80], Some(1))),
+        (11, 0, one_club(&[52], None)),
+        (11, 3, one_club(&[13, 26, 39, 64], None)),
+        (11, 3, one_club(&[13, 26, 39, 255], Some(99))),
+        (12, 0, one_club(&[0], None)),
+        (12, 4, one_club(&[13, 26, 39, 0, 13], None)),
+        (23, 4, one_club(&[13, 26, 39, 0, 0], None)),
+        (13, 0, one_club(&[], None)),
+        (13, 4, one_club(&[13, 26, 39, 0], None)),
+        (14, 0, one_club(&[], Some(0))),
+        (15, 15, one_club(&[13, 26, 39], Some(99))),
+        (15, 14, one_club(&[13, 26, 39], Some(14))),
+        (14, 0, contents(&[0; 4], &[], Some(0))),
+        (15, 13, one_club(&[13, 26, 39, 0], Some(13))),
+        (15, 15, one_club(&[13, 26, 39, 0], Some(15))),
+        (15, 15, one_club(&[13, 26, 39, 0], Some(16))),
+        (15, 15, one_club(&[13, 26, 39, 0], Some(u32::MAX))),
+    ]
+}
+
+/// The number returned, and the buffer after it.
+fn written(writer: Writer, c: &Contents, room: usize) -> (u32, Vec<u8>) {
+    let mut record = vec![BEFORE; room];
+    let number = writer(c, &mut record);
+    (number, record)
+}
+
+#[test]
+fn each_refusal_and_place() {
+    for writer in WRITERS {
+        for (refusal, place, c) in refused() {
+            for room in [0, 19, 400] {
+                assert_eq!(written(writer, &c, room), (refusal * 1024 + place, vec![BEFORE; room]), "{refusal}, {place}: {c:?}");
+            }
+        }
+    }
+}
+
+/// Board 1, table 1 and the deal, which the two records have in common.
+const FRONT: [u8; 15] = [0x02, 0x01, 0x00, 0x00, 0x00, 0x15, 0x55, 0x55, 0x5A, 0xAA, 0xAA, 0xAB, 0xFF, 0xFF, 0xFF];
+
+/// Contents and the bytes behind the deal. Four passes: 000000100 000000 000000 000000 000000 000000 0. One club, three passes, 13 26 39 0, a claim
+/// of 12: 000000100 000011 000000 000000 000000 000100 001101 011010 100111 000000 1 1100 0000.
+fn examples() -> [(Contents, Vec<u8>); 2] {
+    let bytes = |behind: &[u8]| [&FRONT, behind].concat();
+    [
+        (passed_out(), bytes(&[0x02, 0x00, 0x00, 0x00, 0x00])),
+        (one_club(&[13, 26, 39, 0], Some(12)), bytes(&[0x02, 0x06, 0x00, 0x00, 0x08, 0x6B, 0x53, 0x81, 0xC0])),
+    ]
+}
+
+#[test]
+fn writes_the_examples_where_there_is_room() {
+    for writer in WRITERS {
+        for (c, bytes) in examples() {
+            let length = bytes.len();
+            for room in 0..length {
+                assert_eq!(written(writer, &c, room), (22 * 1024, vec![BEFORE; room]), "{room} bytes");
+            }
+            for more in [0, 1, 300] {
+                let due = [bytes.clone(), vec![BEFORE; more]].concat();
+                assert_eq!(written(writer, &c, length + more), (length as u32, due), "{more} bytes more");
+            }
+        }
+    }
+}
+
+/// Any mark but 0 is a claim, and without one the claim is nothing.
+#[test]
+fn marks() {
+    let [(plain, _), (claimed, bytes)] = examples();
+    for writer in WRITERS {
+        for marked in [2, 256, 1 << 31, u32::MAX] {
+            let c = changed(claimed.clone(), |c| c.marked = marked);
+            assert_eq!(written(writer, &c, bytes.len()), (bytes.len() as u32, bytes.clone()), "marked {marked}");
+        }
+        let c = changed(plain.clone(), |c| c.claim = u32::MAX);
+        assert_eq!(written(writer, &c, 20).0, 20);
+    }
+}
