@@ -1,4 +1,4 @@
-//! A judge, a writer, a tally, a sheet and a team match for duplicate bridge, written from docs/RULES.md alone, and what is needed to compare
+//! A judge, a writer, a tally, a sheet, a slip and a team match for duplicate bridge, written from docs/RULES.md alone, and what is needed to compare
 //! the proved library with them: records of all shapes, damaged records, their contents, trees of tally calls, sheets, team matches.
 
 pub mod auction;

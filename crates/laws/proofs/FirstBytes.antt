@@ -142,7 +142,8 @@ module _ (most : ℕ) (bytes : List ℕ) (long : most ≤ length bytes) where
   unfolding readClaim readNoClaim readMarkedClaim
   same-claim h g at room = same-field 1 at _ _ (omega arith) (λ mark lm. either (eqb mark 0))
     where
-      either : (b : Bool) → (if b then readNoClaim h g else readMarkedClaim h g) bytes (at + 1) ≡ (if b then readNoClaim h g else readMarkedClaim h g) front (at + 1)
+      either : (b : Bool)
+          → (if b then readNoClaim h g else readMarkedClaim h g) bytes (at + 1) ≡ (if b then readNoClaim h g else readMarkedClaim h g) front (at + 1)
       either true = same-test playUnfinished (cardsPlayed g) bytes front (at + 1) _ _ (not (passedOut h) && not (allPlayed g)) (λ t. refl)
       either false =
           same-test noClaimPoint (cardsPlayed g) bytes front (at + 1) _ _ (passedOut h || not (atClaimPoint g)) (λ t.

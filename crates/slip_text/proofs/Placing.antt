@@ -79,3 +79,12 @@ module _ (word : List ℕ) (points : ℤ) (f : SFits w16 points) where
   pub some-line : (ofZ w16 points ≡ 0 → ⊥) → itemLine word points ≡ line word points
   unfolding itemLine
   some-line e = rw (ne-eqb (natAbs points) 0 (λ z. e (ap (ofZ w16) (nothing-0 points (eq-eqb (natAbs points) 0 z)))))
+
+-- an item whose points are read back from their 16 bits
+module _ (word : List ℕ) (points : ℤ) (f : SFits w16 points) where
+  pub item-put : {out left : List ℕ} {at next : ℕ} → Put out at (itemLine word (toZ w16 (ofZ w16 points))) left next
+      → Put out at (itemLine word points) left next
+  item-put p = rw (toZ-ofZ f) at p
+
+  pub item-room : (at room : ℕ) → at + length (itemLine word points) ≤ room → at + length (itemLine word (toZ w16 (ofZ w16 points))) ≤ room
+  item-room at room h = rw (toZ-ofZ f) h

@@ -3,11 +3,10 @@ use Prim.Native.Nat.{_+_, _≤_}
 use native.Mathlib.Omega.{arith}
 use mathlib.Core.List.{_++_}
 use lib.ListN.{length}
-use mir.Syntax.{w16}
-use mir.Facts.{toZ-ofZ}
 use Rattle.laws.specs.Slip.{TRICKS, OVERTRICKS, UNDERTRICKS, wordOf}
 use Rattle.sheet_text.proofs.Puts.{then, first-room, next-room}
 use Rattle.slip_text.specs.Text.{itemLine}
+use Rattle.slip_text.proofs.Placing.{item-put, item-room}
 use borrow.Author.Needs.{needs}
 use Rattle.slip_text.proofs.put_tricks.Statement.{statement}
 use Rattle.slip_text.proofs.put_tricks.Tie as tie
@@ -23,47 +22,55 @@ put-item-requires c κs =
     let t2 = itemLine (wordOf OVERTRICKS) (i .overtricks) in
     let t3 = itemLine (wordOf UNDERTRICKS) (i .undertricks) in
     let h : 0 + length (t1 ++ t2 ++ t3) ≤ length (st .args .out .now) = omega (arith, st .pre) in
-    rw (toZ-ofZ {w = w16} {z = i .tricks} (record { sfits = c .struct-told .given .0 .1 })) (first-room 0 _ (t1) t2 (first-room 0 _ (t1 ++ t2) t3 (h)))
+    let h3 = first-room 0 _ (t1 ++ t2) t3 h in
+    let h2 = first-room 0 _ (t1) t2 h3 in
+    item-room (wordOf TRICKS) (i .tricks) (record { sfits = c .struct-told .given .0 .1 }) _ _ h2
 
 slice-aggregate-put-item-2 : tie.Need-slice-aggregate-put-item-2
 slice-aggregate-put-item-2 c = search needs
 
 put-item-requires-2 : tie.Need-put-item-requires-2
 put-item-requires-2 c κs =
-    let st = c .before .before .before .before .before .before .before .before .before .before in
+    let d1 = c .before .before .before .before .before in
+    let st = d1 .before .before .before .before .before in
     let i = st .args .items in
     let t1 = itemLine (wordOf TRICKS) (i .tricks) in
     let t2 = itemLine (wordOf OVERTRICKS) (i .overtricks) in
     let t3 = itemLine (wordOf UNDERTRICKS) (i .undertricks) in
-    let p1 = rw (toZ-ofZ {w = w16} {z = i .tricks} (record { sfits = c .before .before .before .before .before .before .struct-told .given .0 .1 })) at (c .before .before .before .before .before .put-item .ensures) in
+    let p1 = item-put (wordOf TRICKS) (i .tricks) (record { sfits = d1 .before .struct-told .given .0 .1 }) (d1 .put-item .ensures) in
     let h : 0 + length (t1 ++ t2 ++ t3) ≤ length (st .args .out .now) = omega (arith, st .pre) in
-    rw (toZ-ofZ {w = w16} {z = i .overtricks} (record { sfits = c .struct-told2 .given .1 .0 .1 })) (next-room t2 p1 (first-room 0 _ (t1 ++ t2) t3 (h)))
+    let h3 = first-room 0 _ (t1 ++ t2) t3 h in
+    item-room (wordOf OVERTRICKS) (i .overtricks) (record { sfits = c .struct-told2 .given .1 .0 .1 }) _ _ (next-room t2 p1 h3)
 
 slice-aggregate-put-item-3 : tie.Need-slice-aggregate-put-item-3
 slice-aggregate-put-item-3 c = search needs
 
 put-item-requires-3 : tie.Need-put-item-requires-3
 put-item-requires-3 c κs =
-    let st = c .before .before .before .before .before .before .before .before .before .before .before .before .before .before .before .before in
+    let d2 = c .before .before .before .before .before in
+    let d1 = d2 .before .before .before .before .before .before in
+    let st = d1 .before .before .before .before .before in
     let i = st .args .items in
     let t1 = itemLine (wordOf TRICKS) (i .tricks) in
     let t2 = itemLine (wordOf OVERTRICKS) (i .overtricks) in
     let t3 = itemLine (wordOf UNDERTRICKS) (i .undertricks) in
-    let p1 = rw (toZ-ofZ {w = w16} {z = i .tricks} (record { sfits = c .before .before .before .before .before .before .before .before .before .before .before .before .struct-told .given .0 .1 })) at (c .before .before .before .before .before .before .before .before .before .before .before .put-item .ensures) in
-    let p2 = rw (toZ-ofZ {w = w16} {z = i .overtricks} (record { sfits = c .before .before .before .before .before .before .struct-told2 .given .1 .0 .1 })) at (c .before .before .before .before .before .put-item2 .ensures) in
+    let p1 = item-put (wordOf TRICKS) (i .tricks) (record { sfits = d1 .before .struct-told .given .0 .1 }) (d1 .put-item .ensures) in
+    let p2 = item-put (wordOf OVERTRICKS) (i .overtricks) (record { sfits = d2 .before .struct-told2 .given .1 .0 .1 }) (d2 .put-item2 .ensures) in
     let h : 0 + length (t1 ++ t2 ++ t3) ≤ length (st .args .out .now) = omega (arith, st .pre) in
-    rw (toZ-ofZ {w = w16} {z = i .undertricks} (record { sfits = c .struct-told3 .given .1 .1 .0 .1 })) (next-room t3 (then p1 p2) (h))
+    item-room (wordOf UNDERTRICKS) (i .undertricks) (record { sfits = c .struct-told3 .given .1 .1 .0 .1 }) _ _ (next-room t3 (then p1 p2) h)
 
 same-length : tie.Need-same-length
 same-length c = search needs
 
 returns : tie.Need-returns
 returns c =
-    let st = c .before .before .before .before .before .before .before .before .before .before .before .before .before .before .before .before .before .before .before in
-    let i = st .args .items in
-    let p1 = rw (toZ-ofZ {w = w16} {z = i .tricks} (record { sfits = c .before .before .before .before .before .before .before .before .before .before .before .before .before .before .before .struct-told .given .0 .1 })) at (c .before .before .before .before .before .before .before .before .before .before .before .before .before .before .put-item .ensures) in
-    let p2 = rw (toZ-ofZ {w = w16} {z = i .overtricks} (record { sfits = c .before .before .before .before .before .before .before .before .before .struct-told2 .given .1 .0 .1 })) at (c .before .before .before .before .before .before .before .before .put-item2 .ensures) in
-    let p3 = rw (toZ-ofZ {w = w16} {z = i .undertricks} (record { sfits = c .before .before .before .struct-told3 .given .1 .1 .0 .1 })) at (c .before .before .put-item3 .ensures) in
+    let d3 = c .before .before in
+    let d2 = d3 .before .before .before .before .before .before in
+    let d1 = d2 .before .before .before .before .before .before in
+    let i = d1 .before .before .before .before .before .args .items in
+    let p1 = item-put (wordOf TRICKS) (i .tricks) (record { sfits = d1 .before .struct-told .given .0 .1 }) (d1 .put-item .ensures) in
+    let p2 = item-put (wordOf OVERTRICKS) (i .overtricks) (record { sfits = d2 .before .struct-told2 .given .1 .0 .1 }) (d2 .put-item2 .ensures) in
+    let p3 = item-put (wordOf UNDERTRICKS) (i .undertricks) (record { sfits = d3 .before .struct-told3 .given .1 .1 .0 .1 }) (d3 .put-item3 .ensures) in
     then (then p1 p2) p3
 
 pub put-tricks-spec : {M : Type 1} → statement M

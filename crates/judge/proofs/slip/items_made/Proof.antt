@@ -103,7 +103,8 @@ returns c =
     let s = stakeOf (a .args .s) in
     let t = a .args .tricks in
     let told = made-told d s t (a .pre .0) (a .pre .1) in
-    eight (told TRICKS _ _ (g1 .before .trick-points .ensures) (g1 .gained .ensures)) (told OVERTRICKS _ _ (g2 .before .overtricks .ensures) (g2 .gained2 .ensures))
+    eight (told TRICKS _ _ (g1 .before .trick-points .ensures) (g1 .gained .ensures))
+    (told OVERTRICKS _ _ (g2 .before .overtricks .ensures) (g2 .gained2 .ensures))
     (made-none d s t (a .pre .0) (a .pre .1) UNDERTRICKS refl) (told PARTSCORE _ _ (g3 .before .part-score-points .ensures) (g3 .gained3 .ensures))
     (told GAME _ _ (g4 .before .game-points .ensures) (g4 .gained4 .ensures)) (told SLAM _ _ (g5 .before .slam-points .ensures) (g5 .gained5 .ensures))
     (told DOUBLING _ _ (c .before .doubling-points .ensures) (c .gained6 .ensures)) (sum-told d s t (a .pre .0) (n .score .ensures))
