@@ -1,4 +1,4 @@
--- The position after a double, a redouble, a bid, and what is no call; and the test of a double or a redouble. Assumes nothing.
+-- The position after a double or a redouble, a bid, and what is no call; and the test of a double or a redouble. Assumes nothing.
 use Prim.Native.Nat.{ℕ, _+_, _%_, _≤_, _<_}
 use mathlib.Core.Path.{_≡_, sym, _∙_}
 use mathlib.Core.Bool.{Bool, true, false, not}
@@ -14,17 +14,15 @@ use Rattle.auction.specs.Position.{firstPlace, entered, stands, passesTo
 use Rattle.auction.specs.Asked.{overOf, mayDoubleOf, mayRedoubleOf, verdictOf}
 
 module _ (a : Auction) (c : ℕ) where
-  -- a double, with the doubling after it
-  pub doubled : c ≡ 1 → {t : ℕ} → t ≡ clockwise (a .turn) 1 → {n : ℕ} → n ≡ passesToEnd (a .last) → {m : ℕ} → m ≡ (if eqb (a .doubling) 4 then 5 else 1)
+  -- a double or a redouble, with the doubling after it
+  pub doubled : 1 ≤ c → c ≤ 2 → {t : ℕ} → t ≡ clockwise (a .turn) 1 → {n : ℕ} → n ≡ passesToEnd (a .last)
+      → {m : ℕ} → m ≡ (if eqb c 2 then 2 else if eqb (a .doubling) 4 then 5 else 1)
       → record { turn = t; last = a .last; bidder = a .bidder; doubling = m; left = n; first = a .first } ≡ afterCall a c
   unfolding afterCall stands
-  doubled q e f g = rw (q, e, f, g)
-
-  -- a redouble
-  pub redoubled : c ≡ 2 → {t : ℕ} → t ≡ clockwise (a .turn) 1 → {n : ℕ} → n ≡ passesToEnd (a .last)
-      → record { turn = t; last = a .last; bidder = a .bidder; doubling = 2; left = n; first = a .first } ≡ afterCall a c
-  unfolding afterCall
-  redoubled q e f = rw (q, e, f)
+  doubled l h e f g =
+      by-test (eqb c 1)
+      (λ (q : eqb c 1 ≡ true). rw (g, eqb-true c 1 q, e, f))
+      (λ (q : eqb c 1 ≡ false). let two : c ≡ 2 = omega (arith, eqb-false c 1 q) in rw (g, two, e, f))
 
   -- what is no call
   pub no-call : 37 < c → {t : ℕ} → t ≡ clockwise (a .turn) 1 → {n : ℕ} → n ≡ passesToEnd (a .last)

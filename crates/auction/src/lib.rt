@@ -96,10 +96,13 @@ fn passes_to_end(last: u8) -> u8
     if last == 0 { 4 } else { 3 }
 }
 
-// The doubling after a double: the bid stands doubled where it stood undoubled.
-fn doubled(doubling: u8) -> u8
-    ensures { λ r. ⌜ r ≡ (if eqb doubling 4 then 5 else 1) ⌝ }
+// The doubling after a double, code 1, or a redouble, code 2: a bid that stood undoubled stands doubled, and none stands redoubled.
+fn doubled(doubling: u8, code: u8) -> u8
+    ensures { λ r. ⌜ r ≡ (if eqb code 2 then 2 else if eqb doubling 4 then 5 else 1) ⌝ }
 {
+    if code == 2 {
+        return 2;
+    }
     if doubling == 4 { 5 } else { 1 }
 }
 
@@ -172,16 +175,13 @@ impl Auction {
             self.left = one_less(self.left);
             return self;
         }
-        self.left = passes_to_end(self.last);
-        if code == 1 {
-            self.doubling = doubled(self.doubling);
-            return self;
-        }
-        if code == 2 {
-            self.doubling = 2;
+        if code < 3 {
+            self.left = passes_to_end(self.last);
+            self.doubling = doubled(self.doubling, code);
             return self;
         }
         if HIGHEST < code {
+            self.left = passes_to_end(self.last);
             self.doubling = self.doubling % 4;
             return self;
         }

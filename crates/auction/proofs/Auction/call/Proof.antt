@@ -3,7 +3,7 @@ use native.Mathlib.Omega.{arith}
 use borrow.Author.Needs.{needs}
 use Rattle.laws.specs.Auction.{strainOf}
 use Rattle.auction.specs.Position.{firstPlace, afterCall}
-use Rattle.auction.proofs.Steps.{doubled, redoubled, no-call, bid}
+use Rattle.auction.proofs.Steps.{doubled, no-call, bid}
 use Rattle.auction.proofs.Auction.call.Statement.{statement}
 use Rattle.auction.proofs.Auction.call.Tie as tie
 
@@ -25,24 +25,19 @@ returns c = simp (c .before .before .next-seat .ensures, c .one-less .ensures, c
 
 returns-2 : tie.Need-returns-2
 returns-2 c =
-    let e = c .before .before in
-    doubled _ _ (c .before .if2 .taken) (e .before .before .next-seat .ensures) (e .passes-to-end .ensures) (c .doubled .ensures)
+    let e = c .before in
+    doubled _ _ (search needs) (search needs) (e .before .before .before .next-seat .ensures) (e .passes-to-end .ensures) (c .doubled .ensures)
+
+passes-to-end-requires-2 : tie.Need-passes-to-end-requires-2
+passes-to-end-requires-2 c κs = search needs
 
 returns-3 : tie.Need-returns-3
 returns-3 c =
-    let e = c .before .before in
-    redoubled _ _ (c .if3 .taken) (e .before .before .next-seat .ensures) (e .passes-to-end .ensures)
-
-returns-4 : tie.Need-returns-4
-returns-4 c =
-    let e = c .before .before .before .before in
-    no-call _ _ (c .before .if4 .taken) (e .before .before .next-seat .ensures) (e .passes-to-end .ensures)
+    let e = c .before in
+    no-call _ _ (e .before .if3 .taken) (e .before .before .before .before .next-seat .ensures) (e .passes-to-end2 .ensures)
 
 mul-entered : tie.Need-mul-entered
 mul-entered c = search needs
-
-sub-entered : tie.Need-sub-entered
-sub-entered c = search needs
 
 add-entered : tie.Need-add-entered
 add-entered c = search needs
@@ -50,10 +45,10 @@ add-entered c = search needs
 entered-requires : tie.Need-entered-requires
 entered-requires c κs = search needs
 
-returns-5 : tie.Need-returns-5
+returns-4 : tie.Need-returns-4
 unfolding firstPlace strainOf
-returns-5 c =
-    let s = c .before .before .before .before .before .before in
+returns-4 c =
+    let s = c .before .before .before .before in
     bid _ _ (search needs) (search needs) (s .next-seat .ensures) (c .entered .ensures)
 
 pub call-spec : {M : Type 1} → statement M
@@ -66,10 +61,9 @@ call-spec =
     passes-to-end-requires
     doubled-requires
     returns-2
+    passes-to-end-requires-2
     returns-3
-    returns-4
     mul-entered
-    sub-entered
     add-entered
     entered-requires
-    returns-5)
+    returns-4)
