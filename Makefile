@@ -17,8 +17,8 @@ SLIPS = 3000
 TEAMS = 3000
 BLOCKS = 20000
 
-# The archive that judges and writes; build/stand-in/libjudge.a has the Rust judge and writer behind the same interface.
-ARCHIVE = target/staticlib/libjudge.a
+# The archive that judges and writes, a member for each; build/stand-in/libjudge.a has the Rust judge and writer behind the same interface.
+ARCHIVE = build/libjudge.a
 TREE = target/bin/tree
 SHEET = target/bin/sheet
 CELLS = target/bin/cells
@@ -53,8 +53,15 @@ $(ARCHIVE) $(TREE) $(SHEET) $(CELLS) $(SLIP) $(TEAM) $(MERGES): | rt-tool
 
 SOURCES = crates.txt $(shell find crates -name '*.rt' -o -name '*.antt')
 
-target/staticlib/libjudge.a: $(SOURCES)
-	rt staticlib judge
+target/staticlib/lib%.a: $(SOURCES) | rt-tool
+	rt staticlib $*
+
+# Judge and writer are compiled apart: docs/PERFORMANCE.md says why.
+build/libjudge.a: target/staticlib/libjudge.a target/staticlib/libwriter.a
+	$(call need,$(AR))
+	@mkdir -p build
+	@rm -f $@
+	printf 'create $@\n$(^:%=addlib %\n)save\nend\n' | $(AR) -M
 
 target/bin/%: $(SOURCES)
 	rt check $*

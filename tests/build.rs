@@ -9,7 +9,7 @@ fn main() {
     }
     let archive = env::var("JUDGE_ARCHIVE").expect("JUDGE_ARCHIVE must name the archive libjudge.a (the Makefile sets it)");
     let path = Path::new(&archive);
-    assert!(path.is_file(), "the archive {archive} is missing: build it by `rt staticlib judge`");
+    assert!(path.is_file(), "the archive {archive} is missing: build it by `make {archive}`");
     println!("cargo:rerun-if-changed={archive}");
     let folder = path.parent().expect("an archive stands in a folder");
     println!("cargo:rustc-link-search=native={}", folder.display());

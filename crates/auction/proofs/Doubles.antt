@@ -1,25 +1,36 @@
 -- Law 19 on a position: a double or a redouble is allowed by it exactly when the Law on the history allows it. Assumes nothing.
-use Prim.Native.Nat.{ℕ}
+use Prim.Native.Nat.{ℕ, _+_, _%_}
 use mathlib.Core.Path.{_≡_, refl, ap, _∙_}
 use mathlib.Core.Bool.{Bool, true, false, not, _&&_}
 use mathlib.Core.List.{List, [], _∷_}
-use borrow.Author.Tests.{eqb-true}
+use native.Mathlib.Omega.{arith}
+use borrow.Author.Tests.{eqb-true, ne-eqb}
 use lib.Dec.{eqb}
+use Rattle.laws.specs.Choice.{if_then_else_}
 use Rattle.laws.specs.Cards.{sameSide}
-use Rattle.laws.specs.Auction.{pass, double, isBid, toCall, beforePasses, bidByOpponents, bidByOwnSide, doubledOwnBid, mayDouble, mayRedouble}
+use Rattle.laws.specs.Auction.{pass, double, redouble, isBid, toCall, beforePasses, bidByOpponents, bidByOwnSide, doubledOwnBid, mayDouble, mayRedouble}
 use Rattle.laws.proofs.Tests.{by-test}
 use Rattle.auction.specs.Position.{stands, beforeCalls, afterCall, positionOf}
 use Rattle.auction.specs.Asked.{mayDoubleOf, mayRedoubleOf}
 use Rattle.auction.proofs.History.{turn-is}
 
--- a conjunction with false is false, and with true the rest of it
-and-false : (b : Bool) → (b && false) ≡ false
-and-false true = refl
-and-false false = refl
+-- a conjunction whose first part is false
+and-false : {a : Bool} → a ≡ false → (b : Bool) → (a && b) ≡ false
+and-false e b = rw e
 
-and-true : (b : Bool) → (b && true) ≡ b
-and-true true = refl
-and-true false = refl
+-- the doubling after a double: a bid does not stand undoubled, and it stands doubled where it stood
+not-undoubled : (b : Bool) → eqb (if b then 5 else 1) 4 ≡ false
+not-undoubled true = refl
+not-undoubled false = refl
+
+stands-doubled : (b : Bool) → eqb (if b then 5 else 1) 5 ≡ b
+stands-doubled true = refl
+stands-doubled false = refl
+
+-- after a redouble or what is no call, nothing stands
+nothing-stands : (b : Bool) (n doubling : ℕ) → eqb (if b then 2 else n % 4) (4 + doubling) ≡ false
+nothing-stands true n doubling = ne-eqb 2 (4 + doubling) (λ e. omega arith)
+nothing-stands false n doubling = ne-eqb (n % 4) (4 + doubling) (λ e. omega arith)
 
 -- the latest call is a bid, by a seat that passes a test
 latestBid : ℕ → (ℕ → Bool) → List ℕ → Bool
@@ -54,20 +65,27 @@ module _ (d : ℕ) where
   unfolding stands positionOf beforeCalls afterCall beforePasses latestBid
   bid-stands test [] = refl
   bid-stands test (c ∷ h) =
+      let a = positionOf d h in
       let more = bid-stands test h in
-      by-kind c (λ p. rw p more) (λ p. rw p (simp and-false)) (λ q r s. simp (q, r, s, turn-is d h)) (λ q r s. simp (q, r, s))
+      by-kind c
+      (λ p. rw p more)
+      (λ p. rw p (and-false (not-undoubled (stands a 0)) _))
+      (λ q r s. simp (q, r, s, turn-is d h))
+      (λ q r s. simp (q, r, s) (and-false (nothing-stands (eqb c redouble) (a .doubling) 0) _))
 
   -- a bid stands that is doubled: the latest call but passes is a double of it
   double-stands : (s : ℕ) (h : List ℕ) → (stands (positionOf d h) 1 && sameSide (positionOf d h .bidder) s) ≡ doubledOwnBid d s (beforePasses h)
   unfolding stands positionOf beforeCalls afterCall beforePasses doubledOwnBid
   double-stands s [] = refl
   double-stands s (c ∷ h) =
+      let a = positionOf d h in
       let more = double-stands s h in
+      let stood = bid-stands (λ b. sameSide b s) h ∙ own-side d s (beforePasses h) in
       by-kind c
       (λ p. rw p more)
-      (λ p. rw p (simp and-true (bid-stands (λ b. sameSide b s) h ∙ own-side d s (beforePasses h))))
+      (λ p. rw p (ap (λ (b : Bool). b && sameSide (a .bidder) s) (stands-doubled (stands a 0)) ∙ stood))
       (λ q r t. simp (q, r, t))
-      (λ q r t. simp (q, r, t))
+      (λ q r t. simp (q, r, t) (and-false (nothing-stands (eqb c redouble) (a .doubling) 1) _))
 
   -- Law 19A
   pub double-is : (h : List ℕ) → mayDoubleOf (positionOf d h) ≡ mayDouble d h

@@ -1,16 +1,16 @@
 -- What each field of a position says of its history: for every dealer and every history. Assumes nothing.
-use Prim.Native.Nat.{ℕ, _≤_, min}
+use Prim.Native.Nat.{ℕ, _-_, _%_}
 use mathlib.Core.Path.{_≡_, refl, sym, ap, ap₂, _∙_}
 use mathlib.Core.Bool.{Bool, true, false, not}
 use mathlib.Core.List.{List, [], _∷_}
 use native.Mathlib.Omega.{arith}
-use borrow.Author.Tests.{leb-true, leb-false, lt-leb, le-leb}
+use borrow.Author.Tests.{eqb-true, leb-true, leb-false, eq-eqb, ne-eqb}
 use lib.Dec.{eqb, leb}
 use Rattle.laws.specs.Choice.{if_then_else_}
 use Rattle.laws.specs.Cards.{clockwise}
 use Rattle.laws.specs.Auction.{pass, double, redouble, isBid, toCall, lastBid, lastBidder, doubling, passesInARow, hasBid, isOver, passedOut}
 use Rattle.laws.proofs.Tests.{by-test}
-use Rattle.auction.specs.Position.{beforeCalls, afterCall, positionOf}
+use Rattle.auction.specs.Position.{stands, passesToEnd, beforeCalls, afterCall, positionOf}
 use Rattle.auction.specs.Asked.{overOf, passedOutOf}
 
 -- a choice by the test's opposite
@@ -22,6 +22,16 @@ turned false x y = refl
 twice-not : (b : Bool) → b ≡ not (not b)
 twice-not true = refl
 twice-not false = refl
+
+-- a double, of a bid that stands or not
+once-more : (b : Bool) → (if b then 5 else 1) % 4 ≡ 1
+once-more true = refl
+once-more false = refl
+
+-- what is no call leaves the doubling, and so does a pass
+kept : (b : Bool) (x : ℕ) → (if b then x else x % 4) % 4 ≡ x % 4
+kept true x = refl
+kept false x = omega arith
 
 module _ (d : ℕ) where
   -- whose turn it is
@@ -42,34 +52,45 @@ module _ (d : ℕ) where
   bidder-is [] = refl
   bidder-is (c ∷ h) = ap₂ (λ (x y : ℕ). if isBid c then x else y) (turn-is h) (bidder-is h)
 
-  -- the doubling of the last bid
-  pub doubling-is : (h : List ℕ) → positionOf d h .doubling ≡ doubling h
-  unfolding positionOf beforeCalls afterCall doubling
+  -- the doubling of the last bid, whether it stands or not
+  pub doubling-is : (h : List ℕ) → positionOf d h .doubling % 4 ≡ doubling h
+  unfolding positionOf beforeCalls afterCall stands doubling
   doubling-is [] = refl
-  doubling-is (c ∷ h) = ap (λ (x : ℕ). if isBid c then 0 else if eqb c double then 1 else if eqb c redouble then 2 else x) (doubling-is h)
+  doubling-is (c ∷ h) =
+      let more = doubling-is h in
+      by-test (isBid c)
+      (λ (q : isBid c ≡ true). simp q)
+      (λ (q : isBid c ≡ false). by-test (eqb c double)
+      (λ (r : eqb c double ≡ true). simp (q, r) (once-more (eqb (positionOf d h .doubling) 4)))
+      (λ (r : eqb c double ≡ false). by-test (eqb c redouble)
+      (λ (s : eqb c redouble ≡ true). simp (q, r, s))
+      (λ (s : eqb c redouble ≡ false). simp (q, r, s) (kept (eqb c pass) (positionOf d h .doubling) ∙ more))))
 
-  -- the passes in a row, up to four
-  pub passes-is : (h : List ℕ) → positionOf d h .passes ≡ min 4 (passesInARow h)
-  unfolding positionOf beforeCalls afterCall passesInARow
-  passes-is [] = refl
-  passes-is (c ∷ h) =
+  -- how many passes in a row are left: those that end the auction, less those made
+  pub left-is : (h : List ℕ) → positionOf d h .left ≡ passesToEnd (lastBid h) - passesInARow h
+  unfolding positionOf beforeCalls afterCall passesToEnd lastBid passesInARow
+  left-is [] = refl
+  left-is (c ∷ h) =
       by-test (eqb c pass)
-      (λ (q : eqb c pass ≡ true). rw q (omega (arith, passes-is h)))
-      (λ (q : eqb c pass ≡ false). rw q)
+      (λ (q : eqb c pass ≡ true). rw (eqb-true c pass q) (omega (arith, left-is h)))
+      (λ (q : eqb c pass ≡ false). by-test (isBid c)
+      (λ (r : isBid c ≡ true). simp (q, r))
+      (λ (r : isBid c ≡ false). simp (q, r, last-is h) (omega arith)))
 
-  -- four passes are as good as any more
-  up-to-four : (k n : ℕ) → k ≤ 4 → leb k (min 4 n) ≡ leb k n
-  up-to-four k n l =
-      by-test (leb k n)
-      (λ (q : leb k n ≡ true). le-leb k (min 4 n) (omega (arith, leb-true k n q)) ∙ sym q)
-      (λ (q : leb k n ≡ false). lt-leb k (min 4 n) (omega (arith, leb-false k n q)) ∙ sym q)
+  -- nothing is left of n where there were as many
+  none-left : (n p : ℕ) → eqb (n - p) 0 ≡ leb n p
+  none-left n p =
+      by-test (leb n p)
+      (λ (q : leb n p ≡ true). eq-eqb (n - p) 0 (omega (arith, leb-true n p q)) ∙ sym q)
+      (λ (q : leb n p ≡ false). ne-eqb (n - p) 0 (λ e. omega (arith, leb-false n p q)) ∙ sym q)
 
   -- Law 22: the auction is over
   pub over-is : (h : List ℕ) → overOf (positionOf d h) ≡ isOver h
-  unfolding overOf isOver hasBid
+  unfolding overOf passesToEnd isOver hasBid
   over-is h =
-      simp (last-is h, passes-is h, up-to-four 3 (passesInARow h) (omega arith), up-to-four 4 (passesInARow h) (omega arith))
-      (turned (eqb (lastBid h) 0) (leb 4 (passesInARow h)) (leb 3 (passesInARow h)))
+      rw (left-is h) (by-test (eqb (lastBid h) 0)
+      (λ (q : eqb (lastBid h) 0 ≡ true). simp q (none-left 4 (passesInARow h)))
+      (λ (q : eqb (lastBid h) 0 ≡ false). simp q (none-left 3 (passesInARow h))))
 
   -- Law 22B: there is no bid
   pub passed-out-is : (h : List ℕ) → passedOutOf (positionOf d h) ≡ passedOut h

@@ -1,7 +1,7 @@
 -- What a position answers: the verdict on a code, the end of the auction, the contract. Assumes nothing.
-use Prim.Native.Nat.{ℕ}
+use Prim.Native.Nat.{ℕ, _%_}
 use mathlib.Core.Bool.{Bool, not, _&&_}
-use lib.Dec.{eqb, ltb, leb}
+use lib.Dec.{eqb, ltb}
 use Rattle.laws.specs.Choice.{if_then_else_}
 use Rattle.laws.specs.Cards.{sameSide}
 use Rattle.laws.specs.Auction.{pass, double, redouble, levelOf, strainOf}
@@ -13,9 +13,9 @@ use Rattle.auction.specs.declared.Verdict.{Verdict}
 use Rattle.auction.specs.declared.Verdict.the-variants.{Allowed, NotACall, AfterEnd, Insufficient, Inadmissible}
 use Rattle.auction.specs.Position.{firstPlace, seatAt, stands}
 
--- three passes in a row after a bid, or four without one
+-- no pass is left until the end
 unfoldable pub overOf : Auction → Bool
-overOf a = if eqb (a .last) 0 then leb 4 (a .passes) else leb 3 (a .passes)
+overOf a = eqb (a .left) 0
 
 -- there is no bid
 unfoldable pub passedOutOf : Auction → Bool
@@ -58,7 +58,7 @@ contractOf a =
     record {
       level = levelOf (a .last);
       strain = strainOf (a .last);
-      doubling = a .doubling;
+      doubling = a .doubling % 4;
       declarer = seatAt (a .first) (firstPlace (a .bidder) (a .last));
     }
 

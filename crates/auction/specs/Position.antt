@@ -1,7 +1,7 @@
 -- The position of an auction: before the first call, after one more, and after a history of calls. It holds no history.
 -- Assumes nothing.
-use Prim.Native.Nat.{ℕ, _+_, _-_, _*_, _/_, _%_, _^_, min}
-use mathlib.Core.Bool.{Bool, false, _&&_}
+use Prim.Native.Nat.{ℕ, _+_, _-_, _*_, _/_, _%_, _^_}
+use mathlib.Core.Bool.{Bool}
 use mathlib.Core.List.{List, [], _∷_}
 use lib.Dec.{eqb}
 use Rattle.laws.specs.Choice.{if_then_else_}
@@ -25,9 +25,13 @@ seatAt word place = if eqb (entryAt word place) 0 then noSeat else (entryAt word
 unfoldable pub entered : ℕ → ℕ → ℕ → ℕ
 entered word place seat = word % 2 ^ 40 + (if eqb (entryAt word place) 0 then 1 else 0) * (seat % 4 + 1) * 2 ^ (3 * place)
 
--- the last bid stands, with that doubling
+-- the last bid stands, with that doubling: the position has 4 more than the doubling of a bid that stands
 unfoldable pub stands : Auction → ℕ → Bool
-stands a doubling = a .standing && eqb (a .doubling) doubling
+stands a doubling = eqb (a .doubling) (4 + doubling)
+
+-- how many passes in a row end the auction: four before a bid, three after one
+unfoldable pub passesToEnd : ℕ → ℕ
+passesToEnd last = if eqb last 0 then 4 else 3
 
 -- before the first call; a dealer's number counts modulo 4
 unfoldable pub beforeCalls : ℕ → Auction
@@ -37,21 +41,24 @@ beforeCalls dealer =
       last = 0;
       bidder = noSeat;
       doubling = 0;
-      standing = false;
-      passes = 0;
+      left = 4;
       first = 0;
     }
 
--- after a call: the passes in a row count up to four, and what is no call takes a turn, and no bid stands after it
+-- after a call: a pass leaves one pass less until the end; what is no call takes a turn, and no bid stands after it
 unfoldable pub afterCall : Auction → ℕ → Auction
 afterCall a c =
     record {
       turn = clockwise (a .turn) 1;
       last = if isBid c then c else a .last;
       bidder = if isBid c then a .turn else a .bidder;
-      doubling = if isBid c then 0 else if eqb c double then 1 else if eqb c redouble then 2 else a .doubling;
-      standing = if eqb c pass then a .standing else if eqb c double then stands a 0 else isBid c;
-      passes = if eqb c pass then min 4 (a .passes + 1) else 0;
+      doubling =
+          if isBid c then 4
+          else if eqb c double then (if stands a 0 then 5 else 1)
+          else if eqb c redouble then 2
+          else if eqb c pass then a .doubling
+          else a .doubling % 4;
+      left = if eqb c pass then a .left - 1 else if isBid c then 3 else passesToEnd (a .last);
       first = if isBid c then entered (a .first) (firstPlace (a .turn) c) (a .turn) else a .first;
     }
 

@@ -6,10 +6,11 @@ use laws::INSUFFICIENT_BID;
 use laws::NO_CALL;
 ghost use mathlib.Core.Path.{_≡_};
 ghost use mathlib.Core.List.{[]};
-ghost use Prim.Native.Nat.{_+_, _-_, _<_, min};
+ghost use Prim.Native.Nat.{_-_, _<_, _≤_};
+ghost use lib.Dec.{eqb};
 ghost use Rattle.laws.specs.Choice.{if_then_else_};
 ghost use Rattle.laws.specs.Cards.{clockwise};
-ghost use Rattle.auction.specs.Position.{entryAt, entered, seatAt, stands, afterCall, positionOf};
+ghost use Rattle.auction.specs.Position.{passesToEnd, entryAt, entered, seatAt, afterCall, positionOf};
 ghost use Rattle.auction.specs.Asked.{overOf, passedOutOf, mayDoubleOf, mayRedoubleOf, contractOf, verdictOf, numberOf, refusalOf};
 
 // The seat that stands for nobody.
@@ -24,12 +25,11 @@ pub struct Auction {
     // The last bid, 0 before the first, and who made it.
     last: u8,
     bidder: u8,
-    // The doubling of the last bid: 0, 1 doubled, 2 redoubled.
+    // The doubling of the last bid: 0, 1 doubled, 2 redoubled; and 4 more where only passes stand since the bid, or since a double of it
+    // that had only passes before it.
     doubling: u8,
-    // Whether only passes stand since the last bid, or since a double of it that had only passes before it.
-    standing: bool,
-    // The passes in a row, up to four.
-    passes: u8,
+    // How many passes in a row are left until the auction is over.
+    left: u8,
     // Three bits at each place 5 × side + strain: 0, or 1 + the first player of the side to have bid the strain.
     first: u64,
 }
@@ -82,11 +82,28 @@ fn next_seat(seat: u8) -> u8
     (seat % 4 + 1) % 4
 }
 
-// One pass more; four are as good as any more.
-fn one_more(passes: u8) -> u8
-    ensures { λ r. ⌜ r ≡ min 4 (passes + 1) ⌝ }
+// One pass less until the auction is over.
+fn one_less(left: u8) -> u8
+    ensures { λ r. ⌜ r ≡ left - 1 ⌝ }
 {
-    if passes < 4 { passes + 1 } else { 4 }
+    if left == 0 { 0 } else { left - 1 }
+}
+
+// How many passes in a row end the auction after a last bid, 0 for none.
+fn passes_to_end(last: u8) -> u8
+    ensures { λ r. ⌜ r ≡ passesToEnd last ⌝ }
+{
+    if last == 0 { 4 } else { 3 }
+}
+
+// The doubling after a double, code 1, or a redouble, code 2: a bid that stood undoubled stands doubled, and none stands redoubled.
+fn doubled(doubling: u8, code: u8) -> u8
+    ensures { λ r. ⌜ r ≡ (if eqb code 2 then 2 else if eqb doubling 4 then 5 else 1) ⌝ }
+{
+    if code == 2 {
+        return 2;
+    }
+    if doubling == 4 { 5 } else { 1 }
 }
 
 // How far a bid is above one club.
@@ -96,10 +113,12 @@ fn above_club(bid: u8) -> u8
     if bid < 3 { 0 } else { bid - 3 }
 }
 
-fn bit(test: bool) -> u64
-    ensures { λ r. ⌜ (r ≡ (if test then 1 else 0)) × (r < 2) ⌝ }
+// 1 for an entry that is 0, else 0: by a division, since a test of what was bid before would be a branch that is hard to foresee.
+fn is_free(entry: u64) -> u64
+    requires { ⌜ entry < 8 ⌝ }
+    ensures { λ r. ⌜ (r ≡ (if eqb entry 0 then 1 else 0)) × (r < 2) ⌝ }
 {
-    if test { 1 } else { 0 }
+    1 - (entry + 7) / 8
 }
 
 // The three bits at a place.
@@ -115,7 +134,7 @@ fn entered(word: u64, place: u8, seat: u8) -> u64
     requires { ⌜ place < 10 ⌝ }
     ensures { λ r. ⌜ r ≡ entered word place seat ⌝ }
 {
-    let free = bit(entry(word, place) == 0);
+    let free = is_free(entry(word, place));
     word % 1099511627776 + ((free * (seat % 4 + 1) as u64) << (3 * place))
 }
 
@@ -141,20 +160,9 @@ impl Auction {
             last: 0,
             bidder: NOBODY,
             doubling: 0,
-            standing: false,
-            passes: 0,
+            left: 4,
             first: 0,
         }
-    }
-
-    // Whether the last bid stands, with that doubling.
-    fn stands(self, doubling: u8) -> bool
-        ensures { λ r. ⌜ r ≡ stands self doubling ⌝ }
-    {
-        if self.standing {
-            return self.doubling == doubling;
-        }
-        false
     }
 
     // The position after a call. What is no call takes a turn, and no bid stands after it.
@@ -162,30 +170,25 @@ impl Auction {
         ensures { λ r. ⌜ r ≡ afterCall self code ⌝ }
     {
         let turn = self.turn;
-        let undoubled = self.stands(0);
         self.turn = next_seat(turn);
         if code == 0 {
-            self.passes = one_more(self.passes);
+            self.left = one_less(self.left);
             return self;
         }
-        self.passes = 0;
-        self.standing = false;
-        if code == 1 {
-            self.standing = undoubled;
-            self.doubling = 1;
-            return self;
-        }
-        if code == 2 {
-            self.doubling = 2;
+        if code < 3 {
+            self.left = passes_to_end(self.last);
+            self.doubling = doubled(self.doubling, code);
             return self;
         }
         if HIGHEST < code {
+            self.left = passes_to_end(self.last);
+            self.doubling = self.doubling % 4;
             return self;
         }
-        self.standing = true;
         self.last = code;
         self.bidder = turn;
-        self.doubling = 0;
+        self.doubling = 4;
+        self.left = 3;
         self.first = entered(self.first, (turn % 2) * 5 + (code - 3) % 5, turn);
         self
     }
@@ -194,10 +197,7 @@ impl Auction {
     pub fn is_over(self) -> bool
         ensures { λ r. ⌜ r ≡ overOf self ⌝ }
     {
-        if self.last == 0 {
-            return self.passes >= 4;
-        }
-        self.passes >= 3
+        self.left == 0
     }
 
     // Whether there is no bid: an auction that is over without one is passed out.
@@ -207,22 +207,14 @@ impl Auction {
         self.last == 0
     }
 
-    // Whether the seat at turn may double.
-    fn may_double(self) -> bool
-        ensures { λ r. ⌜ r ≡ mayDoubleOf self ⌝ }
+    // Whether the seat at turn may double, code 1, or redouble, code 2: a bid of the other side that stands undoubled, one of its own side that
+    // stands doubled.
+    fn may_double(self, code: u8) -> bool
+        requires { ⌜ (1 ≤ code) × (code ≤ 2) ⌝ }
+        ensures { λ r. ⌜ r ≡ (if eqb code 1 then mayDoubleOf self else mayRedoubleOf self) ⌝ }
     {
-        if self.stands(0) {
-            return self.bidder % 2 != self.turn % 2;
-        }
-        false
-    }
-
-    // Whether the seat at turn may redouble.
-    fn may_redouble(self) -> bool
-        ensures { λ r. ⌜ r ≡ mayRedoubleOf self ⌝ }
-    {
-        if self.stands(1) {
-            return self.bidder % 2 == self.turn % 2;
+        if self.doubling == 3 + code {
+            return (self.bidder % 2 + self.turn % 2) % 2 == code % 2;
         }
         false
     }
@@ -237,30 +229,19 @@ impl Auction {
         if self.is_over() {
             return Verdict::AfterEnd;
         }
-        match code {
-            0 => Verdict::Allowed,
-            1 => {
-                if self.may_double() {
-                    Verdict::Allowed
-                } else {
-                    Verdict::Inadmissible
-                }
-            }
-            2 => {
-                if self.may_redouble() {
-                    Verdict::Allowed
-                } else {
-                    Verdict::Inadmissible
-                }
-            }
-            _ => {
-                if self.last < code {
-                    Verdict::Allowed
-                } else {
-                    Verdict::Insufficient
-                }
-            }
+        if code == 0 {
+            return Verdict::Allowed;
         }
+        if code < 3 {
+            if self.may_double(code) {
+                return Verdict::Allowed;
+            }
+            return Verdict::Inadmissible;
+        }
+        if self.last < code {
+            return Verdict::Allowed;
+        }
+        Verdict::Insufficient
     }
 
     // The number that a code is refused with; 0 where it is allowed.
@@ -280,7 +261,7 @@ impl Auction {
         Contract {
             level: above / 5 + 1,
             strain,
-            doubling: self.doubling,
+            doubling: self.doubling % 4,
             declarer,
         }
     }

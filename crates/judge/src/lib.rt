@@ -1,4 +1,4 @@
-// The judge of table records: the record read in order, scored by Law 77, the answer written. Beside it, for C, the writer of records.
+// The judge of table records, for C: the record read in order, scored by Law 77, the answer written.
 mod cards;
 mod claim;
 mod codes;
@@ -21,9 +21,6 @@ ghost use lib.ListN.{length, take, drop};
 ghost use Rattle.laws.specs.Record.{bytesOf};
 ghost use Rattle.laws.specs.Judge.{judgeOf, numberOf};
 ghost use Rattle.laws.specs.Lent.{answerLeft, listLeft};
-ghost use Rattle.laws.specs.Writing as Writing;
-ghost use Rattle.laws.specs.Writing.{writeOf, recordLeft};
-ghost use Rattle.writer.specs.Given.{partsOf};
 
 fn narrow(x: u64) -> u8
     requires { ⌜ x < 256 ⌝ }
@@ -56,28 +53,6 @@ fn put_list(list: &mut [u8], revokes: [u8; 36], count: usize)
         list[i] = revokes[i];
         i += 1;
     }
-}
-
-// Writes a table record from its contents into the buffer `out`: the number of bytes written; or a refusal × 1024 + its place, with the buffer as it was.
-#[no_mangle]
-pub extern "C" fn judge_write_record(
-    board: u32,
-    table: u32,
-    holders: &[u8],
-    calls: &[u8],
-    cards: &[u8],
-    marked: u32,
-    claim: u32,
-    out: &mut [u8],
-) -> u32
-    ensures number { λ r. ⌜ r
-        ≡ Writing.numberOf (writeOf (partsOf board table (now (holders .entry)) (now (calls .entry)) (now (cards .entry)) marked claim)
-        (length (now (out .entry)))) ⌝ }
-    ensures left { λ _. ⌜ now (out .exit)
-        ≡ recordLeft (writeOf (partsOf board table (now (holders .entry)) (now (calls .entry)) (now (cards .entry)) marked claim)
-        (length (now (out .entry)))) (now (out .entry)) ⌝ }
-{
-    writer::write_record(board, table, holders, calls, cards, marked, claim, out)
 }
 
 // Judges a table record. The answer is 0, with seven bytes in answer and a byte for each revoke in list;

@@ -1,5 +1,5 @@
 -- Writing a record from its contents: what the writer says of any contents, given a buffer of any length (`room`), and what it leaves in the buffer.
--- `write_record` returns `numberOf (writeOf p room)` and leaves `recordLeft (writeOf p room) old`, p being the contents and old the buffer as it is lent.
+-- `judge_write_record` returns `numberOf (writeOf p room)` and leaves `recordLeft (writeOf p room) old`, p being the contents and old the buffer as it is lent.
 -- Assumes nothing.
 use Prim.Native.Nat.{ℕ, _≤_, _<_, min}
 use mathlib.Core.Path.{_≡_}

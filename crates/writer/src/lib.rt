@@ -84,9 +84,10 @@ fn contents_refusal(
     play_refusal(row, hands, a, cards, marked, claim)
 }
 
-// Writes a record from its contents over the front of a buffer; `marked` 0 is no claim, anything else a claim of `claim`. The answer is how many bytes
+// For C: writes a record from its contents over the front of a buffer; `marked` 0 is no claim, anything else a claim of `claim`. The answer is how many bytes
 // were written, which is below 1024; or a refusal × 1024 + its place, with the buffer as it was.
-pub fn write_record(
+#[no_mangle]
+pub extern "C" fn judge_write_record(
     board: u32,
     table: u32,
     holders: &[u8],

@@ -23,7 +23,7 @@ add-t7 c = search needs
 
 returns : tie.Need-returns
 unfolding contractOf levelOf strainOf firstPlace
-returns c = rw (c .seat-at .ensures, c .before .before .above-club .ensures)
+returns c = rw (c .before .seat-at .ensures, c .before .before .before .above-club .ensures)
 
 pub contract-spec : {M : Type 1} → statement M
 contract-spec =

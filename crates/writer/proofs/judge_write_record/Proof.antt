@@ -1,4 +1,4 @@
--- `write_record` meets its contract: a law of Records for each way out. Assumes nothing.
+-- `judge_write_record` meets its contract: a law of Records for each way out. Assumes nothing.
 use mathlib.Core.Path.{_≡_, _∙_}
 use mathlib.Core.List.{[]}
 use native.Mathlib.Omega.{arith}
@@ -7,8 +7,8 @@ use Rattle.laws.specs.Record.{Parts, encode}
 use Rattle.writer.specs.Given.{partsOf}
 use Rattle.writer.proofs.Records.{record-refused, fits, length-low, record-short, record-written, size-is}
 use borrow.Author.Needs.{needs}
-use Rattle.writer.proofs.write_record.Statement.{statement}
-use Rattle.writer.proofs.write_record.Tie as tie
+use Rattle.writer.proofs.judge_write_record.Statement.{statement}
+use Rattle.writer.proofs.judge_write_record.Tie as tie
 
 -- the parts that the function was given, and the buffer as it was lent
 abbrev parts : tie.Start → Parts
@@ -65,8 +65,8 @@ returns-3 c =
     record-written (parts (start-of r)) _ _ (r .contents-refusal .ensures) (l .before .if1 .left) _ (size-of l) (w .before .before .if2 .left) _
     (w .write-contents .ensures)
 
-pub write-record-spec : {M : Type 1} → statement M
-write-record-spec =
+pub judge-write-record-spec : {M : Type 1} → statement M
+judge-write-record-spec =
     tie.close
     (tie.spec
     contents-refusal-requires
