@@ -1,11 +1,12 @@
 //! The examples of docs/RULES.md. The numbers due are that page's. A test of whole records goes over both judges, the proved one and the one written here;
-//! one of a single function, of matchpoints or of the sheet tries the Rust code alone.
+//! one of a single function, of matchpoints, of the sheet or of the slip tries the Rust code alone.
 use outside::auction::Contract;
 use outside::compare::Judge;
 use outside::law64::transferred;
 use outside::parts::Parts;
 use outside::score::contract_score;
 use outside::sheet::{cells, sheet};
+use outside::slip::slip;
 use outside::tally::Tally;
 use outside::team::{imps, Line, Match, Written};
 use outside::{judge, proved};
@@ -51,6 +52,20 @@ fn one_club_and_a_claim() {
         assert_eq!(judged(judge, &record(12)), (0, 190));
         assert_eq!(judged(judge, &record(13)).0, 15 * 1024 + 13);
     }
+}
+
+/// The slips of these records; and with two diamonds doubled by E, who ruffs and claims eight of the other twelve tricks, the slip of docs/RULES.md.
+#[test]
+fn slips() {
+    let text = |record: &[u8]| slip(record).text;
+    assert_eq!(text(&PASSED_OUT[..20]), "SUM 0\n");
+    assert_eq!(text(&PASSED_OUT[..19]), "2 0\n");
+    assert_eq!(text(&PASSED_OUT), "16 0\n");
+    let club = |claim| suits(1, &[3, 0, 0, 0], &[13, 26, 39, 0], Some(claim));
+    assert_eq!(text(&club(12)), "TRICKS 20\nOVERTRICKS 120\nPARTSCORE 50\nSUM 190\n");
+    assert_eq!(text(&club(13)), "15 13\n");
+    let diamonds = suits(1, &[0, 9, 1, 0, 0, 0], &[26, 39, 0, 13], Some(8));
+    assert_eq!(text(&diamonds), "TRICKS -80\nOVERTRICKS -100\nPARTSCORE -50\nDOUBLING -50\nSUM -280\n");
 }
 
 /// The same after three cards, in the middle of the first trick: thirteen tricks are left. 12 tricks score 20 + 50 + 5 × 20, 13 one more.

@@ -14,7 +14,7 @@ const ITEMS: [&str; 7] = ["TRICKS", "OVERTRICKS", "UNDERTRICKS", "PARTSCORE", "G
 fn main() {
     let words = Words::given();
     let mut random = Random::new(words.seed());
-    let limit = words.limit(3_000);
+    let limit = words.limit(10_000);
     let program = words.text("--program").unwrap_or_else(|| stop("--program needs the path of the program slip"));
     let (mut records, mut kinds, mut longest) = (0, kinds(), 0);
     while !limit.reached(records) {
