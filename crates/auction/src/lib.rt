@@ -257,12 +257,12 @@ impl Auction {
     {
         let above = above_club(self.last);
         let strain = above % 5;
-        let declarer = seat_at(self.first, (self.bidder % 2) * 5 + strain);
+        let first = seat_at(self.first, (self.bidder % 2) * 5 + strain);
         Contract {
             level: above / 5 + 1,
             strain,
             doubling: self.doubling % 4,
-            declarer,
+            declarer: first,
         }
     }
 }
