@@ -11,15 +11,15 @@
 #include <stdint.h>
 
 /* The version of this interface. A changed signature or size raises the first number, a function more the second. */
-#define JUDGE_VERSION_MAJOR 1
-#define JUDGE_VERSION_MINOR 1
+#define JUDGE_VERSION_MAJOR 2
+#define JUDGE_VERSION_MINOR 0
 
 #ifdef __cplusplus
 extern "C" {
 #endif
 
 /* The least lengths of the two buffers, and the most bytes that an accepted record has: this too is proved. */
-enum { JUDGE_ANSWER_BYTES = 7, JUDGE_REVOKE_BYTES = 36, JUDGE_RECORD_MOST = 296 };
+enum { JUDGE_ANSWER_BYTES = 7, JUDGE_REVOKE_BYTES = 36, JUDGE_RECORD_MOST = 440 };
 
 /* Judges one table record.
  *
@@ -36,7 +36,8 @@ uint32_t judge_record(const uint8_t *record, size_t record_len, uint8_t *answer,
                       size_t revokes_len);
 
 /* Writes one table record from its contents: the board, the table, the seat that was dealt card 0, 1, .. 51, the codes of the calls and
- * of the cards in their order, and a claim. `marked` 0 is no claim, anything else a claim of `claim` tricks for declarer's side.
+ * of the cards in their order, and a claim. Among the calls, code 38 marks the next one as an insufficient bid that was accepted.
+ * `marked` 0 is no claim, anything else a claim of `claim` tricks for declarer's side.
  *
  * Returns the number of bytes written, at most JUDGE_RECORD_MOST: the record stands at the front of `record`, and the bytes behind it
  * stay as they were. judge_record accepts what is written; and the contents of any record that it accepts are written as the same bytes
@@ -44,8 +45,9 @@ uint32_t judge_record(const uint8_t *record, size_t record_len, uint8_t *answer,
  *
  * No number and no length is trusted. Contents that judge_record would refuse are refused as it does, with the same number and place in
  * the same order; 1, 2 and 16 do not occur. Of numbers that no record can hold: a board over 127 or a table over 511 is 3; a holder over 3,
- * or another number of holders than 52, is 4 with place 4, before the cards of each seat are counted; a code over 63 is 5 or 11; over 63
- * cards are 10 with place 63; a claim over 15 is 15 with place 15. Last comes 22, for a buffer that is too short.
+ * or another number of holders than 52, is 4 with place 4, before the cards of each seat are counted; more than 511 codes of calls are 33
+ * with place 511, before any of them is looked at; a code over 63 is 5 or 11; over 63 cards are 10 with place 63; a claim over 15 is 15
+ * with place 15. Last comes 22, for a buffer that is too short.
  *
  * What C has to see to is what it has to for judge_record, of these four slices: true lengths, the buffer writable and apart from the
  * other three. A null pointer beside the length 0 is taken. Nothing is kept between calls. */
@@ -53,13 +55,14 @@ uint32_t judge_write_record(uint32_t board, uint32_t table, const uint8_t *holde
                             size_t calls_len, const uint8_t *cards, size_t cards_len, uint32_t marked, uint32_t claim,
                             uint8_t *record, size_t record_len);
 
-/* The refusals by number. Calls and plays count from 0.
+/* The refusals by number. Calls and plays count from 0; a mark counts among the calls, and takes no turn.
  *
  * The number is no rank. One refusal is returned, the first that applies in this order:
  *   - the buffers: 1, for the answer, then for the revokes;
  *   - board and table: both are read (2 where the record ends), then 3, for the board, then for the table;
  *   - the deal: it is read whole (2), then 4;
- *   - the number of calls (2); then for each call in turn: it is read (2), then 5, then 8, then 6 or 7; after the last call 9;
+ *   - the number of calls (2); then for each code in turn: it is read (2), then 5, then 8, then 24 after a mark, else 6 or 7;
+ *     after the last code 9;
  *   - the number of cards (2), then 10; then for each card in turn: it is read (2), then 11, then 12 or 23;
  *   - the claim's mark (2); unmarked, 13; marked, 14, then the claim is read (2), then 15;
  *   - 16.
@@ -70,8 +73,8 @@ enum judge_refusal {
     JUDGE_RECORD_ENDS = 2,           /* the record ends before a field is whole; place 0 */
     JUDGE_NO_BOARD_OR_TABLE = 3,     /* place 0: board 0, or over 127; 1: table 0, or over 511 */
     JUDGE_NOT_THIRTEEN_CARDS = 4,    /* Law 1; place: the first such seat; 4: not 52 holders from 0 to 3 */
-    JUDGE_NO_SUCH_CALL = 5,          /* call code from 38 on; place: the call */
-    JUDGE_BID_NOT_ABOVE = 6,         /* Law 27: bid not above the last bid; place: the call */
+    JUDGE_NO_SUCH_CALL = 5,          /* call code from 39 on; place: the call */
+    JUDGE_BID_NOT_ABOVE = 6,         /* Law 27: bid without a mark not above the last bid; place: the call */
     JUDGE_DOUBLE_NOT_ALLOWED = 7,    /* Law 36: double or redouble not allowed; place: the call */
     JUDGE_CALL_AFTER_END = 8,        /* Law 39; place: the call */
     JUDGE_AUCTION_NOT_OVER = 9,      /* Law 22; place: the number of calls */
@@ -83,7 +86,9 @@ enum judge_refusal {
     JUDGE_CLAIM_TOO_HIGH = 15,       /* Law 68: more tricks than are left; place: the claim, at most 15 */
     JUDGE_NOT_ENDED = 16,            /* a padding bit is 1, or a byte follows; place 0 */
     JUDGE_NO_ROOM_FOR_RECORD = 22,   /* judge_write_record alone: the buffer is too short for the record; place 0 */
-    JUDGE_CARD_ALREADY_PLAYED = 23   /* Law 44: card that this seat has played already; place: the play */
+    JUDGE_CARD_ALREADY_PLAYED = 23,  /* Law 44: card that this seat has played already; place: the play */
+    JUDGE_MARK_NOT_ALLOWED = 24,     /* Law 27A: mark not followed by a bid at or below a last bid; place: the mark */
+    JUDGE_TOO_MANY_CODES = 33        /* judge_write_record alone: more than 511 codes of calls; place 511 */
 };
 
 /* Whether what either function returned is a refusal. */

@@ -55,12 +55,13 @@ static const char *hand(uint8_t holders[52], char *rest) {
     return NULL;
 }
 
-/* The code of `P`, `X`, `XX` or a bid such as `3NT`; -1 for any other word. */
+/* The code of `P`, `X`, `XX`, a bid such as `3NT` or `M`, the mark of an insufficient bid that was accepted; -1 for any other word. */
 static int call(const char *name) {
     static const char *const STRAINS[] = {"C", "D", "H", "S", "NT"};
     if (strcmp(name, "P") == 0) return 0;
     if (strcmp(name, "X") == 0) return 1;
     if (strcmp(name, "XX") == 0) return 2;
+    if (strcmp(name, "M") == 0) return 38;
     int level = place("1234567", name[0]);
     for (int strain = 0; level >= 0 && strain < 5; strain++)
         if (strcmp(name + 1, STRAINS[strain]) == 0) return 3 + 5 * level + strain;

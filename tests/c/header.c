@@ -61,10 +61,13 @@ static void unpacks_a_number(void) {
     expect("the last refusal of the table", JUDGE_NOT_ENDED, 16);
     expect("no room", JUDGE_NO_ROOM_FOR_RECORD, 22);
     expect("a card again", JUDGE_CARD_ALREADY_PLAYED, 23);
+    expect("a wrong mark", JUDGE_MARK_NOT_ALLOWED, 24);
+    expect("too many codes", JUDGE_TOO_MANY_CODES, 33);
+    expect("the longest record", JUDGE_RECORD_MOST, 440);
     expect("a length is no refusal", judge_is_refusal(1023), 0);
     expect("a refusal", judge_is_refusal(3 * 1024), 1);
-    expect("the version's first number", JUDGE_VERSION_MAJOR, 1);
-    expect("the version's second number", JUDGE_VERSION_MINOR >= 1, 1);
+    expect("the version's first number", JUDGE_VERSION_MAJOR, 2);
+    expect("the version's second number", JUDGE_VERSION_MINOR >= 0, 1);
 }
 
 /* N all clubs, E diamonds, S hearts, W spades, four passes; and a byte that is no part of it. */

@@ -1,12 +1,16 @@
-//! Laws 18, 19 and 22: the auction, its contract and its declarer.
+//! Laws 18, 19, 22 and 27A: the auction, its contract and its declarer.
 
 pub const PASS: u64 = 0;
 pub const DOUBLE: u64 = 1;
 pub const REDOUBLE: u64 = 2;
 /// The lowest bid, one club.
 pub const FIRST_BID: u64 = 3;
-/// The codes from here on are no calls.
-pub const NO_CALL: u64 = 38;
+/// The highest bid, seven notrump.
+pub const LAST_BID: u64 = 37;
+/// The next call is an insufficient bid that was accepted.
+pub const MARK: u64 = 38;
+/// The codes from here on are neither calls nor marks.
+pub const NO_CALL: u64 = 39;
 
 /// Why a call is refused, as docs/RULES.md numbers it.
 #[derive(Clone, Copy, PartialEq, Eq, Debug)]
@@ -14,6 +18,17 @@ pub enum Fault {
     BidNotAbove = 6,
     DoubleNotAllowed = 7,
     AfterTheEnd = 8,
+    WrongMark = 24,
+}
+
+impl Fault {
+    /// The place of a fault that is found at a code: a wrong mark is the code before it.
+    pub fn place(self, code: u64) -> u64 {
+        match self {
+            Fault::WrongMark => code - 1,
+            _ => code,
+        }
+    }
 }
 
 #[derive(Clone)]
@@ -25,6 +40,8 @@ pub struct Auction {
     doubling: u8,
     /// Passes in a row up to this point.
     passes: u8,
+    /// The code before is a mark.
+    marked: bool,
     /// The first seat of each side to have bid each strain.
     first: [[u8; 5]; 2],
 }
@@ -41,7 +58,7 @@ const NOBODY: u8 = 4;
 
 impl Auction {
     pub fn new(dealer: u8) -> Self {
-        Auction { turn: dealer, bid: 0, bidder: 0, doubling: 0, passes: 0, first: [[NOBODY; 5]; 2] }
+        Auction { turn: dealer, bid: 0, bidder: 0, doubling: 0, passes: 0, marked: false, first: [[NOBODY; 5]; 2] }
     }
 
     pub fn over(&self) -> bool {
@@ -64,13 +81,20 @@ impl Auction {
         (self.bidder ^ self.turn) & 1 == 0
     }
 
-    /// Takes a call of a code below 38 by the seat at turn.
+    /// Takes a call by the seat at turn, or a mark, of a code below 39.
     #[inline]
     pub fn call(&mut self, code: u64) -> Result<(), Fault> {
         if self.over() {
             return Err(Fault::AfterTheEnd);
         }
+        if self.marked {
+            return self.accepted(code);
+        }
         match code {
+            MARK => {
+                self.marked = true;
+                return Ok(());
+            }
             PASS => self.passes += 1,
             DOUBLE => {
                 if self.bid == 0 || self.doubling != 0 || self.own_side_bid() {
@@ -92,10 +116,27 @@ impl Auction {
         Ok(())
     }
 
+    /// After a mark: a bid at or below a last bid.
+    fn accepted(&mut self, code: u64) -> Result<(), Fault> {
+        if !(FIRST_BID..=u64::from(self.bid)).contains(&code) {
+            return Err(Fault::WrongMark);
+        }
+        self.marked = false;
+        self.stands(code as u8);
+        self.turn = (self.turn + 1) & 3;
+        Ok(())
+    }
+
     fn bid(&mut self, code: u8) -> Result<(), Fault> {
         if code <= self.bid {
             return Err(Fault::BidNotAbove);
         }
+        self.stands(code);
+        Ok(())
+    }
+
+    /// The bid stands as the last one.
+    fn stands(&mut self, code: u8) {
         let first = &mut self.first[usize::from(self.turn & 1)][usize::from((code - 3) % 5)];
         if *first == NOBODY {
             *first = self.turn;
@@ -104,7 +145,6 @@ impl Auction {
         self.bidder = self.turn;
         self.doubling = 0;
         self.passes = 0;
-        Ok(())
     }
 
     /// The contract of an auction that is over, nothing where it was passed out.

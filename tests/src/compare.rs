@@ -46,7 +46,7 @@ impl Room {
 
 /// What accepted records have shown so far.
 pub struct Seen {
-    pub refusals: [u64; 24],
+    pub refusals: [u64; 25],
     pub cases: u64,
     /// By level, strain, doubling and vulnerability of declarer.
     pub contracts: Vec<u64>,
@@ -63,7 +63,7 @@ pub struct Comparison {
 
 impl Comparison {
     pub fn new(judge: Judge, random: &mut Random) -> Self {
-        let seen = Seen { refusals: [0; 24], cases: 0, contracts: vec![0; 7 * 5 * 3 * 2], revokes: [0; 37], changed: [0; 14] };
+        let seen = Seen { refusals: [0; 25], cases: 0, contracts: vec![0; 7 * 5 * 3 * 2], revokes: [0; 37], changed: [0; 14] };
         Comparison { judge, sentinels: random.bytes(4096), seen }
     }
 

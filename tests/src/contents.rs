@@ -92,7 +92,7 @@ pub fn unlawful(random: &mut Random, made: &[Made], other: &Made) -> Vec<(Conten
 }
 
 /// The refusals that numbers which no field can hold give.
-const BEYOND: [u32; 7] = [3, 4, 5, 8, 10, 11, 15];
+const BEYOND: [u32; 7] = [3, 4, 5, 10, 11, 15, 33];
 
 /// Gives contents a number that no field can hold; nothing where these contents cannot have one.
 fn beyond(random: &mut Random, made: &Made, kind: u32) -> Option<(Contents, Option<u32>)> {
@@ -105,12 +105,6 @@ fn beyond(random: &mut Random, made: &Made, kind: u32) -> Option<(Contents, Opti
             c.calls[k] = over(random, 63);
             k
         }
-        8 => {
-            let end = c.calls.len();
-            let more = random.between(512 - end, 1200);
-            c.calls.extend((0..more).map(|_| random.below(38) as u8));
-            end
-        }
         10 => {
             let passed_out = *random.pick(&[1, 4, 52]);
             let count = if made.contract.is_none() { passed_out } else { *random.pick(&[53, 63, 64, 255, 256, 600]) };
@@ -121,6 +115,11 @@ fn beyond(random: &mut Random, made: &Made, kind: u32) -> Option<(Contents, Opti
             let k = random.below(c.cards.len());
             c.cards[k] = over(random, 63);
             k
+        }
+        33 => {
+            let more = *random.pick(&[512 - c.calls.len(), 513 - c.calls.len(), 1200]);
+            c.calls.extend(random.bytes(more));
+            511
         }
         15 if c.marked != 0 => {
             c.claim = great(random, 15);
@@ -177,9 +176,11 @@ pub fn spoil_after(random: &mut Random, c: &mut Contents, number: u32) {
     match refusal {
         3 => (c.holders, c.calls) = (list(60), list(600)),
         4 => c.calls = list(600),
-        5..=8 => {
-            c.calls.truncate(place + 1);
+        5..=8 | 24 => {
+            let kept = if refusal == 24 { place + 2 } else { place + 1 };
+            c.calls.truncate(kept);
             c.calls.extend(list(600));
+            c.calls.truncate(511);
         }
         11 | 12 | 23 => {
             let after = c.cards.len() - place;
@@ -188,10 +189,10 @@ pub fn spoil_after(random: &mut Random, c: &mut Contents, number: u32) {
         }
         _ => {}
     }
-    if refusal <= 9 {
+    if refusal <= 9 || refusal == 24 || refusal == 33 {
         c.cards = list(100);
     }
-    if refusal <= 12 || refusal == 23 {
+    if refusal <= 12 || refusal >= 23 {
         c.marked = *random.pick(&[0, 1, 2, u32::MAX]);
         c.claim = random.word() as u32;
     }

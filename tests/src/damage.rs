@@ -1,5 +1,5 @@
 //! Damage to a lawful record, of each kind that a refusal names. Where the damage alone decides the answer, it is given too.
-use crate::auction::{Auction, DOUBLE, REDOUBLE};
+use crate::auction::{Auction, Fault, DOUBLE, MARK, NO_CALL, REDOUBLE};
 use crate::making::Made;
 use crate::play::Play;
 use crate::random::Random;
@@ -11,7 +11,7 @@ pub struct Damaged {
 }
 
 /// The refusals that damage to the record can give.
-pub const KINDS: [u32; 16] = [2, 3, 4, 5, 6, 7, 8, 9, 10, 11, 12, 13, 14, 15, 16, 23];
+pub const KINDS: [u32; 17] = [2, 3, 4, 5, 6, 7, 8, 9, 10, 11, 12, 13, 14, 15, 16, 23, 24];
 
 /// Damages a record so that it is refused with the number `kind`, or nothing where this record cannot be.
 pub fn damaged(random: &mut Random, made: &Made, kind: u32) -> Option<Damaged> {
@@ -23,7 +23,7 @@ pub fn damaged(random: &mut Random, made: &Made, kind: u32) -> Option<Damaged> {
         5 => call_code(random, &mut m),
         6 => low_bid(random, &mut m)?,
         7 => double(random, &mut m)?,
-        8 => after_the_end(random, &mut m),
+        8 => after_the_end(random, &mut m)?,
         9 => unfinished(random, &mut m),
         10 => play_count(random, &mut m),
         11 => card_code(random, &mut m)?,
@@ -32,6 +32,7 @@ pub fn damaged(random: &mut Random, made: &Made, kind: u32) -> Option<Damaged> {
         14 => claim_elsewhere(random, &mut m),
         15 => claim_too_high(random, &mut m)?,
         23 => own_card_again(random, &mut m)?,
+        24 => wrong_mark(random, &mut m)?,
         _ => past_the_end(random, &mut m),
     };
     Some(Damaged { bytes: m.parts.bytes(), number: Some(kind * 1024 + place as u32) })
@@ -65,7 +66,7 @@ fn deal(random: &mut Random, m: &mut Made) -> u64 {
 
 fn call_code(random: &mut Random, m: &mut Made) -> u64 {
     let k = random.below(m.parts.calls.len());
-    m.parts.calls[k] = random.between(38, 63) as u64;
+    m.parts.calls[k] = random.between(NO_CALL as usize, 63) as u64;
     k as u64
 }
 
@@ -81,6 +82,9 @@ fn auction_before(m: &Made, k: usize) -> Auction {
 fn low_bid(random: &mut Random, m: &mut Made) -> Option<u64> {
     let first = m.parts.calls.iter().position(|&call| call >= 3)?;
     let k = random.between(first + 1, m.parts.calls.len() - 1);
+    if m.parts.calls[k - 1] == MARK {
+        return None;
+    }
     let last = auction_before(m, k).last_bid();
     m.parts.calls[k] = random.between(3, usize::from(last)) as u64;
     Some(k as u64)
@@ -89,19 +93,42 @@ fn low_bid(random: &mut Random, m: &mut Made) -> Option<u64> {
 fn double(random: &mut Random, m: &mut Made) -> Option<u64> {
     let k = random.below(m.parts.calls.len());
     let code = *random.pick(&[DOUBLE, REDOUBLE]);
-    if auction_before(m, k).call(code).is_ok() {
+    if auction_before(m, k).call(code) != Err(Fault::DoubleNotAllowed) {
         return None;
     }
     m.parts.calls[k] = code;
     Some(k as u64)
 }
 
-fn after_the_end(random: &mut Random, m: &mut Made) -> u64 {
+/// A mark before a call that may stand without one, or another code after a mark.
+fn wrong_mark(random: &mut Random, m: &mut Made) -> Option<u64> {
+    let marks: Vec<usize> = (0..m.parts.calls.len()).filter(|&k| m.parts.calls[k] == MARK).collect();
+    if marks.is_empty() || random.percent(30) {
+        let k = random.below(m.parts.calls.len());
+        if m.parts.calls.len() == 511 || (k > 0 && m.parts.calls[k - 1] == MARK) {
+            return None;
+        }
+        m.parts.calls.insert(k, MARK);
+        m.parts.count();
+        return Some(k as u64);
+    }
+    let k = *random.pick(&marks);
+    let last = u64::from(auction_before(m, k).last_bid());
+    let above = random.between(last as usize + 1, MARK as usize) as u64;
+    m.parts.calls[k + 1] = *random.pick(&[0, DOUBLE, REDOUBLE, MARK, last + 1, above]);
+    Some(k as u64)
+}
+
+fn after_the_end(random: &mut Random, m: &mut Made) -> Option<u64> {
     let end = m.parts.calls.len() as u64;
     let more = *random.pick(&[1, 1, 2, 3, 190]);
-    m.parts.calls.extend((0..more).map(|_| random.below(38) as u64));
+    let more = more.min(511 - m.parts.calls.len());
+    if more == 0 {
+        return None;
+    }
+    m.parts.calls.extend((0..more).map(|_| random.below(NO_CALL as usize) as u64));
     m.parts.count();
-    end
+    Some(end)
 }
 
 fn unfinished(random: &mut Random, m: &mut Made) -> u64 {

@@ -85,7 +85,7 @@ fn calls(bits: &mut Reader, dealer: u8) -> Result<Option<Contract>, Refused> {
         if code >= NO_CALL {
             return Err(refused(5, k));
         }
-        auction.call(code).map_err(|fault| refused(fault as u32, k))?;
+        auction.call(code).map_err(|fault| refused(fault as u32, fault.place(k)))?;
     }
     if !auction.over() {
         return Err(refused(9, count));

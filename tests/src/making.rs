@@ -51,7 +51,12 @@ pub fn lawful(random: &mut Random) -> Made {
     let dealer = score::dealer(board as u8);
     let target = random.between(3, 37) as u64;
     let doubling = random.below(3) as u8;
-    let calls = match random.below(10) {
+    let calls = match random.below(12) {
+        10..=11 => {
+            let most = *random.pick(&[20, 60, 511]);
+            let count = random.between(6, most);
+            calls::marked(random, dealer, count)
+        }
         0..=2 => calls::short(dealer, random.below(4) as u8, target, doubling),
         3..=4 => {
             let count = random.between(4, 319);
@@ -73,7 +78,7 @@ pub fn with_claim_after(random: &mut Random, tricks: usize) -> Made {
     made
 }
 
-/// A record of an auction of exactly so many calls, from 4 to 319, and all 52 cards.
+/// A record of an auction without a mark of exactly so many calls, from 4 to 319, and all 52 cards.
 pub fn with_calls(random: &mut Random, count: usize) -> Made {
     let (board, table) = place(random);
     let calls = calls::of_length(random, count);

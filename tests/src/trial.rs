@@ -1,4 +1,5 @@
 //! Rounds of records of all shapes, whole, damaged and random, on which a judge is compared with the independent one.
+use crate::auction::MARK;
 use crate::compare::{Comparison, Judge, Room, Seen};
 use crate::damage;
 use crate::making::{self, Made};
@@ -17,7 +18,9 @@ pub struct Trial {
     random: Random,
     comparison: Comparison,
     rounds: u64,
+    /// The lengths of auctions without a mark, and of those with one.
     auctions: BTreeSet<usize>,
+    marked: BTreeSet<usize>,
     /// Cards played, and tricks claimed of those left.
     claims: BTreeSet<(usize, u64)>,
     /// Revokes in a trick that a claim left unfinished.
@@ -28,7 +31,7 @@ impl Trial {
     pub fn new(judge: Judge, seed: u64) -> Self {
         let mut random = Random::new(seed);
         let comparison = Comparison::new(judge, &mut random);
-        Trial { random, comparison, rounds: 0, auctions: BTreeSet::new(), claims: BTreeSet::new(), unfinished: 0 }
+        Trial { random, comparison, rounds: 0, auctions: BTreeSet::new(), marked: BTreeSet::new(), claims: BTreeSet::new(), unfinished: 0 }
     }
 
     /// The records compared so far.
@@ -94,7 +97,8 @@ impl Trial {
     }
 
     fn note(&mut self, made: &Made) {
-        self.auctions.insert(made.parts.calls.len());
+        let lengths = if made.parts.calls.contains(&MARK) { &mut self.marked } else { &mut self.auctions };
+        lengths.insert(made.parts.calls.len());
         if let Some(claim) = made.parts.claim {
             self.claims.insert((made.parts.cards.len(), claim));
             self.unfinished += unfinished_revokes(made);
@@ -110,7 +114,8 @@ impl Trial {
             format!("revokes in accepted records:\n{}", counts(&seen.revokes, 0)),
             format!("tricks that changed sides:\n{}", counts(&seen.changed, 0)),
             format!("{} of {} contracts (level, strain, doubling, vulnerability)", contracts(seen), seen.contracts.len()),
-            format!("{} of 316 lengths of auctions, {} of 402 claims", self.auctions.len(), self.claims.len()),
+            format!("{} of 316 lengths of auctions without a mark, {} of 506 with one", self.auctions.len(), self.marked.len()),
+            format!("{} of 402 claims", self.claims.len()),
             format!("{} revokes in a trick that a claim left unfinished", self.unfinished),
         ]
         .join("\n")
@@ -119,11 +124,12 @@ impl Trial {
     /// Whether every kind of case has occurred, and each refusal often enough; what is missing, in words.
     pub fn enough(&self) -> Result<(), String> {
         let seen = &self.comparison.seen;
-        if let Some(number) = (1..=16).chain([23]).find(|&number| seen.refusals[number] < LEAST) {
+        if let Some(number) = (1..=16).chain([23, 24]).find(|&number| seen.refusals[number] < LEAST) {
             return Err(format!("refusal {number} occurred only {} times", seen.refusals[number]));
         }
-        let whole = contracts(seen) == seen.contracts.len() && self.auctions.len() == 316 && self.claims.len() == 402 && self.unfinished >= LEAST;
-        if !whole || seen.revokes[0] == 0 || seen.revokes[36] == 0 || seen.changed[..4].contains(&0) {
+        let lengths = self.auctions.len() == 316 && self.marked.len() == 506;
+        let whole = contracts(seen) == seen.contracts.len() && self.claims.len() == 402 && self.unfinished >= LEAST;
+        if !lengths || !whole || seen.revokes[0] == 0 || seen.revokes[36] == 0 || seen.changed[..4].contains(&0) {
             return Err("some contract, length of auction, claim or number of revokes never occurred".to_string());
         }
         Ok(())

@@ -14,7 +14,7 @@ const EVERY_ROOM: u64 = 100;
 /// How often each refusal has to occur.
 const LEAST: u64 = 100;
 /// The refusals of a writer.
-const REFUSALS: [usize; 15] = [3, 4, 5, 6, 7, 8, 9, 10, 11, 12, 13, 14, 15, 22, 23];
+const REFUSALS: [usize; 17] = [3, 4, 5, 6, 7, 8, 9, 10, 11, 12, 13, 14, 15, 22, 23, 24, 33];
 /// Bytes on each side of a slice that no writer may change.
 const AROUND: usize = 24;
 
@@ -25,7 +25,7 @@ pub struct WriteTrial {
     sentinels: Vec<u8>,
     rounds: u64,
     written: u64,
-    refusals: [u64; 24],
+    refusals: [u64; 34],
 }
 
 impl WriteTrial {
@@ -33,7 +33,7 @@ impl WriteTrial {
     pub fn new(writer: Writer, judge: Judge, seed: u64) -> Self {
         let mut random = Random::new(seed);
         let sentinels = random.bytes(4096);
-        WriteTrial { random, writer, judge, sentinels, rounds: 0, written: 0, refusals: [0; 24] }
+        WriteTrial { random, writer, judge, sentinels, rounds: 0, written: 0, refusals: [0; 34] }
     }
 
     /// The contents compared so far.
@@ -97,8 +97,8 @@ impl WriteTrial {
     fn at_any_room(&mut self, c: &Contents, number: Option<u32>) -> Result<(), String> {
         let room = match self.random.below(4) {
             0 => 0,
-            1 => self.random.below(400),
-            _ => 400,
+            1 => self.random.below(440),
+            _ => 440,
         };
         self.case(c, room, number).map(drop)
     }
@@ -151,7 +151,7 @@ impl WriteTrial {
 
     /// Whether each refusal has occurred often enough, and no other; what is missing, in words.
     pub fn enough(&self) -> Result<(), String> {
-        if let Some(number) = (0..24).find(|k| !REFUSALS.contains(k) && self.refusals[*k] > 0) {
+        if let Some(number) = (0..34).find(|k| !REFUSALS.contains(k) && self.refusals[*k] > 0) {
             return Err(format!("a writer gives no refusal {number}"));
         }
         match REFUSALS.into_iter().find(|&k| self.refusals[k] < LEAST) {

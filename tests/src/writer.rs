@@ -11,6 +11,9 @@ pub type Writer = fn(&Contents, &mut [u8]) -> u32;
 
 type Refused = u32;
 
+/// The most codes of calls and marks that a record can have.
+const MOST_CODES: usize = 511;
+
 /// The greatest places of 10 and 15.
 const MOST_CARDS: usize = 63;
 const MOST_CLAIM: u32 = 15;
@@ -67,12 +70,15 @@ fn hands(holders: &[u8]) -> Result<Hands, Refused> {
 }
 
 fn calls(codes: &[u8], dealer: u8) -> Result<Option<Contract>, Refused> {
+    if codes.len() > MOST_CODES {
+        return Err(refused(33, MOST_CODES));
+    }
     let mut auction = Auction::new(dealer);
     for (k, &code) in codes.iter().enumerate() {
         if u64::from(code) >= NO_CALL {
             return Err(refused(5, k));
         }
-        auction.call(u64::from(code)).map_err(|fault| refused(fault as u32, k))?;
+        auction.call(u64::from(code)).map_err(|fault| refused(fault as u32, fault.place(k as u64) as usize))?;
     }
     if !auction.over() {
         return Err(refused(9, codes.len()));

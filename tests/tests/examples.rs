@@ -316,6 +316,25 @@ fn longest_auction_and_record() {
     }
 }
 
+/// The longest record: three passes, one club by W, and one club again 252 times, each accepted though it is not above the last: 511 codes. A mark takes
+/// no turn, so the 253rd bid is W's again, and W is the first of that side to have bid clubs. N leads and wins every trick with a club: seven down, not
+/// vulnerable, 350.
+#[test]
+fn longest_marked_auction_and_record() {
+    let again = (0..252).flat_map(|_| [38, 3]);
+    let calls: Vec<u64> = [0, 0, 0, 3].into_iter().chain(again).chain([0; 3]).collect();
+    let cards: Vec<u64> = (0..13).flat_map(|rank| [rank, 13 + rank, 26 + rank, 39 + rank]).collect();
+    let record = suits(1, &calls, &cards, None);
+    assert_eq!((calls.len(), record.len()), (511, 440));
+    for judge in JUDGES {
+        let (mut answer, mut list) = ([0; 7], [0; 36]);
+        assert_eq!(judge(&record, &mut answer, &mut list), 0);
+        // board 7, table 9; level 1, strain 0, doubling 0; declarer 3, no trick, none after Law 64, no revoke
+        assert_eq!(answer[..5], [2, 1, 1 << 5, 3 << 6, 0]);
+        assert_eq!(judged(judge, &record), (0, 350));
+    }
+}
+
 #[test]
 fn cells_of_four() {
     assert_eq!(cells(b"420\n420\n-50\n450\n"), "NS-SCORE COUNT NS-% EW-%\n450 1 100.00 0.00\n420 2 50.00 50.00\n-50 1 0.00 100.00\n");

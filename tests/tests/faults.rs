@@ -7,7 +7,7 @@ use outside::team::{imps, Match, Play, Written, MOST_BOARDS};
 use outside::team_scripts::Script;
 use outside::trial::Trial;
 
-const FAULTS: [(&str, Judge); 12] = [
+const FAULTS: [(&str, Judge); 14] = [
     ("refuses all", |_, _, _| 2 * 1024),
     ("writes nothing", |record, answer, list| judge(record, &mut answer.to_vec(), &mut list.to_vec())),
     ("clears the answer on a refusal", |record, answer, list| {
@@ -44,6 +44,14 @@ const FAULTS: [(&str, Judge); 12] = [
         number => number,
     }),
     ("calls another's card that was played one's own", anothers_played),
+    ("gives 24 at the code after the mark", |record, answer, list| match judge(record, answer, list) {
+        number if number / 1024 == 24 => number + 1,
+        number => number,
+    }),
+    ("takes a mark for no call", |record, answer, list| match judge(record, answer, list) {
+        number if number / 1024 == 24 => number - 19 * 1024,
+        number => number,
+    }),
     ("lets one byte follow", |record, answer, list| match judge(record, answer, list) {
         number if number == 16 * 1024 => judge(&record[..record.len() - 1], answer, list),
         number => number,

@@ -18,7 +18,7 @@ fn other_place(c: &Contents, record: &mut [u8], refusal: u32, place: usize) -> u
     }
 }
 
-const FAULTS: [(&str, Writer); 16] = [
+const FAULTS: [(&str, Writer); 17] = [
     ("refuses all", |_, _| 3 * 1024),
     ("writes nothing", |c, record| write(c, &mut record.to_vec())),
     ("clears the buffer on a refusal", |c, record| {
@@ -43,7 +43,7 @@ const FAULTS: [(&str, Writer); 16] = [
         number
     }),
     ("writes what there is room for", |c, record| {
-        let mut whole = [0; 400];
+        let mut whole = [0; 440];
         let number = write(c, &mut whole);
         if number < 1024 {
             let room = record.len().min(number as usize);
@@ -59,6 +59,10 @@ const FAULTS: [(&str, Writer); 16] = [
     ("cuts a call to six bits", |c, record| write(&changed(c, |c| c.calls.iter_mut().for_each(|k| *k &= 63)), record)),
     ("gives the number of cards, however great", |c, record| other_place(c, record, 10, c.cards.len())),
     ("gives the claim, however great", |c, record| other_place(c, record, 15, (c.claim & 1023) as usize)),
+    ("looks at 511 codes before it counts them", |c, record| match write(c, record) {
+        number if number / 1024 == 33 => write(&changed(c, |c| c.calls.truncate(511)), record),
+        number => number,
+    }),
     ("takes a mark of 256 for none", |c, record| write(&changed(c, |c| c.marked &= 255), record)),
     ("calls a card played already one of another hand", |c, record| match write(c, record) {
         number if number / 1024 == 23 => number - 11 * 1024,

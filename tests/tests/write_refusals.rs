@@ -54,16 +54,27 @@ fn refused() -> Vec<(u32, u32, Contents)> {
         (4, 1, holder(13, 2)),
         (4, 2, holder(26, 3)),
         (4, 0, holder(51, 0)),
-        (5, 0, calls(&[38])),
+        (5, 0, calls(&[39])),
         (5, 0, calls(&[64])),
         (5, 1, calls(&[0, 255])),
         // A code that is no call after the end is 5 and not 8.
-        (5, 4, calls(&[0, 0, 0, 0, 38])),
+        (5, 4, calls(&[0, 0, 0, 0, 39])),
         (6, 1, calls(&[3, 3])),
         (7, 0, calls(&[1])),
         (7, 1, calls(&[3, 2])),
         (8, 4, calls(&[0; 5])),
-        (8, 4, calls(&[0; 1000])),
+        (8, 4, calls(&[0; 511])),
+        (8, 4, calls(&[0, 0, 0, 0, 38])),
+        // More codes than the count can tell, after the deal and before any code.
+        (33, 511, calls(&[0; 512])),
+        (33, 511, calls(&[255; 1000])),
+        (33, 511, contents(&[3; 600], &[99; 80], Some(99))),
+        (4, 1, changed(calls(&[0; 512]), |c| c.holders[13] = 2)),
+        (24, 0, calls(&[38, 3])),
+        (24, 1, calls(&[3, 38, 4])),
+        (24, 1, calls(&[3, 38, 38])),
+        (5, 2, calls(&[3, 38, 64])),
+        (9, 2, calls(&[3, 38])),
         (8, 4, calls(&[3, 0, 0, 0, 3])),
         (9, 0, calls(&[])),
         (9, 3, calls(&[0; 3])),
@@ -104,7 +115,7 @@ fn written(writer: Writer, c: &Contents, room: usize) -> (u32, Vec<u8>) {
 fn each_refusal_and_place() {
     for writer in WRITERS {
         for (refusal, place, c) in refused() {
-            for room in [0, 19, 400] {
+            for room in [0, 19, 440] {
                 assert_eq!(written(writer, &c, room), (refusal * 1024 + place, vec![BEFORE; room]), "{refusal}, {place}: {c:?}");
             }
         }

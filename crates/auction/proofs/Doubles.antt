@@ -8,7 +8,8 @@ use borrow.Author.Tests.{eqb-true, ne-eqb}
 use lib.Dec.{eqb}
 use Rattle.laws.specs.Choice.{if_then_else_}
 use Rattle.laws.specs.Cards.{sameSide}
-use Rattle.laws.specs.Auction.{pass, double, redouble, isBid, toCall, beforePasses, bidByOpponents, bidByOwnSide, doubledOwnBid, mayDouble, mayRedouble}
+use Rattle.laws.specs.Auction.{pass, double, redouble, mark, isBid, toCall}
+use Rattle.laws.specs.Auction.{isPassOrMark, beforePasses, bidByOpponents, bidByOwnSide, doubledOwnBid, mayDouble, mayRedouble}
 use Rattle.laws.proofs.Tests.{by-test}
 use Rattle.auction.specs.Position.{stands, beforeCalls, afterCall, positionOf}
 use Rattle.auction.specs.Asked.{mayDoubleOf, mayRedoubleOf}
@@ -48,16 +49,18 @@ unfolding latestBid bidByOwnSide
 own-side d s [] = refl
 own-side d s (c ∷ h) = refl
 
--- a call by its kind: a pass, a double, a bid, or none of these
-by-kind : {A : Type 0} (c : ℕ) → (c ≡ pass → A) → (c ≡ double → A)
-    → (eqb c pass ≡ false → eqb c double ≡ false → isBid c ≡ true → A)
-    → (eqb c pass ≡ false → eqb c double ≡ false → isBid c ≡ false → A) → A
-by-kind c passed doubled bid other =
+-- a code by its kind: a pass, a mark, a double, a bid, or none of these
+by-kind : {A : Type 0} (c : ℕ) → (c ≡ pass → A) → (c ≡ mark → A) → (c ≡ double → A)
+    → (isPassOrMark c ≡ false → eqb c double ≡ false → isBid c ≡ true → A)
+    → (isPassOrMark c ≡ false → eqb c double ≡ false → isBid c ≡ false → A) → A
+by-kind c passed marked doubled bid other =
     by-test (eqb c pass)
     (λ (q : eqb c pass ≡ true). passed (eqb-true c pass q))
-    (λ (q : eqb c pass ≡ false). by-test (eqb c double)
+    (λ (q : eqb c pass ≡ false). by-test (eqb c mark)
+    (λ (m : eqb c mark ≡ true). marked (eqb-true c mark m))
+    (λ (m : eqb c mark ≡ false). by-test (eqb c double)
     (λ (r : eqb c double ≡ true). doubled (eqb-true c double r))
-    (λ (r : eqb c double ≡ false). by-test (isBid c) (bid q r) (other q r)))
+    (λ (r : eqb c double ≡ false). let neither : isPassOrMark c ≡ false = rw (q, m) in by-test (isBid c) (bid neither r) (other neither r))))
 
 module _ (d : ℕ) where
   -- a bid stands that is not doubled: the latest call but passes is a bid, and the position has its bidder
@@ -68,6 +71,7 @@ module _ (d : ℕ) where
       let a = positionOf d h in
       let more = bid-stands test h in
       by-kind c
+      (λ p. rw p more)
       (λ p. rw p more)
       (λ p. rw p (and-false (not-undoubled (stands a 0)) _))
       (λ q r s. simp (q, r, s, turn-is d h))
@@ -82,6 +86,7 @@ module _ (d : ℕ) where
       let more = double-stands s h in
       let stood = bid-stands (λ b. sameSide b s) h ∙ own-side d s (beforePasses h) in
       by-kind c
+      (λ p. rw p more)
       (λ p. rw p more)
       (λ p. rw p (ap (λ (b : Bool). b && sameSide (a .bidder) s) (stands-doubled (stands a 0)) ∙ stood))
       (λ q r t. simp (q, r, t))

@@ -6,9 +6,10 @@ use mathlib.Core.List.{List, [], _∷_}
 use native.Mathlib.Omega.{arith}
 use borrow.Author.Tests.{eqb-true, leb-true, leb-false, eq-eqb, ne-eqb}
 use lib.Dec.{eqb, leb}
-use Rattle.laws.specs.Choice.{if_then_else_}
+use Rattle.laws.specs.Choice.{if_then_else_, howMany}
 use Rattle.laws.specs.Cards.{clockwise}
-use Rattle.laws.specs.Auction.{pass, double, redouble, isBid, toCall, lastBid, lastBidder, doubling, passesInARow, hasBid, isOver, passedOut}
+use Rattle.laws.specs.Auction.{pass, double, redouble, mark, isBid, isPassOrMark, callsMade, isMarked}
+use Rattle.laws.specs.Auction.{toCall, lastBid, lastBidder, doubling, passesInARow, hasBid, isOver, passedOut}
 use Rattle.laws.proofs.Tests.{by-test}
 use Rattle.auction.specs.Position.{stands, passesToEnd, beforeCalls, afterCall, positionOf}
 use Rattle.auction.specs.Asked.{overOf, passedOutOf}
@@ -28,7 +29,7 @@ once-more : (b : Bool) → (if b then 5 else 1) % 4 ≡ 1
 once-more true = refl
 once-more false = refl
 
--- what is no call leaves the doubling, and so does a pass
+-- what is no call leaves the doubling, and so do a pass and a mark
 kept : (b : Bool) (x : ℕ) → (if b then x else x % 4) % 4 ≡ x % 4
 kept true x = refl
 kept false x = omega arith
@@ -36,9 +37,18 @@ kept false x = omega arith
 module _ (d : ℕ) where
   -- whose turn it is
   pub turn-is : (h : List ℕ) → positionOf d h .turn ≡ toCall d h
-  unfolding positionOf beforeCalls afterCall toCall clockwise
+  unfolding positionOf beforeCalls afterCall toCall callsMade howMany clockwise
   turn-is [] = omega arith
-  turn-is (c ∷ h) = omega (arith, turn-is h)
+  turn-is (c ∷ h) =
+      by-test (eqb c mark)
+      (λ (q : eqb c mark ≡ true). rw q (omega (arith, turn-is h)))
+      (λ (q : eqb c mark ≡ false). rw q (omega (arith, turn-is h)))
+
+  -- the latest code is a mark
+  pub marked-is : (h : List ℕ) → positionOf d h .marked ≡ isMarked h
+  unfolding positionOf beforeCalls afterCall isMarked
+  marked-is [] = refl
+  marked-is (c ∷ h) = refl
 
   -- the last bid
   pub last-is : (h : List ℕ) → positionOf d h .last ≡ lastBid h
@@ -64,7 +74,7 @@ module _ (d : ℕ) where
       (λ (r : eqb c double ≡ true). simp (q, r) (once-more (eqb (positionOf d h .doubling) 4)))
       (λ (r : eqb c double ≡ false). by-test (eqb c redouble)
       (λ (s : eqb c redouble ≡ true). simp (q, r, s))
-      (λ (s : eqb c redouble ≡ false). simp (q, r, s) (kept (eqb c pass) (positionOf d h .doubling) ∙ more))))
+      (λ (s : eqb c redouble ≡ false). simp (q, r, s) (kept (isPassOrMark c) (positionOf d h .doubling) ∙ more))))
 
   -- how many passes in a row are left: those that end the auction, less those made
   pub left-is : (h : List ℕ) → positionOf d h .left ≡ passesToEnd (lastBid h) - passesInARow h
@@ -73,9 +83,11 @@ module _ (d : ℕ) where
   left-is (c ∷ h) =
       by-test (eqb c pass)
       (λ (q : eqb c pass ≡ true). rw (eqb-true c pass q) (omega (arith, left-is h)))
-      (λ (q : eqb c pass ≡ false). by-test (isBid c)
-      (λ (r : isBid c ≡ true). simp (q, r))
-      (λ (r : isBid c ≡ false). simp (q, r, last-is h) (omega arith)))
+      (λ (q : eqb c pass ≡ false). by-test (eqb c mark)
+      (λ (m : eqb c mark ≡ true). rw (eqb-true c mark m) (left-is h))
+      (λ (m : eqb c mark ≡ false). by-test (isBid c)
+      (λ (r : isBid c ≡ true). simp (q, m, r))
+      (λ (r : isBid c ≡ false). simp (q, m, r, last-is h) (omega arith))))
 
   -- nothing is left of n where there were as many
   none-left : (n p : ℕ) → eqb (n - p) 0 ≡ leb n p

@@ -1,16 +1,16 @@
 -- What a position answers: the verdict on a code, the end of the auction, the contract. Assumes nothing.
 use Prim.Native.Nat.{ℕ, _%_}
 use mathlib.Core.Bool.{Bool, not, _&&_}
-use lib.Dec.{eqb, ltb}
+use lib.Dec.{eqb, ltb, leb}
 use Rattle.laws.specs.Choice.{if_then_else_}
 use Rattle.laws.specs.Cards.{sameSide}
 use Rattle.laws.specs.Auction.{pass, double, redouble, levelOf, strainOf}
-use Rattle.laws.specs.Refusals.{accepted, noCall, insufficientBid, inadmissibleDouble, callAfterEnd}
+use Rattle.laws.specs.Refusals.{accepted, noCall, insufficientBid, inadmissibleDouble, callAfterEnd, wrongMark}
 use Rattle.laws.specs.Auction as Law
 use Rattle.auction.specs.declared.Auction.{Auction}
 use Rattle.auction.specs.declared.Contract.{Contract}
 use Rattle.auction.specs.declared.Verdict.{Verdict}
-use Rattle.auction.specs.declared.Verdict.the-variants.{Allowed, NotACall, AfterEnd, Insufficient, Inadmissible}
+use Rattle.auction.specs.declared.Verdict.the-variants.{Allowed, NotACall, AfterEnd, Insufficient, Inadmissible, WrongMark}
 use Rattle.auction.specs.Position.{firstPlace, seatAt, stands}
 
 -- no pass is left until the end
@@ -29,24 +29,30 @@ mayDoubleOf a = stands a 0 && not (sameSide (a .bidder) (a .turn))
 unfoldable pub mayRedoubleOf : Auction → Bool
 mayRedoubleOf a = stands a 1 && sameSide (a .bidder) (a .turn)
 
--- the verdict on a code: first whether it is a call, then the end, then the call itself
+-- the verdict on a code after a mark: a bid at or below the last one is allowed, and else the mark is wrong
+unfoldable pub markedVerdict : Auction → ℕ → Verdict
+markedVerdict a c = if leb 3 c && leb c (a .last) then Allowed else WrongMark
+
+-- the verdict on a code: first whether it is a call or a mark, then the end, then what may follow a mark, then the code itself; a mark is above every bid
 unfoldable pub verdictOf : Auction → ℕ → Verdict
 verdictOf a c =
-    if ltb 37 c then NotACall
+    if ltb 38 c then NotACall
     else if overOf a then AfterEnd
+    else if a .marked then markedVerdict a c
     else if eqb c pass then Allowed
     else if eqb c double then (if mayDoubleOf a then Allowed else Inadmissible)
     else if eqb c redouble then (if mayRedoubleOf a then Allowed else Inadmissible)
     else if ltb (a .last) c then Allowed
     else Insufficient
 
--- the number of a verdict among the refusals, 0 for a call that is allowed
+-- the number of a verdict among the refusals, 0 for a code that is allowed
 abbrev pub numberOf : Verdict → ℕ
 numberOf Allowed = accepted
 numberOf NotACall = noCall
 numberOf AfterEnd = callAfterEnd
 numberOf Insufficient = insufficientBid
 numberOf Inadmissible = inadmissibleDouble
+numberOf WrongMark = wrongMark
 
 -- the number that a code is refused with
 unfoldable pub refusalOf : Auction → ℕ → ℕ

@@ -1,12 +1,12 @@
--- The position of an auction: before the first call, after one more, and after a history of calls. It holds no history.
+-- The position of an auction: before the first call, after one more code, and after a history of calls and marks. It holds no history.
 -- Assumes nothing.
 use Prim.Native.Nat.{ℕ, _+_, _-_, _*_, _/_, _%_, _^_}
-use mathlib.Core.Bool.{Bool}
+use mathlib.Core.Bool.{Bool, false}
 use mathlib.Core.List.{List, [], _∷_}
 use lib.Dec.{eqb}
 use Rattle.laws.specs.Choice.{if_then_else_}
 use Rattle.laws.specs.Cards.{noSeat, clockwise, sideOf}
-use Rattle.laws.specs.Auction.{pass, double, redouble, isBid, strainOf}
+use Rattle.laws.specs.Auction.{pass, double, redouble, mark, isBid, isPassOrMark, strainOf}
 use Rattle.auction.specs.declared.Auction.{Auction}
 
 -- the place of a seat's side and a bid's strain among the first bidders
@@ -43,26 +43,32 @@ beforeCalls dealer =
       doubling = 0;
       left = 4;
       first = 0;
+      marked = false;
     }
 
--- after a call: a pass leaves one pass less until the end; what is no call takes a turn, and no bid stands after it
+-- after a code: a pass leaves one pass less until the end; a mark takes no turn; what is neither a call nor a mark takes one, and no bid stands after it
 unfoldable pub afterCall : Auction → ℕ → Auction
 afterCall a c =
     record {
-      turn = clockwise (a .turn) 1;
+      turn = if eqb c mark then a .turn else clockwise (a .turn) 1;
       last = if isBid c then c else a .last;
       bidder = if isBid c then a .turn else a .bidder;
       doubling =
           if isBid c then 4
           else if eqb c double then (if stands a 0 then 5 else 1)
           else if eqb c redouble then 2
-          else if eqb c pass then a .doubling
+          else if isPassOrMark c then a .doubling
           else a .doubling % 4;
-      left = if eqb c pass then a .left - 1 else if isBid c then 3 else passesToEnd (a .last);
+      left =
+          if eqb c pass then a .left - 1
+          else if eqb c mark then a .left
+          else if isBid c then 3
+          else passesToEnd (a .last);
       first = if isBid c then entered (a .first) (firstPlace (a .turn) c) (a .turn) else a .first;
+      marked = eqb c mark;
     }
 
--- after a history, the latest call first
+-- after a history, the latest code first
 unfoldable pub positionOf : ℕ → List ℕ → Auction
 positionOf dealer [] = beforeCalls dealer
 positionOf dealer (c ∷ h) = afterCall (positionOf dealer h) c

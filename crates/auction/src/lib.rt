@@ -1,23 +1,39 @@
-// The auction, a call at a time: a position that steps and returns itself, and holds no history.
+// The auction, a code at a time: a position that steps and returns itself, and holds no history. A code is a call, or a mark: the next call is an
+// insufficient bid that was accepted.
 use laws::ACCEPTED;
 use laws::CALL_AFTER_END;
 use laws::INADMISSIBLE_DOUBLE;
 use laws::INSUFFICIENT_BID;
 use laws::NO_CALL;
+use laws::WRONG_MARK;
 ghost use mathlib.Core.Path.{_≡_};
 ghost use mathlib.Core.List.{[]};
 ghost use Prim.Native.Nat.{_-_, _<_, _≤_};
 ghost use lib.Dec.{eqb};
 ghost use Rattle.laws.specs.Choice.{if_then_else_};
 ghost use Rattle.laws.specs.Cards.{clockwise};
+ghost use Rattle.laws.specs.CallRefusal.{placeOf};
 ghost use Rattle.auction.specs.Position.{passesToEnd, entryAt, entered, seatAt, afterCall, positionOf};
-ghost use Rattle.auction.specs.Asked.{overOf, passedOutOf, mayDoubleOf, mayRedoubleOf, contractOf, verdictOf, numberOf, refusalOf};
+ghost use Rattle.auction.specs.Asked.{
+  overOf,
+  passedOutOf,
+  mayDoubleOf,
+  mayRedoubleOf,
+  contractOf,
+  markedVerdict,
+  verdictOf,
+  numberOf,
+  refusalOf,
+};
 
 // The seat that stands for nobody.
 const NOBODY: u8 = 4;
 
 // The highest call, seven notrump.
 const HIGHEST: u8 = 37;
+
+// The mark.
+const MARK: u8 = 38;
 
 pub struct Auction {
     // Whose turn it is.
@@ -32,6 +48,8 @@ pub struct Auction {
     left: u8,
     // Three bits at each place 5 × side + strain: 0, or 1 + the first player of the side to have bid the strain.
     first: u64,
+    // Whether the latest code is a mark.
+    marked: bool,
 }
 
 // What is said of a code: it is allowed, or what is wrong with it.
@@ -41,6 +59,7 @@ pub enum Verdict {
     AfterEnd,
     Insufficient,
     Inadmissible,
+    WrongMark,
 }
 
 impl Verdict {
@@ -54,6 +73,7 @@ impl Verdict {
             Verdict::AfterEnd => CALL_AFTER_END,
             Verdict::Insufficient => INSUFFICIENT_BID,
             Verdict::Inadmissible => INADMISSIBLE_DOUBLE,
+            Verdict::WrongMark => WRONG_MARK,
         }
     }
 }
@@ -73,6 +93,16 @@ impl Contract {
     {
         (self.declarer % 4 + 1) % 4
     }
+}
+
+// The place of a refusal at a code with so many codes before it: a wrong mark is the code before.
+pub fn place_of(refusal: u8, codes: u16) -> u16
+    ensures { λ r. ⌜ r ≡ placeOf refusal codes ⌝ }
+{
+    if refusal != WRONG_MARK {
+        return codes;
+    }
+    if codes == 0 { 0 } else { codes - 1 }
 }
 
 // The seat to the left.
@@ -162,13 +192,19 @@ impl Auction {
             doubling: 0,
             left: 4,
             first: 0,
+            marked: false,
         }
     }
 
-    // The position after a call. What is no call takes a turn, and no bid stands after it.
+    // The position after a code. A mark takes no turn; what is neither a call nor a mark takes one, and no bid stands after it.
     pub fn call(mut self, code: u8) -> Self
         ensures { λ r. ⌜ r ≡ afterCall self code ⌝ }
     {
+        if code == MARK {
+            self.marked = true;
+            return self;
+        }
+        self.marked = false;
         let turn = self.turn;
         self.turn = next_seat(turn);
         if code == 0 {
@@ -219,15 +255,31 @@ impl Auction {
         false
     }
 
-    // The verdict on a code, called by the seat at turn.
+    // The verdict on a code after a mark: it is a bid at or below the last one, or the mark is wrong.
+    fn marked_verdict(self, code: u8) -> Verdict
+        ensures { λ r. ⌜ r ≡ markedVerdict self code ⌝ }
+    {
+        if code < 3 {
+            return Verdict::WrongMark;
+        }
+        if code > self.last {
+            return Verdict::WrongMark;
+        }
+        Verdict::Allowed
+    }
+
+    // The verdict on a code by the seat at turn. A mark is above every bid, and so taken.
     pub fn verdict(self, code: u8) -> Verdict
         ensures { λ r. ⌜ r ≡ verdictOf self code ⌝ }
     {
-        if HIGHEST < code {
+        if MARK < code {
             return Verdict::NotACall;
         }
         if self.is_over() {
             return Verdict::AfterEnd;
+        }
+        if self.marked {
+            return self.marked_verdict(code);
         }
         if code == 0 {
             return Verdict::Allowed;

@@ -1,11 +1,11 @@
 -- The loop over the cards: the play's position is that of the history, and its refusal is the Law's.
 -- Assumes nothing.
 use Prim.Native.Nat.{ℕ, _≤_, _<_, _+_}
-use mathlib.Core.Path.{_≡_, refl, sym, ap, _∙_, subst}
+use mathlib.Core.Path.{_≡_, sym, ap, _∙_, subst}
 use mathlib.Core.List.{List, []}
 use lib.ListN.{length}
 use Rattle.laws.specs.Law44.{cardsPlayed}
-use Rattle.laws.specs.CardRefusal.{cardRefusal}
+use Rattle.laws.specs.CardRefusal.{cardRefusal, cardPlace}
 use Rattle.laws.specs.Reading.{Reading, Reading.refused, Reading.found, read, readEach}
 use Rattle.deal.specs.Hands.{wordsOf}
 use Rattle.play.specs.declared.Play.{Play}
@@ -16,30 +16,26 @@ use Rattle.play.proofs.Verdicts.{all-played, verdict-law}
 use Rattle.judge.specs.Sections.{noCards, cardsOf}
 use Rattle.judge.proofs.Turns.{Reached, begins, ends, short, stops, goes}
 
-placed : (g : List ℕ) → cardsPlayed g ≡ length g
-unfolding cardsPlayed
-placed g = refl
-
 module _ (bytes deal : List ℕ) (trump opening at n : ℕ) where
   abbrev pub CardsAt : Play → ℕ → ℕ → Type 0
-  CardsAt p here i = Reached 6 cardsPlayed (cardRefusal trump opening deal) bytes at n (positionOf deal trump opening) p here i
+  CardsAt p here i = Reached 6 cardPlace (cardRefusal trump opening deal) bytes at n (positionOf deal trump opening) p here i
 
   abbrev cards : Reading (List ℕ)
-  cards = readEach 6 cardsPlayed (cardRefusal trump opening deal) n [] bytes at
+  cards = readEach 6 cardPlace (cardRefusal trump opening deal) n [] bytes at
 
   card-begins : {p : Play} → p ≡ startOf deal (wordsOf deal) trump opening → CardsAt p at 0
   unfolding positionOf
-  card-begins e = begins 6 cardsPlayed (cardRefusal trump opening deal) placed bytes at n (positionOf deal trump opening) e
+  card-begins e = begins 6 cardPlace (cardRefusal trump opening deal) bytes at n (positionOf deal trump opening) e
 
   pub card-ends : {p : Play} {here i : ℕ} → CardsAt p here i → n ≤ i → record { refusal = 0; next = here; after = p } ≡ cardsOf deal trump opening cards
   card-ends {p} {here} r t =
       ap (λ (x : Play). record { refusal = 0; next = here; after = x }) (r .position)
-      ∙ sym (ap (cardsOf deal trump opening) (ends 6 cardsPlayed (cardRefusal trump opening deal) placed bytes at n (positionOf deal trump opening) r t))
+      ∙ sym (ap (cardsOf deal trump opening) (ends 6 cardPlace (cardRefusal trump opening deal) bytes at n (positionOf deal trump opening) r t))
 
   module _ {p : Play} {here i : ℕ} (r : CardsAt p here i) (t : i < n) where
     pub card-short : read 6 bytes here ≡ refused 2 0 → noCards 2 0 ≡ cardsOf deal trump opening cards
     card-short q = sym (ap (cardsOf deal trump opening)
-        (short 6 cardsPlayed (cardRefusal trump opening deal) placed bytes at n (positionOf deal trump opening) r t q))
+        (short 6 cardPlace (cardRefusal trump opening deal) bytes at n (positionOf deal trump opening) r t q))
 
     module _ (all : length deal ≡ 52) {c f : ℕ} (q : read 6 bytes here ≡ found c (here + 6)) (e : f ≡ verdictNumber (verdictOf p c)) where
       law : f ≡ cardRefusal trump opening deal (r .history) c
@@ -48,13 +44,14 @@ module _ (bytes deal : List ℕ) (trump opening at n : ℕ) where
           ∙ verdict-law deal trump opening all (r .history) (all-played deal trump opening (r .history) (r .clean)) c
 
       pub card-stops : (f ≡ 0 → ⊥) → noCards f i ≡ cardsOf deal trump opening cards
-      card-stops z = sym (ap (cardsOf deal trump opening)
-          (stops 6 cardsPlayed (cardRefusal trump opening deal) placed bytes at n (positionOf deal trump opening) r t q law z))
+      unfolding cardsPlayed
+      card-stops z = ap (noCards f) (sym (r .many)) ∙ sym (ap (cardsOf deal trump opening)
+          (stops 6 cardPlace (cardRefusal trump opening deal) bytes at n (positionOf deal trump opening) r t q law z))
 
       pub card-goes : f ≡ 0 → {b : Play} → b ≡ step p c → CardsAt b (here + 6) (i + 1)
       unfolding positionOf
       card-goes z s =
-          goes 6 cardsPlayed (cardRefusal trump opening deal) placed bytes at n (positionOf deal trump opening) r t q law z
+          goes 6 cardPlace (cardRefusal trump opening deal) bytes at n (positionOf deal trump opening) r t q law z
           (s ∙ ap (λ (x : Play). step x c) (r .position))
 
 -- ---- the loop speaks of the deal that its first position has

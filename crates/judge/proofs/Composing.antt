@@ -11,8 +11,8 @@ use lib.ListN.{length}
 use Rattle.laws.specs.Reading.{Reading, Reading.refused, Reading.found, onward, numberAt, readEach}
 use Rattle.laws.specs.Law44.{cardsPlayed}
 use Rattle.laws.specs.Refusals.{auctionUnfinished, tooManyCards}
-use Rattle.laws.specs.CallRefusal.{callRefusal}
-use Rattle.laws.specs.CardRefusal.{cardRefusal}
+use Rattle.laws.specs.CallRefusal.{callRefusal, callPlace}
+use Rattle.laws.specs.CardRefusal.{cardRefusal, cardPlace}
 use Rattle.laws.specs.Law2.{dealer}
 use Rattle.laws.specs.Auction as Law
 use Rattle.laws.specs.Judge as Judge
@@ -41,7 +41,7 @@ use Rattle.judge.specs.Whole.{OfCards, OfCalls, afterCards, afterCalls, 
 pub found-same : {A : Type 0} {h g : A} {at e : ℕ} → _≡_ {A = Reading A} (found h at) (found g e) → (h ≡ g) × (at ≡ e)
 found-same q = (cc, cc)
 
-each-found : (w : ℕ) (place : List ℕ → ℕ) (rule : List ℕ → ℕ → ℕ) (bytes : List ℕ) (n : ℕ) (h : List ℕ) (at : ℕ) {g : List ℕ} {e : ℕ}
+each-found : (w : ℕ) (place rule : List ℕ → ℕ → ℕ) (bytes : List ℕ) (n : ℕ) (h : List ℕ) (at : ℕ) {g : List ℕ} {e : ℕ}
     → readEach w place rule n h bytes at ≡ found g e → Clean rule h → Clean rule g × (e ≡ at + w * n)
 unfolding readEach Clean
 each-found w place rule bytes zero h at q c =
@@ -50,7 +50,7 @@ each-found w place rule bytes zero h at q c =
 each-found w place rule bytes (suc n) h at q c =
     let r = first-read w bytes at _ q in
     let code = numberAt bytes at w in
-    let t = first-test (rule h code) (place h) (not (eqb (rule h code) 0)) bytes (at + w) _ (r .1) in
+    let t = first-test (rule h code) (place h code) (not (eqb (rule h code) 0)) bytes (at + w) _ (r .1) in
     let f = each-found w place rule bytes n (code ∷ h) (at + w) (t .1) (eqb-true (rule h code) 0 (not-false (eqb (rule h code) 0) (t .0)), c) in
     (f .0, omega (arith, f .1, mul-suc w n))
 
@@ -60,9 +60,9 @@ unfolding Judge.readCalls Clean
 calls-next d bytes at q =
     let r = first-read 9 bytes at _ q in
     let count = numberAt bytes at 9 in
-    let s = first-of (readEach 6 Law.callPlace (callRefusal d) count [] bytes (at + 9)) _ (r .1) in
+    let s = first-of (readEach 6 (callPlace d) (callRefusal d) count [] bytes (at + 9)) _ (r .1) in
     let t = first-test auctionUnfinished count (not (Law.isOver (s .0))) bytes (s .1) _ (s .3) in
-    let f = each-found 6 Law.callPlace (callRefusal d) bytes count [] (at + 9) (s .2) tt in
+    let f = each-found 6 (callPlace d) (callRefusal d) bytes count [] (at + 9) (s .2) tt in
     let z = found-same (t .1) in
     (omega (arith, f .1, z .1), omega (arith, f .1, z .1, number-lt bytes at 9))
 
@@ -78,7 +78,7 @@ cards-found out trump opening deal bytes at {g} {e} q =
     let r = first-read 6 bytes at _ q in
     let count = numberAt bytes at 6 in
     let t = first-test tooManyCards count (ltb 52 count || (out && ltb 0 count)) bytes (at + 6) _ (r .1) in
-    let f = each-found 6 cardsPlayed (cardRefusal trump opening deal) bytes count [] (at + 6) (t .1) tt in
+    let f = each-found 6 cardPlace (cardRefusal trump opening deal) bytes count [] (at + 6) (t .1) tt in
     record { played = all-played deal trump opening g (f .0); next = omega (arith, f .1, number-lt bytes at 6) }
 
 -- a refusal of the cards is not 0
@@ -87,7 +87,7 @@ unfolding cardsBy cardsPlayed
 fair-by out trump opening deal bytes at =
     fair-read 6 bytes at _ (λ n ln.
     fair-test tooManyCards n (ltb 52 n || (out && ltb 0 n)) bytes (at + 6) _ (λ t. at-place refl (omega arith))
-    (fair-each 6 cardsPlayed (cardRefusal trump opening deal) (λ g. refl) (numbered trump opening deal) n [] bytes (at + 6)
+    (fair-each 6 cardPlace (cardRefusal trump opening deal) (λ g c. omega arith) (numbered trump opening deal) n [] bytes (at + 6)
     (omega arith)))
 
 -- ---- the cards in the code: bounds on the position, whatever the calls were

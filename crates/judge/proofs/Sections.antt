@@ -9,13 +9,12 @@ use lib.Dec.{eqb, ltb}
 use lib.ListN.{length}
 use Rattle.laws.specs.Choice.{if_then_else_}
 use Rattle.laws.specs.Refusals.{auctionUnfinished}
-use Rattle.laws.specs.Auction.{callPlace, isOver}
-use Rattle.laws.specs.CallRefusal.{callRefusal}
-use Rattle.laws.specs.Law44.{cardsPlayed}
-use Rattle.laws.specs.CardRefusal.{cardRefusal}
+use Rattle.laws.specs.Auction.{isOver}
+use Rattle.laws.specs.CallRefusal.{callRefusal, callPlace}
+use Rattle.laws.specs.CardRefusal.{cardRefusal, cardPlace}
 use Rattle.laws.specs.Reading.{Reading, Reading.refused, Reading.found, onward, numberAt, read, refuse, readEach, overfull}
 use Rattle.laws.specs.Judge as Law
-use Rattle.laws.proofs.CallRefusals.{numbered}
+use Rattle.laws.proofs.CallRefusals.{numbered, call-place-le}
 use Rattle.laws.proofs.Numbered.{Fair, not-0, fair-each}
 use Rattle.laws.proofs.Tests.{by-test}
 use Rattle.auction.specs.Asked.{overOf}
@@ -55,7 +54,7 @@ module _ (d : ℕ) (bytes : List ℕ) (at : ℕ) where
 
   module _ (count : ℕ) (ec : read 9 bytes at ≡ found count (at + 9)) where
     abbrev each : Reading (List ℕ)
-    each = readEach 6 callPlace (callRefusal d) count [] bytes (at + 9)
+    each = readEach 6 (callPlace d) (callRefusal d) count [] bytes (at + 9)
 
     -- what follows the reading of each call
     abbrev ended : Reading (List ℕ) → Reading (List ℕ)
@@ -85,8 +84,7 @@ module _ (d : ℕ) (bytes : List ℕ) (at : ℕ) where
 
       module _ (few : count < 512) (e : k .refusal ≡ 0) where
         fair : Fair each
-        unfolding callPlace
-        fair = fair-each 6 callPlace (callRefusal d) (λ h. refl) (numbered d) count [] bytes (at + 9) (omega arith)
+        fair = fair-each 6 (callPlace d) (callRefusal d) (call-place-le d) (numbered d) count [] bytes (at + 9) (omega arith)
 
         pub calls-open : overOf (k .after) ≡ false → noCalls 9 count ≡ callsOf d (Law.readCalls d bytes at)
         calls-open o = open-end each fair (rw ek at e) (rw ek at o) ∙ ap (callsOf d) (sym whole)
@@ -115,7 +113,7 @@ module _ (out : Bool) (trump opening : ℕ) (deal bytes : List ℕ) (at : ℕ) w
     too-many-cards h = rw (ec, over-most out count ∙ lt-ltb (if out then 0 else 52) count h)
 
     pub cards-read : count ≤ (if out then 0 else 52)
-        → cardsOf deal trump opening (readEach 6 cardsPlayed (cardRefusal trump opening deal) count [] bytes (at + 6))
+        → cardsOf deal trump opening (readEach 6 cardPlace (cardRefusal trump opening deal) count [] bytes (at + 6))
         ≡ cardsOf deal trump opening (cardsBy out trump opening deal bytes at)
     unfolding cardsBy refuse
     cards-read h = rw (ec, over-most out count ∙ le-ltb (if out then 0 else 52) count h)

@@ -12,7 +12,7 @@ use Rattle.laws.proofs.Histories.{Clean}
 use Rattle.laws.specs.Reading.{Reading, Reading.refused, Reading.found, read, refuse, readEach}
 
 -- after i of n codes, at the bit `here`: a is the state of their history
-pub record Reached (w : ℕ) (place : List ℕ → ℕ) (rule : List ℕ → ℕ → ℕ) (bytes : List ℕ) (at n : ℕ) {A : Type 0} (state : List ℕ → A) (a : A)
+pub record Reached (w : ℕ) (place rule : List ℕ → ℕ → ℕ) (bytes : List ℕ) (at n : ℕ) {A : Type 0} (state : List ℕ → A) (a : A)
     (here i : ℕ) : Type 0 where
   pub history : List ℕ
   pub position : a ≡ state history
@@ -22,7 +22,7 @@ pub record Reached (w : ℕ) (place : List ℕ → ℕ) (rule : List ℕ → ℕ
   pub along : here ≡ at + w * i
   pub same : readEach w place rule (n - i) history bytes here ≡ readEach w place rule n [] bytes at
 
-module _ (w : ℕ) (place : List ℕ → ℕ) (rule : List ℕ → ℕ → ℕ) (placed : (h : List ℕ) → place h ≡ length h) (bytes : List ℕ) (at n : ℕ) {A : Type 0}
+module _ (w : ℕ) (place rule : List ℕ → ℕ → ℕ) (bytes : List ℕ) (at n : ℕ) {A : Type 0}
     (state : List ℕ → A) where
   abbrev whole : Reading (List ℕ)
   whole = readEach w place rule n [] bytes at
@@ -47,11 +47,11 @@ module _ (w : ℕ) (place : List ℕ → ℕ) (rule : List ℕ → ℕ → ℕ) 
         sym (rw m at (r .same)) ∙ rw q
 
     module _ {c f : ℕ} (q : read w bytes here ≡ found c (here + w)) (e : f ≡ rule (r .history) c) where
-      pub stops : (f ≡ 0 → ⊥) → whole ≡ refused f i
+      pub stops : (f ≡ 0 → ⊥) → whole ≡ refused f (place (r .history) c)
       unfolding readEach refuse
       stops z =
           let m : n - i ≡ suc (n - (i + 1)) = omega arith in
-          sym (rw m at (r .same)) ∙ rw (q, ← e, placed (r .history), r .many, ne-eqb f 0 z)
+          sym (rw m at (r .same)) ∙ rw (q, ← e, ne-eqb f 0 z)
 
       pub goes : f ≡ 0 → {b : A} → b ≡ state (c ∷ r .history) → Reached w place rule bytes at n state b (here + w) (i + 1)
       unfolding Clean readEach refuse

@@ -7,8 +7,7 @@ use lib.Dec.{eqb, ltb, leb}
 use lib.ListN.{getD, replicate}
 use Rattle.laws.specs.Choice.{if_then_else_}
 use Rattle.laws.specs.Refusals.{refusalNumber, tooManyCards, playUnfinished, noClaimPoint, claimTooMany}
-use Rattle.laws.specs.Law44.{cardsPlayed}
-use Rattle.laws.specs.CardRefusal.{cardRefusal}
+use Rattle.laws.specs.CardRefusal.{cardRefusal, cardPlace}
 use Rattle.laws.specs.Law68.{Claim, none, agreed}
 use Rattle.laws.specs.Reading.{Reading, Reading.refused, Reading.found, Reader, onward, _>>=_, _>>_, give, numberAt, read, refuse, readEach}
 use Rattle.laws.specs.Judge as Law
@@ -70,7 +69,7 @@ unfoldable pub cardsBy : Bool → ℕ → ℕ → List ℕ → Reader (List ℕ)
 cardsBy out trump opening deal = do
   count ← read 6
   refuse tooManyCards count (ltb 52 count || (out && ltb 0 count))
-  readEach 6 cardsPlayed (cardRefusal trump opening deal) count []
+  readEach 6 cardPlace (cardRefusal trump opening deal) count []
 
 -- ---- claim
 abbrev pub noClaim : ℕ → ℕ → Read

@@ -11,8 +11,7 @@ ghost use mathlib.Core.Path.{_≡_};
 ghost use mathlib.Core.List.{[]};
 ghost use Prim.Native.Nat.{_<_, _≤_};
 ghost use Rattle.laws.specs.Choice.{if_then_else_};
-ghost use Rattle.laws.specs.Law44.{cardsPlayed};
-ghost use Rattle.laws.specs.CardRefusal.{cardRefusal};
+ghost use Rattle.laws.specs.CardRefusal.{cardRefusal, cardPlace};
 ghost use Rattle.laws.specs.Reading.{readEach};
 ghost use Rattle.deal.specs.Hands.{wordsOf};
 ghost use Rattle.judge.specs.Sections.{noCards, cardsOf, cardsBy};
@@ -46,7 +45,7 @@ fn read_each_card(
     count: u8,
 ) -> Cards
     requires { ⌜ (8 ≤ at) × (at < 65536) × (count < 64) × (hands ≡ wordsOf deal) ⌝ }
-    ensures { λ r. ⌜ r ≡ cardsOf deal trump opening (readEach 6 cardsPlayed (cardRefusal trump opening deal) count [] (now (bytes .entry)) at) ⌝ }
+    ensures { λ r. ⌜ r ≡ cardsOf deal trump opening (readEach 6 cardPlace (cardRefusal trump opening deal) count [] (now (bytes .entry)) at) ⌝ }
 {
     let whole = whole_codes(bytes, at, count as u16);
     let mut p = Play::new(deal, hands, trump, opening);

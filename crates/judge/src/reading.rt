@@ -12,8 +12,7 @@ ghost use mathlib.Core.Path.{_≡_};
 ghost use mathlib.Core.List.{[]};
 ghost use Prim.Native.Nat.{_+_, _*_, _<_, _≤_};
 ghost use lib.ListN.{length};
-ghost use Rattle.laws.specs.Auction.{callPlace};
-ghost use Rattle.laws.specs.CallRefusal.{callRefusal};
+ghost use Rattle.laws.specs.CallRefusal.{callRefusal, callPlace};
 ghost use Rattle.laws.specs.Reading.{readEach};
 ghost use Rattle.laws.specs.Judge.{readHeading, readDeal, readCalls};
 ghost use Rattle.judge.specs.Sections.{noHeading, headingOf, noCalls, callsOf, noDeal, dealOf, rowAt, foursOf};
@@ -93,7 +92,7 @@ fn no_calls(refusal: u8, place: u16) -> Calls
 // So many calls from a bit on, each judged on those before it.
 fn read_each_call(bytes: &[u8], dealer: u8, at: usize, count: u16) -> Calls
     requires { ⌜ (8 ≤ at) × (at < 65536) × (count < 512) ⌝ }
-    ensures { λ r. ⌜ r ≡ callsOf dealer (readEach 6 callPlace (callRefusal dealer) count [] (now (bytes .entry)) at) ⌝ }
+    ensures { λ r. ⌜ r ≡ callsOf dealer (readEach 6 (callPlace dealer) (callRefusal dealer) count [] (now (bytes .entry)) at) ⌝ }
 {
     let whole = whole_codes(bytes, at, count);
     let mut a = Auction::new(dealer);
@@ -103,7 +102,7 @@ fn read_each_call(bytes: &[u8], dealer: u8, at: usize, count: u16) -> Calls
         let c = code_ending(bytes, here + 5);
         let f = a.refusal(c);
         if f != 0 {
-            return no_calls(f, i as u16);
+            return no_calls(f, auction::place_of(f, i as u16));
         }
         a = a.call(c);
         here += 6;

@@ -9,11 +9,10 @@ use lib.Dec.{ltb}
 use lib.ListN.{length, getD}
 use Rattle.laws.specs.Choice.{some}
 use Rattle.laws.specs.Law2.{dealer}
-use Rattle.laws.specs.Refusals.{tooManyCards}
-use Rattle.laws.specs.Auction.{callPlace, trumpAfter, openingAfter}
-use Rattle.laws.specs.CallRefusal.{callRefusal}
-use Rattle.laws.specs.Law44.{cardsPlayed}
-use Rattle.laws.specs.CardRefusal.{cardRefusal}
+use Rattle.laws.specs.Refusals.{tooManyCards, tooManyCodes}
+use Rattle.laws.specs.Auction.{trumpAfter, openingAfter}
+use Rattle.laws.specs.CallRefusal.{callRefusal, callPlace}
+use Rattle.laws.specs.CardRefusal.{cardRefusal, cardPlace}
 use Rattle.laws.specs.Law68.{Claim, none, agreed}
 use Rattle.laws.specs.Record.{Parts, Field, field, row, bits, claimFields, layout, encode}
 use Rattle.laws.specs.Reading.{Reading, Reading.refused, Reading.found, onward}
@@ -86,16 +85,17 @@ outcome-turn (found a m) end v f g e = e a m refl
 calls-history : (d : ℕ) (calls : List ℕ) (from : ℕ) {h : List ℕ} {m : ℕ} → takeCalls d calls [] from ≡ found h m → h ≡ reverse calls
 unfolding takeCalls
 calls-history d calls from {h} q =
-    let a = first-of (takeEach callPlace (callRefusal d) calls [] [] from) _ q in
+    let f = first-test tooManyCodes 511 _ [] from _ q in
+    let a = first-of (takeEach (callPlace d) (callRefusal d) calls [] [] from) _ (f .1) in
     let t = first-test 9 (length calls) _ [] (a .1) _ (a .3) in
     let same : a .0 ≡ h = cc in
-    sym same ∙ each-history callPlace (callRefusal d) calls [] from (a .2)
+    sym same ∙ each-history (callPlace d) (callRefusal d) calls [] from (a .2)
 
 pub cards-history : (d : ℕ) (deal h cards : List ℕ) (from : ℕ) {g : List ℕ} {m : ℕ} → takeCards d deal h cards [] from ≡ found g m → g ≡ reverse cards
 unfolding takeCards
 cards-history d deal h cards from q =
     let t = first-test tooManyCards _ _ [] from _ q in
-    each-history cardsPlayed (cardRefusal (trumpAfter h) (openingAfter d h) deal) cards [] from (t .1)
+    each-history cardPlace (cardRefusal (trumpAfter h) (openingAfter d h) deal) cards [] from (t .1)
 
 module _ (p : Parts) (fits : Fits p) where
   -- what is said of the contents is what the judge says of their record
@@ -122,7 +122,7 @@ module _ (p : Parts) (fits : Fits p) where
       (outcome-turn (takeHeading (p .board) (p .table) [] 0) m₁ (λ u. x) _ _ (λ u n₁ q₁.
       rw (deal-taken bytes m₁ n₁ (p .deal) (are-seats p fits) (fits .holders) (narrow-holders p fits) (stands-front bytes (row 2 (p .deal)) _ m₁ s₁))
       (outcome-turn (takeDeal (p .deal) [] n₁) m₂ (λ u. p .deal) _ _ (λ u n₂ q₂.
-      rw (calls-taken bytes m₂ n₂ d (p .calls) (stands-front bytes calls _ m₂ s₂))
+      rw (calls-taken bytes m₂ n₂ d (p .calls) (fits .calls) (stands-front bytes calls _ m₂ s₂))
       (outcome-turn (takeCalls d (p .calls) [] n₂) m₃ (λ h. h) _ _ (λ h n₃ q₃.
       rw (cards-taken bytes m₃ n₃ d (p .deal) h (p .cards) (fits .cards) (stands-front bytes cards last m₃ s₃))
       (outcome-turn (takeCards d (p .deal) h (p .cards) [] n₃) m₄ (λ g. g) _ _ (λ g n₄ q₄.

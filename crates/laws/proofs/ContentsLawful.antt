@@ -9,13 +9,13 @@ use borrow.Author.Tests.{eqb-true, leb-true, ltb-false, not-false, not-true}
 use lib.Dec.{ltb, eqb, lit≤}
 use lib.ListN.{length, getD}
 use Rattle.laws.specs.Choice.{some}
-use Rattle.laws.specs.Refusals.{accepted, noBoardOrTable, notThirteen, tooManyCards, noClaimPoint}
+use Rattle.laws.specs.Refusals.{accepted, noBoardOrTable, notThirteen, tooManyCards, noClaimPoint, tooManyCodes}
 use Rattle.laws.specs.Cards.{noSeat}
 use Rattle.laws.specs.Law2.{dealer}
-use Rattle.laws.specs.Auction.{callPlace, passedOut, trumpAfter, openingAfter}
-use Rattle.laws.specs.CallRefusal.{callRefusal}
+use Rattle.laws.specs.Auction.{passedOut, trumpAfter, openingAfter}
+use Rattle.laws.specs.CallRefusal.{callRefusal, callPlace}
 use Rattle.laws.specs.Law44.{cardsPlayed, tricksLeft}
-use Rattle.laws.specs.CardRefusal.{cardRefusal}
+use Rattle.laws.specs.CardRefusal.{cardRefusal, cardPlace}
 use Rattle.laws.specs.Law68.{Claim, none, agreed, atClaimPoint, claimable}
 use Rattle.laws.specs.Record.{Parts, encode, packed}
 use Rattle.laws.specs.Bytes.{Bytes}
@@ -28,7 +28,6 @@ use Rattle.laws.proofs.Bytes.{bytes-of}
 use Rattle.laws.proofs.CallRefusals.{accepted-is, allowed-lt}
 use Rattle.laws.proofs.CardRefusals.{accepted-playable, playable-dealt}
 use Rattle.laws.proofs.Histories.{Each, each-place}
-use Rattle.laws.proofs.LongestAuction.{at-most-319-in-order}
 use Rattle.laws.proofs.Readings.{refused-found, first-of, first-test}
 use Rattle.laws.proofs.Accepts.{lent-is, read-back, accepts-parts}
 use Rattle.laws.proofs.Contents.{as-judged}
@@ -61,32 +60,33 @@ deal-kept deal from q =
     let all : length deal ≡ 52 = eqb-true (length deal) 52 (and-left (eqb (length deal) 52) _ seats) in
     record { all = all; seat = λ k h. each-seat deal (not-true _ (and-right (eqb (length deal) 52) _ seats)) k (omega arith) }
 
-module _ (place : List ℕ → ℕ) (rule : List ℕ → ℕ → ℕ) where
+module _ (place rule : List ℕ → ℕ → ℕ) where
   pub each-kept : (l h : List ℕ) (from : ℕ) {g : List ℕ} {m : ℕ} → takeEach place rule l h [] from ≡ found g m → Each (λ b c. rule b c ≡ accepted) h l
   unfolding takeEach Each
   each-kept [] h from e = tt
   each-kept (c ∷ l) h from e =
-      let t = first-test (rule h c) (place h) (not (eqb (rule h c) accepted)) [] from _ e in
+      let t = first-test (rule h c) (place h c) (not (eqb (rule h c) accepted)) [] from _ e in
       (eqb-true (rule h c) accepted (not-false _ (t .0)), each-kept l (c ∷ h) from (t .1))
 
 -- codes that an auction allows
 pub record Allowed (calls : List ℕ) : Type 0 where
-  pub few : length calls ≤ 319
+  pub few : length calls ≤ 511
   pub code : (k : ℕ) → k < length calls → getD calls k 0 ≤ 63
 
-pub allowed-each : (d : ℕ) (calls : List ℕ) → Each (λ h c. callRefusal d h c ≡ accepted) [] calls → Allowed calls
-allowed-each d calls e =
+pub allowed-each : (d : ℕ) (calls : List ℕ) → length calls ≤ 511 → Each (λ h c. callRefusal d h c ≡ accepted) [] calls → Allowed calls
+allowed-each d calls few e =
     let at = each-place (λ h c. callRefusal d h c ≡ accepted) calls .0 e in
     record {
-      few = at-most-319-in-order d calls (λ k h. accepted-is d _ _ .0 (at k h));
+      few = few;
       code = λ k h. let b = allowed-lt d _ _ (accepted-is d _ _ .0 (at k h)) in omega arith;
     }
 
 calls-kept : (d : ℕ) (calls : List ℕ) (from : ℕ) {h : List ℕ} {m : ℕ} → takeCalls d calls [] from ≡ found h m → Allowed calls
 unfolding takeCalls
 calls-kept d calls from q =
-    let a = first-of (takeEach callPlace (callRefusal d) calls [] [] from) _ q in
-    allowed-each d calls (each-kept callPlace (callRefusal d) calls [] from (a .2))
+    let t = first-test tooManyCodes 511 (ltb 511 (length calls)) [] from _ q in
+    let a = first-of (takeEach (callPlace d) (callRefusal d) calls [] [] from) _ (t .1) in
+    allowed-each d calls (ltb-false 511 (length calls) (t .0)) (each-kept (callPlace d) (callRefusal d) calls [] from (a .2))
 
 pub record Playable (cards : List ℕ) : Type 0 where
   pub few : length cards ≤ 52
@@ -98,7 +98,7 @@ cards-kept d deal h cards from all q =
     let trump = trumpAfter h in
     let opening = openingAfter d h in
     let a = first-test tooManyCards (min (length cards) 63) (ltb 52 (length cards) || (passedOut h && ltb 0 (length cards))) [] from _ q in
-    let e = each-kept cardsPlayed (cardRefusal trump opening deal) cards [] from (a .1) in
+    let e = each-kept cardPlace (cardRefusal trump opening deal) cards [] from (a .1) in
     let at = each-place (λ f c. cardRefusal trump opening deal f c ≡ accepted) cards .0 e in
     record {
       few = ltb-false 52 (length cards) (or-left (ltb 52 (length cards)) _ (a .0));

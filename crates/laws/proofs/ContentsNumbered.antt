@@ -7,28 +7,26 @@ use mathlib.Core.List.{List, [], _∷_}
 use borrow.Author.Tests.{eqb-true, not-false, ltb-false}
 use lib.Dec.{ltb, eqb}
 use lib.ListN.{length, length-reverse}
-use Rattle.laws.specs.Refusals.{accepted, noBoardOrTable, notThirteen, auctionUnfinished, tooManyCards, playUnfinished, noClaimPoint, claimTooMany}
+use Rattle.laws.specs.Refusals.{accepted, noBoardOrTable, notThirteen, auctionUnfinished}
+use Rattle.laws.specs.Refusals.{tooManyCards, playUnfinished, noClaimPoint, claimTooMany, tooManyCodes}
 use Rattle.laws.specs.Refusals.{refusesContents}
 use Rattle.laws.specs.Cards.{noSeat, seatWithoutThirteen}
 use Rattle.laws.specs.Law2.{dealer}
-use Rattle.laws.specs.Auction.{callPlace, isOver, passedOut, trumpAfter, openingAfter}
-use Rattle.laws.specs.CallRefusal.{callRefusal}
+use Rattle.laws.specs.Auction.{isOver, passedOut, trumpAfter, openingAfter}
+use Rattle.laws.specs.CallRefusal.{callRefusal, callPlace}
 use Rattle.laws.specs.Law44.{cardsPlayed, allPlayed}
-use Rattle.laws.specs.CardRefusal.{cardRefusal}
+use Rattle.laws.specs.CardRefusal.{cardRefusal, cardPlace}
 use Rattle.laws.specs.Law68.{Claim, none, agreed, atClaimPoint, claimable}
-use Rattle.laws.specs.Lengths.{AllAllowed}
 use Rattle.laws.specs.Record.{Parts}
 use Rattle.laws.specs.Reading.{Reading, Reading.refused, Reading.found, onward, refuse}
 use Rattle.laws.specs.Judge.{Outcome.refused as declined, Outcome.accepted as taken, outcome}
 use Rattle.laws.specs.Contents.{takeHeading, areSeats, takeDeal, takeEach, takeCalls, takeCards, takeClaim, takeParts, contentsOf}
 use Rattle.laws.proofs.Tests.{or-left}
-use Rattle.laws.proofs.CallRefusals.{accepted-is, numbered-by}
+use Rattle.laws.proofs.CallRefusals.{numbered-by, call-place-le}
 use Rattle.laws.proofs.CardRefusals.{numbered-by as card-numbered-by}
-use Rattle.laws.proofs.LongestAuction.{at-most-319}
 use Rattle.laws.proofs.Readings.{first-test}
 use Rattle.laws.proofs.Numbered.{short-le}
 use Rattle.laws.proofs.Contents.{cards-history}
-use Rattle.laws.proofs.ContentsLawful.{each-kept, allowed-each}
 
 -- a number and a place as a refusal of contents has them
 pub record Refuses (n place : ℕ) : Type 0 where
@@ -75,25 +73,25 @@ sound-deal deal from =
     sound-last notThirteen (seatWithoutThirteen deal) (not (eqb (seatWithoutThirteen deal) noSeat)) from (λ t. at-place refl (omega (arith, short-le deal))))
 
 -- codes: Good is what holds of every history that is not refused
-module _ (place : List ℕ → ℕ) (rule : List ℕ → ℕ → ℕ) (Good : List ℕ → Type 0) (more : (h : List ℕ) (c : ℕ) → rule h c ≡ accepted → Good h → Good (c ∷ h))
+module _ (place rule : List ℕ → ℕ → ℕ) (Good : List ℕ → Type 0) (more : (h : List ℕ) (c : ℕ) → rule h c ≡ accepted → Good h → Good (c ∷ h))
     (number : (h : List ℕ) (c : ℕ) → not (eqb (rule h c) accepted) ≡ true → refusesContents (rule h c) ≡ true) where
-  sound-each : (l h : List ℕ) (from : ℕ) → Good h → ((b : List ℕ) → Good b → length b ≤ length h + length l → place b < 1024)
+  sound-each : (l h : List ℕ) (from : ℕ) → Good h → ((b : List ℕ) (c : ℕ) → Good b → length b ≤ length h + length l → place b c < 1024)
       → Sound (takeEach place rule l h [] from)
   unfolding takeEach
   sound-each [] h from g few = tt
   sound-each (c ∷ l) h from g few =
-      sound-test (rule h c) (place h) (not (eqb (rule h c) accepted)) from _ (λ t. at-place (number h c t) (few h g (omega arith))) (λ f.
-      sound-each l (c ∷ h) from (more h c (eqb-true _ _ (not-false _ f)) g) (λ b gb le. few b gb (omega arith)))
+      sound-test (rule h c) (place h c) (not (eqb (rule h c) accepted)) from _ (λ t. at-place (number h c t) (few h c g (omega arith))) (λ f.
+      sound-each l (c ∷ h) from (more h c (eqb-true _ _ (not-false _ f)) g) (λ b e gb le. few b e gb (omega arith)))
 
 pub sound-calls : (d : ℕ) (calls : List ℕ) (from : ℕ) → Sound (takeCalls d calls [] from)
-unfolding takeCalls AllAllowed callPlace
+unfolding takeCalls
 sound-calls d calls from =
-    sound-on (takeEach callPlace (callRefusal d) calls [] [] from) _
-    (sound-each callPlace (callRefusal d) (AllAllowed d) (λ h c e a. (accepted-is d h c .0 e, a))
-    (λ h c. numbered-by d h c refusesContents refl refl refl refl) calls [] from tt (λ b a le. omega (arith, at-most-319 d b a)))
-    (λ h m q.
-    sound-test auctionUnfinished (length calls) (not (isOver h)) m _
-    (λ t. at-place refl (omega (arith, allowed-each d calls (each-kept callPlace (callRefusal d) calls [] from q) .few))) (λ f. tt))
+    sound-test tooManyCodes 511 (ltb 511 (length calls)) from _ (λ t. at-place refl (omega arith)) (λ f.
+    let few = ltb-false 511 (length calls) f in
+    sound-on (takeEach (callPlace d) (callRefusal d) calls [] [] from) _
+    (sound-each (callPlace d) (callRefusal d) (λ h. Unit {0}) (λ h c e u. tt)
+    (λ h c. numbered-by d h c refusesContents refl refl refl refl refl) calls [] from tt (λ b c u le. omega (arith, call-place-le d b c)))
+    (λ h m q. sound-test auctionUnfinished (length calls) (not (isOver h)) m _ (λ t. at-place refl (omega arith)) (λ g. tt)))
 
 pub sound-cards : (d : ℕ) (deal h cards : List ℕ) (from : ℕ) → Sound (takeCards d deal h cards [] from)
 unfolding takeCards cardsPlayed
@@ -102,9 +100,9 @@ sound-cards d deal h cards from =
     let test = ltb 52 (length cards) || (passedOut h && ltb 0 (length cards)) in
     sound-test tooManyCards (min (length cards) 63) test from _ (λ t. at-place refl (omega arith)) (λ f.
     let few = ltb-false 52 (length cards) (or-left (ltb 52 (length cards)) _ f) in
-    sound-each cardsPlayed rule (λ g. Unit {0}) (λ g c e u. tt)
+    sound-each cardPlace rule (λ g. Unit {0}) (λ g c e u. tt)
     (λ g c. card-numbered-by (trumpAfter h) (openingAfter d h) deal g c refusesContents refl refl refl)
-    cards [] from tt (λ b u le. omega arith))
+    cards [] from tt (λ b c u le. omega arith))
 
 sound-claim : (h g : List ℕ) (claim : Claim) (from : ℕ) → cardsPlayed g ≤ 52 → Sound (takeClaim h g claim [] from)
 unfolding takeClaim

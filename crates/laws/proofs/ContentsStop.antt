@@ -8,12 +8,12 @@ use borrow.Author.Tests.{eqb-false, eq-eqb, ne-eqb, le-ltb, lt-ltb, le-leb, lt-l
 use lib.Dec.{ltb, eqb}
 use lib.ListN.{length, getD, take, length-reverse, length-take}
 use Rattle.laws.specs.Choice.{some}
-use Rattle.laws.specs.Refusals.{accepted, noBoardOrTable, notThirteen, noCall, auctionUnfinished, tooManyCards, noCard, claimTooMany}
+use Rattle.laws.specs.Refusals.{accepted, noBoardOrTable, notThirteen, noCall, auctionUnfinished, tooManyCards, noCard, claimTooMany, tooManyCodes}
 use Rattle.laws.specs.Cards.{noSeat, cardsDealt, seatWithoutThirteen}
-use Rattle.laws.specs.Auction.{callPlace, isOver, passedOut, allowed, trumpAfter, openingAfter}
-use Rattle.laws.specs.CallRefusal.{callRefusal}
+use Rattle.laws.specs.Auction.{codesBefore, isOver, passedOut, allowed, trumpAfter, openingAfter}
+use Rattle.laws.specs.CallRefusal.{callRefusal, placeOf, callPlace}
 use Rattle.laws.specs.Law44.{cardsPlayed, tricksLeft, playable}
-use Rattle.laws.specs.CardRefusal.{cardRefusal}
+use Rattle.laws.specs.CardRefusal.{cardRefusal, cardPlace}
 use Rattle.laws.specs.Law68.{agreed, atClaimPoint, claimable}
 use Rattle.laws.specs.Lawful.{firstOf}
 use Rattle.laws.specs.Reading.{Reading, Reading.refused, Reading.found, refuse}
@@ -72,7 +72,7 @@ module _ (deal : List ℕ) (from : ℕ) where
       and-false false = refl
 
 -- ---- codes
-module _ (place : List ℕ → ℕ) (rule : List ℕ → ℕ → ℕ) where
+module _ (place rule : List ℕ → ℕ → ℕ) where
   pub each-passes : (l h : List ℕ) (from : ℕ) → Each (λ b c. rule b c ≡ accepted) h l → takeEach place rule l h [] from ≡ found (reverseAux l h) from
   unfolding takeEach Each
   each-passes [] h from e = refl
@@ -82,7 +82,7 @@ module _ (place : List ℕ → ℕ) (rule : List ℕ → ℕ → ℕ) where
   -- the first code that its rule refuses, with so many codes before it that pass
   pub each-stops : (l h : List ℕ) (k from : ℕ) → k < length l → ((j : ℕ) → j < k → rule (reverseAux (take j l) h) (getD l j 0) ≡ accepted)
       → (n : ℕ) → rule (reverseAux (take k l) h) (getD l k 0) ≡ n → (n ≡ accepted → ⊥)
-      → takeEach place rule l h [] from ≡ refused n (place (reverseAux (take k l) h))
+      → takeEach place rule l h [] from ≡ refused n (place (reverseAux (take k l) h) (getD l k 0))
   unfolding takeEach
   each-stops [] h k from w f n e z = absurd (omega arith)
   each-stops (c ∷ l) h zero from w f n e z = simp (e, ne-eqb n accepted z, test-stops)
@@ -95,24 +95,33 @@ pub first-length : (l : List ℕ) (k : ℕ) → k < length l → length (firstOf
 first-length l k h = length-reverse (take k l) ∙ rw (length-take k l) (omega arith)
 
 -- ---- the calls
-no-call : (d : ℕ) (h : List ℕ) (c : ℕ) → 37 < c → callRefusal d h c ≡ noCall
+no-call : (d : ℕ) (h : List ℕ) (c : ℕ) → 38 < c → callRefusal d h c ≡ noCall
 unfolding callRefusal
-no-call d h c o = rw (lt-leb c 37 o)
+no-call d h c o = rw (lt-leb c 38 o)
+
+-- which is refused at its own place
+no-call-place : (d : ℕ) (h : List ℕ) (c : ℕ) → 38 < c → callPlace d h c ≡ length h
+unfolding callPlace placeOf codesBefore
+no-call-place d h c o = rw (no-call d h c o)
 
 module _ (d : ℕ) (calls : List ℕ) (from : ℕ) where
-  pub calls-pass : ((k : ℕ) → k < length calls → allowed d (firstOf k calls) (getD calls k 0) ≡ true) → isOver (reverse calls) ≡ true
+  pub codes-stop : 511 < length calls → takeCalls d calls [] from ≡ refused tooManyCodes 511
+  unfolding takeCalls
+  codes-stop o = simp (lt-ltb 511 (length calls) o, test-stops)
+
+  pub calls-pass : length calls ≤ 511 → ((k : ℕ) → k < length calls → allowed d (firstOf k calls) (getD calls k 0) ≡ true) → isOver (reverse calls) ≡ true
       → takeCalls d calls [] from ≡ found (reverse calls) from
   unfolding takeCalls
-  calls-pass each over =
+  calls-pass few each over =
       let e = each-place (λ h c. callRefusal d h c ≡ accepted) calls .1 (λ k h. accepted-is d _ _ .1 (each k h)) in
-      simp (each-passes callPlace (callRefusal d) calls [] from e, over, test-is)
+      simp (le-ltb 511 (length calls) few, each-passes (callPlace d) (callRefusal d) calls [] from e, over, test-is)
 
-  pub call-stops : (k : ℕ) → k < length calls → ((j : ℕ) → j < k → allowed d (firstOf j calls) (getD calls j 0) ≡ true) → 37 < getD calls k 0
-      → takeCalls d calls [] from ≡ refused noCall k
-  unfolding takeCalls callPlace
-  call-stops k h each o =
-      let s = each-stops callPlace (callRefusal d) calls [] k from h (λ j i. accepted-is d _ _ .1 (each j i)) noCall (no-call d _ _ o) (λ z. omega arith) in
-      simp (s, first-length calls k h)
+  pub call-stops : length calls ≤ 511 → (k : ℕ) → k < length calls → ((j : ℕ) → j < k → allowed d (firstOf j calls) (getD calls j 0) ≡ true)
+      → 38 < getD calls k 0 → takeCalls d calls [] from ≡ refused noCall k
+  unfolding takeCalls
+  call-stops few k h each o =
+      let s = each-stops (callPlace d) (callRefusal d) calls [] k from h (λ j i. accepted-is d _ _ .1 (each j i)) noCall (no-call d _ _ o) (λ z. omega arith) in
+      simp (le-ltb 511 (length calls) few, test-is, s, no-call-place d (firstOf k calls) (getD calls k 0) o, first-length calls k h)
 
 -- ---- the cards, after the calls h
 no-card : (trump opening : ℕ) (deal g : List ℕ) (c : ℕ) → 51 < c → cardRefusal trump opening deal g c ≡ noCard
@@ -134,7 +143,7 @@ module _ (d : ℕ) (deal h : List ℕ) (all : length deal ≡ 52) (cards : List 
   cards-pass few none each =
       let rule = cardRefusal (trumpAfter h) (openingAfter d h) deal in
       let e = each-place (λ g c. rule g c ≡ accepted) cards .1 (λ k l. card-accepted-is _ _ deal _ _ all .1 (each k l)) in
-      simp (counted few none, test-is) (each-passes cardsPlayed rule cards [] from e)
+      simp (counted few none, test-is) (each-passes cardPlace rule cards [] from e)
 
   pub count-stops : 52 < length cards → takeCards d deal h cards [] from ≡ refused tooManyCards (min (length cards) 63)
   unfolding takeCards
@@ -147,7 +156,7 @@ module _ (d : ℕ) (deal h : List ℕ) (all : length deal ≡ 52) (cards : List 
   unfolding takeCards cardsPlayed
   card-stops few played k w each o =
       let rule = cardRefusal (trumpAfter h) (openingAfter d h) deal in
-      let s = each-stops cardsPlayed rule cards [] k from w (λ j i. card-accepted-is _ _ deal _ _ all .1 (each j i)) noCard
+      let s = each-stops cardPlace rule cards [] k from w (λ j i. card-accepted-is _ _ deal _ _ all .1 (each j i)) noCard
       (no-card _ _ deal _ _ o) (λ z. omega arith) in
       simp (counted few (λ q. not-both (passedOut h) q played), test-is) (s ∙ rw (first-length cards k w))
 
@@ -184,11 +193,11 @@ deal-stays deal from q =
     stays-refuse notThirteen (seatWithoutThirteen deal) (not (eqb (seatWithoutThirteen deal) noSeat)) from
     (first-test notThirteen noSeat (not (areSeats deal)) [] from _ q .1)
 
-module _ (place : List ℕ → ℕ) (rule : List ℕ → ℕ → ℕ) where
+module _ (place rule : List ℕ → ℕ → ℕ) where
   pub each-stays : (l h : List ℕ) (from : ℕ) {g : List ℕ} {m : ℕ} → takeEach place rule l h [] from ≡ found g m → m ≡ from
   unfolding takeEach
   each-stays [] h from {m = m} e = let z : from ≡ m = cc in sym z
-  each-stays (c ∷ l) h from e = each-stays l (c ∷ h) from (first-test (rule h c) (place h) (not (eqb (rule h c) accepted)) [] from _ e .1)
+  each-stays (c ∷ l) h from e = each-stays l (c ∷ h) from (first-test (rule h c) (place h c) (not (eqb (rule h c) accepted)) [] from _ e .1)
 
   -- a code is refused with a number that is not 0
   pub each-numbered : (l h : List ℕ) (from : ℕ) {n p : ℕ} → takeEach place rule l h [] from ≡ refused n p → n ≡ accepted → ⊥
@@ -202,13 +211,14 @@ module _ (place : List ℕ → ℕ) (rule : List ℕ → ℕ → ℕ) where
 pub calls-stay : (d : ℕ) (calls : List ℕ) (from : ℕ) {h : List ℕ} {m : ℕ} → takeCalls d calls [] from ≡ found h m → m ≡ from
 unfolding takeCalls
 calls-stay d calls from {h} {m} q =
-    let a = first-of (takeEach callPlace (callRefusal d) calls [] [] from) _ q in
+    let f = first-test tooManyCodes 511 _ [] from _ q in
+    let a = first-of (takeEach (callPlace d) (callRefusal d) calls [] [] from) _ (f .1) in
     let t = first-test auctionUnfinished (length calls) (not (isOver (a .0))) [] (a .1) _ (a .3) in
     let last : a .1 ≡ m = cc in
-    sym last ∙ each-stays callPlace (callRefusal d) calls [] from (a .2)
+    sym last ∙ each-stays (callPlace d) (callRefusal d) calls [] from (a .2)
 
 pub cards-stay : (d : ℕ) (deal h cards : List ℕ) (from : ℕ) {g : List ℕ} {m : ℕ} → takeCards d deal h cards [] from ≡ found g m → m ≡ from
 unfolding takeCards
 cards-stay d deal h cards from q =
     let t = first-test tooManyCards (min (length cards) 63) (ltb 52 (length cards) || (passedOut h && ltb 0 (length cards))) [] from _ q in
-    each-stays cardsPlayed (cardRefusal (trumpAfter h) (openingAfter d h) deal) cards [] from (t .1)
+    each-stays cardPlace (cardRefusal (trumpAfter h) (openingAfter d h) deal) cards [] from (t .1)

@@ -90,7 +90,7 @@ module _ (w : ℕ) where
       }
 
 -- codes that a rule judges on the history before them; Ok is what the rule does not refuse
-module _ (w : ℕ) (place : List ℕ → ℕ) (rule : List ℕ → ℕ → ℕ) (Ok : List ℕ → ℕ → Type 0) (same : (h : List ℕ) (c : ℕ) → (rule h c ≡ accepted) ↔ Ok h c) where
+module _ (w : ℕ) (place rule : List ℕ → ℕ → ℕ) (Ok : List ℕ → ℕ → Type 0) (same : (h : List ℕ) (c : ℕ) → (rule h c ≡ accepted) ↔ Ok h c) where
   each-reads : (n : ℕ) (h bytes : List ℕ) (at : ℕ) {g : List ℕ} {end : ℕ} → at ≤ 8 * length bytes → readEach w place rule n h bytes at ≡ found g end
       → (l : List ℕ) × (length l ≡ n) × (g ≡ reverseAux l h) × Each Ok h l × Stands bytes at (row w l) end
   unfolding readEach Each row
@@ -101,7 +101,7 @@ module _ (w : ℕ) (place : List ℕ → ℕ) (rule : List ℕ → ℕ → ℕ) 
   each-reads (suc n) h bytes at {g} {end} k q =
       let c : ℕ = numberAt bytes at w in
       let a = first-read w bytes at _ q in
-      let t = first-test (rule h c) (place h) (not (eqb (rule h c) accepted)) bytes (at + w) _ (a .1) in
+      let t = first-test (rule h c) (place h c) (not (eqb (rule h c) accepted)) bytes (at + w) _ (a .1) in
       let ok : Ok h c = same h c .0 (eqb-true (rule h c) accepted (not-false _ (t .0))) in
       let r = each-reads n (c ∷ h) bytes (at + w) (a .0) (t .1) in
       (c ∷ r .0, ap suc (r .1), r .2, (ok, r .3), stands-cons refl (r .4))
@@ -112,7 +112,7 @@ module _ (w : ℕ) (place : List ℕ → ℕ) (rule : List ℕ → ℕ → ℕ) 
   each-goes [] h bytes at a k = ap (λ (x : ℕ). found h x) (stands-end k)
   each-goes (c ∷ l) h bytes at a k =
       let passes : not (eqb (rule h c) accepted) ≡ false = rw (eq-eqb (rule h c) accepted (same h c .1 (a .0))) in
-      simp (read-is w bytes at (stands-here k) (stands-fits k), test-is (rule h c) (place h) bytes (at + w) passes)
+      simp (read-is w bytes at (stands-here k) (stands-fits k), test-is (rule h c) (place h c) bytes (at + w) passes)
       (each-goes l (c ∷ h) bytes (at + w) (a .1) (stands-rest k))
 
   -- the history is read latest first; its members stand in their order

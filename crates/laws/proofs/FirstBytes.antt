@@ -1,4 +1,4 @@
--- What the judge says of any bytes it says of their first 297: no section reads behind them, and a byte more than an accepted record can have is one too
+-- What the judge says of any bytes it says of their first 441: no section reads behind them, and a byte more than an accepted record can have is one too
 -- many however many follow. Assumes nothing.
 use Prim.Native.Nat.{ℕ, zero, suc, _+_, _-_, _*_, _/_, _^_, _≤_, _<_}
 use native.Mathlib.Nat.{mul-suc}
@@ -15,23 +15,20 @@ use Rattle.laws.specs.Refusals.{accepted, noBoardOrTable, notThirteen, a
 use Rattle.laws.specs.Refusals.{tooManyCards, playUnfinished, noClaimPoint, claimTooMany}
 use Rattle.laws.specs.Cards.{noSeat, seatWithoutThirteen}
 use Rattle.laws.specs.Law2.{dealer}
-use Rattle.laws.specs.Auction.{allowed, isOver, passedOut, callPlace, trumpAfter, openingAfter}
-use Rattle.laws.specs.CallRefusal.{callRefusal}
+use Rattle.laws.specs.Auction.{isOver, passedOut, trumpAfter, openingAfter}
+use Rattle.laws.specs.CallRefusal.{callRefusal, callPlace}
 use Rattle.laws.specs.Law44.{cardsPlayed, allPlayed}
-use Rattle.laws.specs.CardRefusal.{cardRefusal}
+use Rattle.laws.specs.CardRefusal.{cardRefusal, cardPlace}
 use Rattle.laws.specs.Law68.{atClaimPoint, claimable}
 use Rattle.laws.specs.Record.{bits}
 use Rattle.laws.specs.Reading.{bitAt, numberAt, Reading, Reading.refused, Reading.found, onward, read, refuse, readRow, readEach, overfull, ending}
 use Rattle.laws.specs.Judge.{readHeading, readDeal, readCalls, readCards, readNoClaim, readMarkedClaim, readClaim, readRecord, readLent, outcome, judgeOf}
-use Rattle.laws.specs.Lengths.{AllAllowed, decidingBytes}
+use Rattle.laws.specs.Lengths.{decidingBytes}
 use Rattle.laws.proofs.Tests.{by-test, or-left}
 use Rattle.laws.proofs.Bits.{number-lt}
 use Rattle.laws.proofs.Readings.{read-is}
-use Rattle.laws.proofs.CallRefusals.{accepted-is}
-use Rattle.laws.proofs.Histories.{each-place}
-use Rattle.laws.proofs.LongestAuction.{at-most-319, at-most-319-in-order}
 use Rattle.laws.proofs.Lengths.{bits-row, claim-bits}
-use Rattle.laws.proofs.Sections.{MayCall, heading-exact, deal-exact, calls-exact, cards-exact}
+use Rattle.laws.proofs.Sections.{heading-exact, deal-exact, calls-exact, cards-exact}
 use Rattle.laws.proofs.Claims.{claim-exact}
 
 -- two readings that go on alike from what a first one found
@@ -84,7 +81,7 @@ module _ (most : ℕ) (bytes : List ℕ) (long : most ≤ length bytes) where
       same-field w at _ _ (omega arith) (λ v low. same-on _ _ _ _ (same-row w n (at + w) more) (λ rest m q. refl))
 
   -- codes that a rule judges: where a turn is reached, its code stands within the first bytes
-  module _ (w : ℕ) (place : List ℕ → ℕ) (rule : List ℕ → ℕ → ℕ) (Reached : ℕ → List ℕ → ℕ → Type 0)
+  module _ (w : ℕ) (place rule : List ℕ → ℕ → ℕ) (Reached : ℕ → List ℕ → ℕ → Type 0)
       (within : (n : ℕ) (h : List ℕ) (at : ℕ) → Reached (suc n) h at → at + w ≤ 8 * most)
       (goes-on : (n : ℕ) (h : List ℕ) (at c : ℕ) → rule h c ≡ accepted → Reached (suc n) h at → Reached n (c ∷ h) (at + w)) where
     same-each : (n : ℕ) (h : List ℕ) (at : ℕ) → Reached n h at → readEach w place rule n h bytes at ≡ readEach w place rule n h front at
@@ -92,7 +89,7 @@ module _ (most : ℕ) (bytes : List ℕ) (long : most ≤ length bytes) where
     same-each zero h at r = refl
     same-each (suc n) h at r =
         same-field w at _ _ (within n h at r) (λ c low.
-        same-test (rule h c) (place h) bytes front (at + w) _ _ (not (eqb (rule h c) accepted)) (λ t.
+        same-test (rule h c) (place h c) bytes front (at + w) _ _ (not (eqb (rule h c) accepted)) (λ t.
         same-each n (c ∷ h) (at + w) (goes-on n h at c (eqb-true (rule h c) accepted (not-false _ t)) r)))
 
   -- ---- the sections
@@ -109,23 +106,16 @@ module _ (most : ℕ) (bytes : List ℕ) (long : most ≤ length bytes) where
       same-on _ _ _ _ (same-row 2 52 at h) (λ deal m q.
       same-test notThirteen (seatWithoutThirteen deal) bytes front m _ _ (not (eqb (seatWithoutThirteen deal) noSeat)) (λ t. refl))
 
-  -- allowed calls are at most 319, so at most a 320th is read
-  module _ (d first : ℕ) (room : first + 6 * 320 ≤ 8 * most) where
-    abbrev CallReached : ℕ → List ℕ → ℕ → Type 0
-    CallReached n h at = AllAllowed d h × (at ≡ first + 6 * length h)
+  -- so many codes of six bits as are counted, where those of the greatest count stand within the first bytes
+  counted : (place rule : List ℕ → ℕ → ℕ) (n at : ℕ) → at + 6 * n ≤ 8 * most → readEach 6 place rule n [] bytes at ≡ readEach 6 place rule n [] front at
+  counted place rule n at room =
+      same-each 6 place rule (λ k h m. m + 6 * k ≤ 8 * most) (λ k h m r. omega (arith, r)) (λ k h m c e r. omega (arith, r)) n [] at room
 
-    call-within : (n : ℕ) (h : List ℕ) (at : ℕ) → CallReached (suc n) h at → at + 6 ≤ 8 * most
-    call-within n h at r = omega (arith, at-most-319 d h (r .0), r .1)
-
-    call-goes-on : (n : ℕ) (h : List ℕ) (at c : ℕ) → callRefusal d h c ≡ accepted → CallReached (suc n) h at → CallReached n (c ∷ h) (at + 6)
-    unfolding AllAllowed
-    call-goes-on n h at c e r = ((accepted-is d h c .0 e, r .0), omega (arith, r .1))
-
-  same-calls : (d at : ℕ) → at + 9 + 6 * 320 ≤ 8 * most → readCalls d bytes at ≡ readCalls d front at
-  unfolding readCalls AllAllowed
+  -- at most 511 codes of calls are read
+  same-calls : (d at : ℕ) → at + 9 + 6 * 511 ≤ 8 * most → readCalls d bytes at ≡ readCalls d front at
+  unfolding readCalls
   same-calls d at h =
-      same-field 9 at _ _ (omega arith) (λ n ln. same-on _ _ _ _
-      (same-each 6 callPlace (callRefusal d) (CallReached d (at + 9) h) (call-within d (at + 9) h) (call-goes-on d (at + 9) h) n [] (at + 9) (tt, omega arith))
+      same-field 9 at _ _ (omega arith) (λ n ln. same-on _ _ _ _ (counted (callPlace d) (callRefusal d) n (at + 9) (omega arith))
       (λ calls m q. same-test auctionUnfinished n bytes front m _ _ (not (isOver calls)) (λ t. refl)))
 
   -- at most 52 cards are read
@@ -135,8 +125,7 @@ module _ (most : ℕ) (bytes : List ℕ) (long : most ≤ length bytes) where
       same-field 6 at _ _ (omega arith) (λ n ln.
       same-test tooManyCards n bytes front (at + 6) _ _ (ltb 52 n || (passedOut h && ltb 0 n)) (λ t.
       let few : n ≤ 52 = ltb-false 52 n (or-left (ltb 52 n) _ t) in
-      same-each 6 cardsPlayed (cardRefusal (trumpAfter h) (openingAfter d h) deal) (λ k g m. m + 6 * k ≤ 8 * most)
-      (λ k g m r. omega (arith, r)) (λ k g m c e r. omega (arith, r)) n [] (at + 6) (omega arith)))
+      counted cardPlace (cardRefusal (trumpAfter h) (openingAfter d h) deal) n (at + 6) (omega arith)))
 
   same-claim : (h g : List ℕ) (at : ℕ) → at + 5 ≤ 8 * most → readClaim h g bytes at ≡ readClaim h g front at
   unfolding readClaim readNoClaim readMarkedClaim
@@ -157,12 +146,11 @@ module _ (most : ℕ) (bytes : List ℕ) (long : most ≤ length bytes) where
       rw (front-length, le-leb 8 (8 * length bytes - at) (omega arith), le-leb 8 (8 * most - at) (omega arith))
 
   -- ---- the whole record
-  calls-few : (d at : ℕ) (h : List ℕ) {end : ℕ} → at ≤ 8 * length bytes → readCalls d bytes at ≡ found h end → (length h ≤ 319) × (end ≡ at + 9 + 6 * length h)
+  calls-few : (d at : ℕ) (h : List ℕ) {end : ℕ} → at ≤ 8 * length bytes → readCalls d bytes at ≡ found h end → (length h ≤ 511) × (end ≡ at + 9 + 6 * length h)
   unfolding bits
   calls-few d at h l q =
       let c = calls-exact d .reads bytes at h _ l q in
-      let few = at-most-319-in-order d (reverse h) (each-place (MayCall d) (reverse h) .0 (c .0 .allow)) in
-      (omega (arith, few, length-reverse h), omega (arith, c .1 .next, bits-row 6 (reverse h), length-reverse h))
+      (c .0 .count, omega (arith, c .1 .next, bits-row 6 (reverse h), length-reverse h))
 
   same-record : decidingBytes ≤ most → readRecord bytes 0 ≡ readRecord front 0
   unfolding readRecord bits
@@ -177,13 +165,13 @@ module _ (most : ℕ) (bytes : List ℕ) (long : most ≤ length bytes) where
       same-on _ _ _ _ (same-calls d m₂ (omega arith)) (λ h m₃ q₃.
       let c = calls-few d m₂ h (h₂ .1 .whole) q₃ in
       let h₃ = calls-exact d .reads bytes m₂ h m₃ (h₂ .1 .whole) q₃ in
-      let e₃ : m₃ ≤ 2043 = omega (arith, c .0, c .1) in
+      let e₃ : m₃ ≤ 3195 = omega (arith, c .0, c .1) in
       same-on _ _ _ _ (same-cards d deal h m₃ (omega arith)) (λ g m₄ q₄.
       let h₄ = cards-exact d deal h (h₂ .0 .holders) .reads bytes m₃ g m₄ (h₃ .1 .whole) q₄ in
-      let e₄ : m₄ ≤ 2361 = omega (arith, h₄ .1 .next, bits-row 6 (reverse g), length-reverse g, h₄ .0 .count) in
+      let e₄ : m₄ ≤ 3513 = omega (arith, h₄ .1 .next, bits-row 6 (reverse g), length-reverse g, h₄ .0 .count) in
       same-on _ _ _ _ (same-claim h g m₄ (omega arith)) (λ t m₅ q₅.
       let h₅ = claim-exact h g .reads bytes m₄ t m₅ (h₄ .1 .whole) q₅ in
-      let e₅ : m₅ ≤ 2366 = omega (arith, h₅ .1 .next, claim-bits t .1) in
+      let e₅ : m₅ ≤ 3518 = omega (arith, h₅ .1 .next, claim-bits t .1) in
       same-on _ _ _ _ (same-ending m₅ (omega arith)) (λ u m₆ q₆. refl))))))
 
   same-lent : decidingBytes ≤ most → (answer list : ℕ) → judgeOf bytes answer list ≡ judgeOf front answer list

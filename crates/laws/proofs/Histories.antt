@@ -1,14 +1,19 @@
 -- Members of a list that a rule allows each after those before it: along the list, and for every place. Assumes nothing.
 use Prim.Native.Nat.{ℕ, zero, suc, _^_, _<_}
 use native.Mathlib.Omega.{arith}
-use mathlib.Core.Path.{_≡_}
+use mathlib.Core.Path.{_≡_, ap, _∙_}
 use mathlib.Core.Logic.{_↔_}
-use mathlib.Core.List.{List, [], _∷_, reverseAux}
+use mathlib.Core.List.{List, [], _∷_, reverse, reverseAux, reverse-append}
 use lib.ListN.{length, getD, take}
+use lib.Seq.{take-suc}
 use Rattle.laws.specs.Refusals.{accepted}
 use Rattle.laws.specs.Record.{row}
 use Rattle.laws.specs.Lawful.{firstOf}
 use Rattle.laws.proofs.Written.{Fit}
+
+-- the members before a place and the member there are those before the next place
+pub first-suc : (l : List ℕ) (k : ℕ) → k < length l → firstOf (suc k) l ≡ getD l k 0 ∷ firstOf k l
+first-suc l k h = ap reverse (take-suc l k 0 h) ∙ reverse-append (take k l) (getD l k 0 ∷ [])
 
 -- each member is allowed after the history h and the members before it
 unfoldable pub Each : (List ℕ → ℕ → Type 0) → List ℕ → List ℕ → Type 0

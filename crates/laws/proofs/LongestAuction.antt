@@ -1,20 +1,22 @@
--- An auction each of whose calls is allowed has at most 319 calls, on its history alone: at every point a bid has at most nine calls from it to the
--- next one, or ten to the end. Assumes nothing.
+-- An auction without a mark each of whose calls is allowed has at most 319 calls, on its history alone: at every point a bid has at most nine calls
+-- from it to the next one, or ten to the end. Assumes nothing.
 use Prim.Native.Nat.{ℕ, suc, _+_, _*_, _≤_, _<_}
 use native.Mathlib.Omega.{arith}
 use mathlib.Core.Path.{_≡_, refl}
 use mathlib.Core.Logic.{_⊎_, inl, inr}
 use mathlib.Core.Bool.{Bool, true, false, not, _&&_}
 use mathlib.Core.List.{List, [], _∷_, reverse, reverseAux}
-use borrow.Author.Tests.{leb-true, leb-false, eqb-true, ne-eqb}
+use borrow.Author.Tests.{leb-true, leb-false, eqb-true, eqb-false, ne-eqb}
 use lib.Dec.{eqb, leb}
 use lib.ListN.{length, getD, length-reverse}
+use Rattle.laws.specs.Choice.{howMany, some}
 use Rattle.laws.specs.Cards.{clockwise, sameSide}
-use Rattle.laws.specs.Auction.{pass, double, redouble, isBid, toCall, lastBid, beforePasses, bidByOpponents, bidByOwnSide, doubledOwnBid}
-use Rattle.laws.specs.Auction.{sufficient, mayDouble, mayRedouble, passesInARow, hasBid, isOver, allowed, doubling}
-use Rattle.laws.specs.Lengths.{AllAllowed, bidsInTurn, longestAuction}
+use Rattle.laws.specs.Auction.{pass, double, redouble, mark, isBid, callsMade, isMarked}
+use Rattle.laws.specs.Auction.{toCall, lastBid, isPassOrMark, beforePasses, bidByOpponents, bidByOwnSide, doubledOwnBid}
+use Rattle.laws.specs.Auction.{sufficient, atOrBelow, mayDouble, mayRedouble, passesInARow, hasBid, isOver, allowed, doubling}
+use Rattle.laws.specs.Lengths.{AllAllowed, NoMark, bidsInTurn, longestAuction}
 use Rattle.laws.specs.Lawful.{firstOf}
-use Rattle.laws.proofs.Tests.{by-test, not-both, and-left, and-right}
+use Rattle.laws.proofs.Tests.{by-test, not-both, and-left, and-right, or-left, or-right}
 use Rattle.laws.proofs.Counts.{everyBelow, every-below}
 use Rattle.laws.proofs.Histories.{Each, each-place}
 
@@ -37,15 +39,22 @@ unfolding bidByOwnSide
 own-bid d seat [] e = e
 own-bid d seat (c ∷ h) e = and-left (isBid c) (sameSide (toCall d h) seat) e
 
+-- a pass or a mark, as one or the other
+pass-or-mark : {A : Type 0} (c : ℕ) → isPassOrMark c ≡ true → (c ≡ pass → A) → (c ≡ mark → A) → A
+pass-or-mark c e passed marked =
+    by-test (eqb c pass)
+    (λ (q : eqb c pass ≡ true). passed (eqb-true c pass q))
+    (λ (q : eqb c pass ≡ false). marked (eqb-true c mark (rw q at e)))
+
 -- the last call that is no pass is a bid: it is the last bid, and not doubled
 undoubled : (h : List ℕ) → startsWithBid (beforePasses h) ≡ true → (doubling h ≡ 0) × (3 ≤ lastBid h)
 unfolding beforePasses doubling lastBid
 undoubled [] e = not-both false e refl
 undoubled (c ∷ h) e =
     let more = undoubled h in
-    by-test (eqb c pass)
-    (λ (q : eqb c pass ≡ true). rw (eqb-true c pass q) (more (rw q at e)))
-    (λ (q : eqb c pass ≡ false). let b : isBid c ≡ true = rw q at e in rw b (refl, bid-number c b .0))
+    by-test (isPassOrMark c)
+    (λ (q : isPassOrMark c ≡ true). let m = more (rw q at e) in pass-or-mark c q (λ p. rw p m) (λ p. rw p m))
+    (λ (q : isPassOrMark c ≡ false). let b : isBid c ≡ true = rw q at e in rw b (refl, bid-number c b .0))
 
 -- the last call that is no pass is a double of a bid
 doubled : (d seat : ℕ) (h : List ℕ) → doubledOwnBid d seat (beforePasses h) ≡ true → (doubling h ≡ 1) × (3 ≤ lastBid h)
@@ -53,9 +62,9 @@ unfolding beforePasses doubling lastBid doubledOwnBid
 doubled d seat [] e = not-both false e refl
 doubled d seat (c ∷ h) e =
     let more = doubled d seat h in
-    by-test (eqb c pass)
-    (λ (q : eqb c pass ≡ true). rw (eqb-true c pass q) (more (rw q at e)))
-    (λ (q : eqb c pass ≡ false).
+    by-test (isPassOrMark c)
+    (λ (q : isPassOrMark c ≡ true). let m = more (rw q at e) in pass-or-mark c q (λ p. rw p m) (λ p. rw p m))
+    (λ (q : isPassOrMark c ≡ false).
     let both : (eqb c double && bidByOwnSide d seat (beforePasses h)) ≡ true = rw q at e in
     let is : c ≡ double = eqb-true c double (and-left (eqb c double) _ both) in
     rw is (refl, undoubled h (own-bid d seat (beforePasses h) (and-right (eqb c double) _ both)) .1))
@@ -117,40 +126,52 @@ after-bid h c e q above s =
     let from : 3 ≤ c = bid-number c q .0 in
     let to : c ≤ 37 = bid-number c q .1 in
     let no-pass : eqb c pass ≡ false = ne-eqb c pass (λ z. omega arith) in
+    let no-mark : eqb c mark ≡ false = ne-eqb c mark (λ z. omega arith) in
     let count : length h + 24 ≤ 9 * c = before s from in
-    inr (record { from = rw q from; to = rw q to; times = rw q (omega arith); most = rw no-pass (omega arith); calls = rw (q, no-pass) (omega arith) })
+    inr (record {
+      from = rw q from;
+      to = rw q to;
+      times = rw q (omega arith);
+      most = rw (no-pass, no-mark) (omega arith);
+      calls = rw (q, no-pass, no-mark) (omega arith);
+    })
   where
     before : Stage h → 3 ≤ c → length h + 24 ≤ 9 * c
     before (inl u) from = omega (arith, u .only, few-passes h e)
     before (inr b) from = omega (arith, b .calls, b .times, two-passes h (b .from) e)
 
--- one call more
-after : (d : ℕ) (h : List ℕ) (c : ℕ) → allowed d h c ≡ true → Stage h → Stage (c ∷ h)
+-- one call more, where neither it nor the code before it is a mark
+after : (d : ℕ) (h : List ℕ) (c : ℕ) → eqb c mark ≡ false → isMarked h ≡ false → allowed d h c ≡ true → Stage h → Stage (c ∷ h)
 unfolding allowed mayDouble mayRedouble sufficient lastBid passesInARow doubling
-after d h c a s =
+after d h c n u a s =
     by-test (isOver h)
     (λ (e : isOver h ≡ true). not-both false (rw e at a) refl)
     (λ (e : isOver h ≡ false). by-test (eqb c pass)
     (λ (q : eqb c pass ≡ true). rw (eqb-true c pass q) (after-pass h e s))
     (λ (q : eqb c pass ≡ false). by-test (eqb c double)
     (λ (r : eqb c double ≡ true).
-    rw (eqb-true c double r) (after-doubling h double 0 (omega arith) e (undoubled h (opponents-bid d _ _ (rw (e, q, r) at a))) refl refl refl s))
+    rw (eqb-true c double r) (after-doubling h double 0 (omega arith) e (undoubled h (opponents-bid d _ _ (rw (e, u, n, q, r) at a))) refl refl refl s))
     (λ (r : eqb c double ≡ false). by-test (eqb c redouble)
     (λ (t : eqb c redouble ≡ true).
-    rw (eqb-true c redouble t) (after-doubling h redouble 1 (omega arith) e (doubled d _ h (rw (e, q, r, t) at a)) refl refl refl s))
+    rw (eqb-true c redouble t) (after-doubling h redouble 1 (omega arith) e (doubled d _ h (rw (e, u, n, q, r, t) at a)) refl refl refl s))
     (λ (t : eqb c redouble ≡ false).
-    let both : (isBid c && sufficient h c) ≡ true = rw (e, q, r, t) at a in
+    let both : (isBid c && sufficient h c) ≡ true = rw (e, u, n, q, r, t) at a in
     let above = leb-true _ c (and-right (isBid c) _ both) in
     after-bid h c e (and-left (isBid c) _ both) (omega (arith, above)) s))))
 
-stage : (d : ℕ) (h : List ℕ) → AllAllowed d h → Stage h
-unfolding AllAllowed lastBid passesInARow
-stage d [] a = inl (record { none = refl; only = refl; most = omega arith })
-stage d (c ∷ h) a = after d h c (a .0) (stage d h (a .1))
+unmarked : (h : List ℕ) → NoMark h → isMarked h ≡ false
+unfolding NoMark isMarked
+unmarked [] n = refl
+unmarked (c ∷ h) n = ne-eqb c mark (n .0)
 
--- the longest auctions have 319 calls
-pub at-most-319 : (d : ℕ) (h : List ℕ) → AllAllowed d h → length h ≤ 319
-at-most-319 d h a = bounded (stage d h a)
+stage : (d : ℕ) (h : List ℕ) → AllAllowed d h → NoMark h → Stage h
+unfolding AllAllowed NoMark lastBid passesInARow
+stage d [] a n = inl (record { none = refl; only = refl; most = omega arith })
+stage d (c ∷ h) a n = after d h c (ne-eqb c mark (n .0)) (unmarked h (n .1)) (a .0) (stage d h (a .1) (n .1))
+
+-- the longest auctions without a mark have 319 calls
+pub at-most-319 : (d : ℕ) (h : List ℕ) → AllAllowed d h → NoMark h → length h ≤ 319
+at-most-319 d h a n = bounded (stage d h a n)
   where
     bounded : Stage h → length h ≤ 319
     bounded (inl u) = omega (arith, u .only, u .most)
@@ -162,12 +183,18 @@ unfolding Each AllAllowed
 in-order d h [] e a = a
 in-order d h (c ∷ l) e a = in-order d (c ∷ h) l (e .1) (e .0, a)
 
+-- marks are none in either order
+no-mark-in-order : (h l : List ℕ) → NoMark l → NoMark h → NoMark (reverseAux l h)
+unfolding NoMark
+no-mark-in-order h [] n m = m
+no-mark-in-order h (c ∷ l) n m = no-mark-in-order (c ∷ h) l (n .1) (n .0, m)
+
 -- the same bound on calls in their order, each allowed at its place
-pub at-most-319-in-order : (d : ℕ) (l : List ℕ) → ((k : ℕ) → k < length l → allowed d (firstOf k l) (getD l k 0) ≡ true) → length l ≤ 319
-unfolding AllAllowed
-at-most-319-in-order d l f =
+pub at-most-319-in-order : (d : ℕ) (l : List ℕ) → ((k : ℕ) → k < length l → allowed d (firstOf k l) (getD l k 0) ≡ true) → NoMark l → length l ≤ 319
+unfolding AllAllowed NoMark
+at-most-319-in-order d l f n =
     let each = each-place (λ g c. allowed d g c ≡ true) l .1 f in
-    omega (arith, at-most-319 d (reverse l) (in-order d [] l each tt), length-reverse l)
+    omega (arith, at-most-319 d (reverse l) (in-order d [] l each tt) (no-mark-in-order [] l n tt), length-reverse l)
 
 -- the test of each call, computed
 abbrev allAllowed : ℕ → List ℕ → Bool
@@ -179,11 +206,18 @@ unfolding AllAllowed
 tested d [] e = tt
 tested d (c ∷ h) e = (and-left (allowed d h c) (allAllowed d h) e, tested d h (and-right (allowed d h c) (allAllowed d h) e))
 
+-- the test that no code is a mark, computed
+untested : (h : List ℕ) → some (λ c. eqb c mark) h ≡ false → NoMark h
+unfolding some NoMark
+untested [] e = tt
+untested (c ∷ h) e =
+    (eqb-false c mark (or-left (eqb c mark) _ e), untested h (or-right (eqb c mark) _ e))
+
 -- computed for each dealer
 computed : everyBelow 4 (λ d. allAllowed d longestAuction) ≡ true
 unfolding
     longestAuction bidsInTurn allowed isOver hasBid lastBid passesInARow sufficient mayDouble bidByOpponents mayRedouble doubledOwnBid bidByOwnSide
-    beforePasses toCall clockwise
+    beforePasses toCall callsMade howMany isMarked atOrBelow clockwise
 computed = refl
 
 -- the auction of 319 calls, whoever deals: each call is allowed, and it is over after all of them
@@ -193,6 +227,10 @@ longest-allowed d w = tested d longestAuction (every-below 4 (λ d. allAllowed d
 pub longest-over : isOver longestAuction ≡ true
 unfolding isOver hasBid lastBid passesInARow bidsInTurn longestAuction
 longest-over = refl
+
+pub longest-unmarked : NoMark longestAuction
+unfolding some bidsInTurn longestAuction
+longest-unmarked = untested longestAuction refl
 
 pub longest-length : length longestAuction ≡ 319
 unfolding bidsInTurn longestAuction

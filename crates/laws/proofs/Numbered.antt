@@ -1,4 +1,4 @@
--- A refusal of the judge has a number from 1 to 16 or 23, and a place below 1024, for every list of numbers and every two lengths. Assumes nothing.
+-- A refusal of the judge has a number from 1 to 16, 23 or 24, and a place below 1024, for every list of numbers and every two lengths. Assumes nothing.
 use Prim.Native.Nat.{ℕ, zero, suc, _+_, _*_, _^_, _≤_, _<_}
 use native.Mathlib.Omega.{arith}
 use mathlib.Core.Path.{_≡_, refl}
@@ -11,10 +11,10 @@ use Rattle.laws.specs.Refusals.{refusalNumber, refusesRecord, accepted, 
 use Rattle.laws.specs.Refusals.{tooManyCards, playUnfinished, noClaimPoint, claimTooMany, notPadding}
 use Rattle.laws.specs.Cards.{noSeat, hasThirteen, firstWithoutThirteen, seatWithoutThirteen}
 use Rattle.laws.specs.Law2.{dealer}
-use Rattle.laws.specs.Auction.{callPlace, isOver, passedOut, trumpAfter, openingAfter}
-use Rattle.laws.specs.CallRefusal.{callRefusal}
+use Rattle.laws.specs.Auction.{isOver, passedOut, trumpAfter, openingAfter}
+use Rattle.laws.specs.CallRefusal.{callRefusal, callPlace}
 use Rattle.laws.specs.Law44.{cardsPlayed, allPlayed}
-use Rattle.laws.specs.CardRefusal.{cardRefusal}
+use Rattle.laws.specs.CardRefusal.{cardRefusal, cardPlace}
 use Rattle.laws.specs.Law68.{atClaimPoint, claimable}
 use Rattle.laws.specs.Record.{Parts}
 use Rattle.laws.specs.Reading.{numberAt, Reading, Reading.refused, Reading.found, onward, read, refuse, readRow, readEach, overfull, ending}
@@ -22,7 +22,7 @@ use Rattle.laws.specs.Judge.{readHeading, readDeal, readCalls, readCards
 use Rattle.laws.specs.Judge.{Outcome, Outcome.refused as declined, Outcome.accepted as taken, outcome, judgeOf}
 use Rattle.laws.proofs.Tests.{by-test}
 use Rattle.laws.proofs.Bits.{number-lt}
-use Rattle.laws.proofs.CallRefusals.{numbered}
+use Rattle.laws.proofs.CallRefusals.{numbered, call-place-le}
 use Rattle.laws.proofs.CardRefusals.{numbered as card-numbered}
 use Rattle.laws.proofs.RecordNumbers.{from-1}
 use Rattle.laws.proofs.Sections.{heading-exact, deal-exact, calls-exact, cards-exact}
@@ -70,14 +70,14 @@ fair-row w zero bytes at = tt
 fair-row w (suc n) bytes at =
     fair-read w bytes at _ (λ v l. fair-on (readRow w n bytes (at + w)) _ (fair-row w n bytes (at + w)) (λ rest m q. tt))
 
-pub fair-each : (w : ℕ) (place : List ℕ → ℕ) (rule : List ℕ → ℕ → ℕ) → ((h : List ℕ) → place h ≡ length h)
+pub fair-each : (w : ℕ) (place rule : List ℕ → ℕ → ℕ) → ((h : List ℕ) (c : ℕ) → place h c ≤ length h)
     → ((h : List ℕ) (c : ℕ) → not (eqb (rule h c) accepted) ≡ true → refusesRecord (rule h c) ≡ true)
     → (n : ℕ) (h bytes : List ℕ) (at : ℕ) → length h + n < 1024 → Fair (readEach w place rule n h bytes at)
 unfolding readEach
 fair-each w place rule p r zero h bytes at l = tt
 fair-each w place rule p r (suc n) h bytes at l =
     fair-read w bytes at _ (λ c k.
-    fair-test (rule h c) (place h) (not (eqb (rule h c) accepted)) bytes (at + w) _ (λ t. at-place (r h c t) (omega (arith, p h)))
+    fair-test (rule h c) (place h c) (not (eqb (rule h c) accepted)) bytes (at + w) _ (λ t. at-place (r h c t) (omega (arith, p h c)))
     (fair-each w place rule p r n (c ∷ h) bytes (at + w) (omega arith)))
 
 pub fair-heading : (bytes : List ℕ) (at : ℕ) → Fair (readHeading bytes at)
@@ -111,11 +111,11 @@ fair-deal bytes at =
     (λ t. at-place refl (omega (arith, short-le deal))) tt)
 
 pub fair-calls : (d : ℕ) (bytes : List ℕ) (at : ℕ) → Fair (readCalls d bytes at)
-unfolding readCalls callPlace
+unfolding readCalls
 fair-calls d bytes at =
     fair-read 9 bytes at _ (λ n ln.
-    fair-on (readEach 6 callPlace (callRefusal d) n [] bytes (at + 9)) _
-    (fair-each 6 callPlace (callRefusal d) (λ h. refl) (numbered d) n [] bytes (at + 9) (omega arith)) (λ h m q.
+    fair-on (readEach 6 (callPlace d) (callRefusal d) n [] bytes (at + 9)) _
+    (fair-each 6 (callPlace d) (callRefusal d) (call-place-le d) (numbered d) n [] bytes (at + 9) (omega arith)) (λ h m q.
     fair-test auctionUnfinished n (not (isOver h)) bytes m _ (λ t. at-place refl (omega arith)) tt))
 
 pub fair-cards : (d : ℕ) (deal h bytes : List ℕ) (at : ℕ) → Fair (readCards d deal h bytes at)
@@ -123,7 +123,7 @@ unfolding readCards cardsPlayed
 fair-cards d deal h bytes at =
     fair-read 6 bytes at _ (λ n ln.
     fair-test tooManyCards n (ltb 52 n || (passedOut h && ltb 0 n)) bytes (at + 6) _ (λ t. at-place refl (omega arith))
-    (fair-each 6 cardsPlayed (cardRefusal (trumpAfter h) (openingAfter d h) deal) (λ g. refl)
+    (fair-each 6 cardPlace (cardRefusal (trumpAfter h) (openingAfter d h) deal) (λ g c. omega arith)
     (card-numbered (trumpAfter h) (openingAfter d h) deal) n [] bytes (at + 6) (omega arith)))
 
 pub fair-claim : (h g bytes : List ℕ) (at : ℕ) → length g ≤ 52 → Fair (readClaim h g bytes at)

@@ -9,10 +9,10 @@ use lib.Dec.{eqb, ltb, lit<}
 use lib.ListN.{length}
 use Rattle.laws.specs.Refusals.{noBoardOrTable, notThirteen, auctionUnfinished, tooManyCards}
 use Rattle.laws.specs.Cards.{noSeat, cardsDealt, hasThirteen, firstWithoutThirteen, seatWithoutThirteen}
-use Rattle.laws.specs.Auction.{callPlace, isOver, passedOut, allowed, trumpAfter, openingAfter}
-use Rattle.laws.specs.CallRefusal.{callRefusal}
-use Rattle.laws.specs.Law44.{cardsPlayed, playable}
-use Rattle.laws.specs.CardRefusal.{cardRefusal}
+use Rattle.laws.specs.Auction.{isOver, passedOut, allowed, trumpAfter, openingAfter}
+use Rattle.laws.specs.CallRefusal.{callRefusal, callPlace}
+use Rattle.laws.specs.Law44.{playable}
+use Rattle.laws.specs.CardRefusal.{cardRefusal, cardPlace}
 use Rattle.laws.specs.Reading.{numberAt, readRow, readEach}
 use Rattle.laws.specs.Record.{Field, field, row}
 use Rattle.laws.specs.Judge.{Heading, readHeading, readDeal, readCalls, readCards}
@@ -139,8 +139,8 @@ callsFields h = field 9 (length h) ∷ row 6 (reverse h)
 
 module _ (d : ℕ) where
   -- the codes of the calls
-  calls-each : (n : ℕ) → Exact (readEach 6 callPlace (callRefusal d) n []) (λ h. (length h ≡ n) × Each (MayCall d) [] (reverse h)) (λ h. row 6 (reverse h))
-  calls-each n = each-exact 6 callPlace (callRefusal d) (MayCall d) (accepted-is d) n
+  calls-each : (n : ℕ) → Exact (readEach 6 (callPlace d) (callRefusal d) n []) (λ h. (length h ≡ n) × Each (MayCall d) [] (reverse h)) (λ h. row 6 (reverse h))
+  calls-each n = each-exact 6 (callPlace d) (callRefusal d) (MayCall d) (accepted-is d) n
 
   pub calls-exact : Exact (readCalls d) (CallsStand d) callsFields
   unfolding readCalls
@@ -149,7 +149,7 @@ module _ (d : ℕ) where
         reads = λ bytes at x end l q.
             let n : ℕ = numberAt bytes at 9 in
             let a = first-read 9 bytes at _ q in
-            let b = first-of (readEach 6 callPlace (callRefusal d) n [] bytes (at + 9)) _ (a .1) in
+            let b = first-of (readEach 6 (callPlace d) (callRefusal d) n [] bytes (at + 9)) _ (a .1) in
             let t = first-test auctionUnfinished n (not (isOver (b .0))) bytes (b .1) _ (b .3) in
             let r = calls-each n .reads bytes (at + 9) (b .0) (b .1) (a .0) (b .2) in
             landed (CallsStand d) callsFields (t .1) (
@@ -178,10 +178,10 @@ abbrev pub cardsFields : List ℕ → List Field
 cardsFields g = field 6 (length g) ∷ row 6 (reverse g)
 
 module _ (d : ℕ) (deal h : List ℕ) (full : length deal ≡ 52) where
-  cards-each : (n : ℕ) → Exact (readEach 6 cardsPlayed (cardRefusal (trumpAfter h) (openingAfter d h) deal) n [])
+  cards-each : (n : ℕ) → Exact (readEach 6 cardPlace (cardRefusal (trumpAfter h) (openingAfter d h) deal) n [])
       (λ g. (length g ≡ n) × Each (MayPlay d deal h) [] (reverse g)) (λ g. row 6 (reverse g))
   cards-each n =
-      each-exact 6 cardsPlayed (cardRefusal (trumpAfter h) (openingAfter d h) deal) (MayPlay d deal h)
+      each-exact 6 cardPlace (cardRefusal (trumpAfter h) (openingAfter d h) deal) (MayPlay d deal h)
       (λ f c. card-accepted-is (trumpAfter h) (openingAfter d h) deal f c full) n
 
   pub cards-exact : Exact (readCards d deal h) (CardsStand d deal h) cardsFields

@@ -10,10 +10,10 @@ use lib.Dec.{ltb, eqb}
 use lib.ListN.{length}
 use Rattle.laws.specs.Refusals.{accepted, noBoardOrTable, notThirteen, auctionUnfinished, tooManyCards, playUnfinished, noClaimPoint, claimTooMany}
 use Rattle.laws.specs.Cards.{noSeat, seatWithoutThirteen}
-use Rattle.laws.specs.Auction.{callPlace, isOver, passedOut, trumpAfter, openingAfter}
-use Rattle.laws.specs.CallRefusal.{callRefusal}
+use Rattle.laws.specs.Auction.{isOver, passedOut, trumpAfter, openingAfter}
+use Rattle.laws.specs.CallRefusal.{callRefusal, callPlace}
 use Rattle.laws.specs.Law44.{cardsPlayed, allPlayed}
-use Rattle.laws.specs.CardRefusal.{cardRefusal}
+use Rattle.laws.specs.CardRefusal.{cardRefusal, cardPlace}
 use Rattle.laws.specs.Law68.{Claim, none, agreed, atClaimPoint, claimable}
 use Rattle.laws.specs.Record.{field, row, claimFields}
 use Rattle.laws.specs.Reading.{Reading, Reading.refused, Reading.found, onward, refuse, checkCode, readEach}
@@ -78,21 +78,21 @@ module _ (bytes : List ℕ) (at : ℕ) {end : ℕ} (from : ℕ) where
       (same-check notThirteen (seatWithoutThirteen deal) (not (eqb (seatWithoutThirteen deal) noSeat)) bytes end from _ _ refl)
 
 -- codes
-module _ (place : List ℕ → ℕ) (rule : List ℕ → ℕ → ℕ) where
+module _ (place rule : List ℕ → ℕ → ℕ) where
   pub each-taken : (l h bytes : List ℕ) (at : ℕ) {end : ℕ} (from : ℕ) → Stands bytes at (row 6 l) end
       → readEach 6 place rule (length l) h bytes at ≡ onward (takeEach place rule l h [] from) (λ g m. found g end)
   unfolding readEach takeEach row
   each-taken [] h bytes at from k = ap (λ (m : ℕ). found h m) (stands-end k)
   each-taken (c ∷ l) h bytes at from k =
       simp (read-is 6 bytes at (stands-here k) (stands-fits k))
-      (same-check (rule h c) (place h) (not (eqb (rule h c) accepted)) bytes (at + 6) from _ _ (each-taken l (c ∷ h) bytes (at + 6) from (stands-rest k))
+      (same-check (rule h c) (place h c) (not (eqb (rule h c) accepted)) bytes (at + 6) from _ _ (each-taken l (c ∷ h) bytes (at + 6) from (stands-rest k))
       ∙ sym (onward-assoc (checkCode place rule h c [] from) _ _))
 
   -- what is taken to the end is the whole history
   pub each-history : (l h : List ℕ) (from : ℕ) {g : List ℕ} {m : ℕ} → takeEach place rule l h [] from ≡ found g m → g ≡ reverseAux l h
   unfolding takeEach
   each-history [] h from {g} e = sym (let z : h ≡ g = cc in z)
-  each-history (c ∷ l) h from e = each-history l (c ∷ h) from (first-test (rule h c) (place h) (not (eqb (rule h c) accepted)) [] from _ e .1)
+  each-history (c ∷ l) h from e = each-history l (c ∷ h) from (first-test (rule h c) (place h c) (not (eqb (rule h c) accepted)) [] from _ e .1)
 
 -- a claim that four bits can tell
 abbrev pub Told : Claim → Type 0
@@ -101,12 +101,17 @@ Told (agreed tricks) = tricks ≤ 15
 
 module _ (bytes : List ℕ) (at : ℕ) {end : ℕ} (from : ℕ) where
   -- the calls
-  pub calls-taken : (d : ℕ) (calls : List ℕ) → Stands bytes at (field 9 (length calls) ∷ row 6 calls) end
+  pub calls-taken : (d : ℕ) (calls : List ℕ) → length calls ≤ 511 → Stands bytes at (field 9 (length calls) ∷ row 6 calls) end
       → readCalls d bytes at ≡ onward (takeCalls d calls [] from) (λ h m. found h end)
   unfolding readCalls takeCalls
-  calls-taken d calls k =
-      simp (read-is 9 bytes at (stands-here k) (stands-fits k), each-taken callPlace (callRefusal d) calls [] bytes (at + 9) from (stands-rest k))
-      (in-turn (takeEach callPlace (callRefusal d) calls [] [] from) end _ _ _ (λ h m q.
+  calls-taken d calls few k =
+      simp (
+        read-is 9 bytes at (stands-here k) (stands-fits k),
+        le-ltb 511 (length calls) few,
+        test-is,
+        each-taken (callPlace d) (callRefusal d) calls [] bytes (at + 9) from (stands-rest k),
+      )
+      (in-turn (takeEach (callPlace d) (callRefusal d) calls [] [] from) end _ _ _ (λ h m q.
       same-check auctionUnfinished (length calls) (not (isOver h)) bytes end m _ _ refl ∙ sym (onward-assoc (checkOver (length calls) h [] m) _ _)))
 
   -- the cards
@@ -117,7 +122,7 @@ module _ (bytes : List ℕ) (at : ℕ) {end : ℕ} (from : ℕ) where
       let told : min (length cards) 63 ≡ length cards = omega arith in
       simp (read-is 6 bytes at (stands-here k) (stands-fits k), told)
       (same-check tooManyCards (length cards) (ltb 52 (length cards) || (passedOut h && ltb 0 (length cards))) bytes (at + 6) from _ _
-      (each-taken cardsPlayed (cardRefusal (trumpAfter h) (openingAfter d h) deal) cards [] bytes (at + 6) from (stands-rest k))
+      (each-taken cardPlace (cardRefusal (trumpAfter h) (openingAfter d h) deal) cards [] bytes (at + 6) from (stands-rest k))
       ∙ sym (onward-assoc (checkCount (length cards) (length cards) h [] from) _ _))
 
   -- the claim

@@ -1,13 +1,14 @@
--- Laws 18, 19 and 22: the auction, on the history of its calls.
+-- Laws 18, 19, 22 and 27A: the auction, on the history of its calls.
 -- A history has the latest call first: in `c ∷ h`, c was called after the calls of h. Calls are numbers: 0 pass, 1 double, 2 redouble,
--- 3 to 37 the bids, 3 + 5 × (level - 1) + strain. A number from 38 on is no call: no Law allows it.
+-- 3 to 37 the bids, 3 + 5 × (level - 1) + strain. Among them may stand marks, 38: the next call is an insufficient bid that was accepted. A mark is
+-- no call and takes no turn. A number from 39 on is neither: no Law allows it.
 -- Assumes nothing.
-use Prim.Native.Nat.{ℕ, zero, suc, _+_, _-_, _/_, _%_}
-use mathlib.Core.Bool.{Bool, true, false, not, _&&_}
+use Prim.Native.Nat.{ℕ, suc, _+_, _-_, _/_, _%_}
+use mathlib.Core.Bool.{Bool, true, false, not, _&&_, _||_}
 use mathlib.Core.List.{List, [], _∷_}
 use lib.Dec.{eqb, ltb, leb}
 use lib.ListN.{length}
-use Rattle.laws.specs.Choice.{if_then_else_}
+use Rattle.laws.specs.Choice.{if_then_else_, howMany}
 use Rattle.laws.specs.Cards.{noSeat, clockwise, sideOf, sameSide}
 
 abbrev pub pass : ℕ
@@ -18,6 +19,10 @@ double = 1
 
 abbrev pub redouble : ℕ
 redouble = 2
+
+-- the mark of Law 27A
+abbrev pub mark : ℕ
+mark = 38
 
 abbrev pub isBid : ℕ → Bool
 isBid c = leb 3 c && leb c 37
@@ -30,13 +35,22 @@ levelOf bid = (bid - 3) / 5 + 1
 unfoldable pub strainOf : ℕ → ℕ
 strainOf bid = (bid - 3) % 5
 
--- how many calls stand before the next one: its place, counted from 0
-unfoldable pub callPlace : List ℕ → ℕ
-callPlace h = length h
+-- how many codes, calls and marks, stand before the next one: its place, counted from 0
+unfoldable pub codesBefore : List ℕ → ℕ
+codesBefore h = length h
+
+-- how many calls have been made: marks are not counted
+unfoldable pub callsMade : List ℕ → ℕ
+callsMade h = howMany (λ c. not (eqb c mark)) h
+
+-- the latest code is a mark
+unfoldable pub isMarked : List ℕ → Bool
+isMarked [] = false
+isMarked (c ∷ h) = eqb c mark
 
 -- whose turn it is: the dealer calls first, then clockwise
 unfoldable pub toCall : ℕ → List ℕ → ℕ
-toCall dealer h = clockwise dealer (length h)
+toCall dealer h = clockwise dealer (callsMade h)
 
 -- the last bid; 0 before the first
 unfoldable pub lastBid : List ℕ → ℕ
@@ -48,10 +62,14 @@ unfoldable pub lastBidder : ℕ → List ℕ → ℕ
 lastBidder dealer [] = noSeat
 lastBidder dealer (c ∷ h) = if isBid c then toCall dealer h else lastBidder dealer h
 
+-- a pass or a mark
+abbrev pub isPassOrMark : ℕ → Bool
+isPassOrMark c = eqb c pass || eqb c mark
+
 -- the history back to its latest call that is no pass
 unfoldable pub beforePasses : List ℕ → List ℕ
 beforePasses [] = []
-beforePasses (c ∷ h) = if eqb c pass then beforePasses h else (c ∷ h)
+beforePasses (c ∷ h) = if isPassOrMark c then beforePasses h else (c ∷ h)
 
 -- the latest call is a bid by a player of the other side than the seat's
 unfoldable pub bidByOpponents : ℕ → ℕ → List ℕ → Bool
@@ -68,9 +86,17 @@ unfoldable pub doubledOwnBid : ℕ → ℕ → List ℕ → Bool
 doubledOwnBid dealer seat [] = false
 doubledOwnBid dealer seat (c ∷ h) = eqb c double && bidByOwnSide dealer seat (beforePasses h)
 
+-- there is a bid
+unfoldable pub hasBid : List ℕ → Bool
+hasBid h = not (eqb (lastBid h) 0)
+
 -- Law 18: a bid is above the last bid
 unfoldable pub sufficient : List ℕ → ℕ → Bool
 sufficient h bid = ltb (lastBid h) bid
+
+-- Law 27A: a bid that is accepted though it is not above the last: there is a last bid, and it is at or below it
+unfoldable pub atOrBelow : List ℕ → ℕ → Bool
+atOrBelow h bid = hasBid h && leb bid (lastBid h)
 
 -- Law 19A: a double is of the other side's bid, with only passes since
 unfoldable pub mayDouble : ℕ → List ℕ → Bool
@@ -80,14 +106,13 @@ mayDouble dealer h = bidByOpponents dealer (toCall dealer h) (beforePasses h)
 unfoldable pub mayRedouble : ℕ → List ℕ → Bool
 mayRedouble dealer h = doubledOwnBid dealer (toCall dealer h) (beforePasses h)
 
--- how many passes have been made in a row
+-- how many passes have been made in a row; a mark does not break the row
 unfoldable pub passesInARow : List ℕ → ℕ
 passesInARow [] = 0
-passesInARow (c ∷ h) = if eqb c pass then suc (passesInARow h) else 0
-
--- there is a bid
-unfoldable pub hasBid : List ℕ → Bool
-hasBid h = not (eqb (lastBid h) 0)
+passesInARow (c ∷ h) =
+    if eqb c pass then suc (passesInARow h)
+    else if eqb c mark then passesInARow h
+    else 0
 
 -- Law 22: the auction ends at three passes in a row after a bid (A), or at four opening passes (B)
 unfoldable pub isOver : List ℕ → Bool
@@ -97,11 +122,13 @@ isOver h = if hasBid h then leb 3 (passesInARow h) else leb 4 (passesInARow h)
 unfoldable pub passedOut : List ℕ → Bool
 passedOut h = not (hasBid h)
 
--- Laws 18, 19 and 22: the call is allowed after the calls h
+-- Laws 18, 19, 22 and 27A: the code is allowed after the calls h. After a mark that is a bid at or below the last one and nothing else; what may
+-- follow a mark is said there, so that a mark is allowed wherever the auction is not over
 unfoldable pub allowed : ℕ → List ℕ → ℕ → Bool
 allowed dealer h c =
     if isOver h then false
-    else if eqb c pass then true
+    else if isMarked h then isBid c && atOrBelow h c
+    else if isPassOrMark c then true
     else if eqb c double then mayDouble dealer h
     else if eqb c redouble then mayRedouble dealer h
     else isBid c && sufficient h c

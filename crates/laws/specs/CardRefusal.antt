@@ -6,7 +6,7 @@ use mathlib.Core.List.{List}
 use lib.Dec.{leb}
 use Rattle.laws.specs.Choice.{if_then_else_}
 use Rattle.laws.specs.Refusals.{accepted, noCard, cardNotHeld, cardAlreadyPlayed}
-use Rattle.laws.specs.Law44.{toPlay, hasPlayed, playable}
+use Rattle.laws.specs.Law44.{cardsPlayed, toPlay, hasPlayed, playable}
 
 -- the number of the refusal, 0 where the card may be played
 unfoldable pub cardRefusal : ℕ → ℕ → List ℕ → List ℕ → ℕ → ℕ
@@ -15,3 +15,7 @@ cardRefusal trump opening deal g card =
     else if playable trump opening deal g card then accepted
     else if hasPlayed deal g (toPlay trump opening g) card then cardAlreadyPlayed
     else cardNotHeld
+
+-- the place where a card is refused after the cards g: how many were played before it
+abbrev pub cardPlace : List ℕ → ℕ → ℕ
+cardPlace g card = cardsPlayed g

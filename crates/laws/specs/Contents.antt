@@ -8,13 +8,12 @@ use mathlib.Core.List.{List, [], _∷_}
 use lib.Dec.{ltb, eqb}
 use lib.ListN.{length, getD}
 use Rattle.laws.specs.Choice.{some}
-use Rattle.laws.specs.Refusals.{noBoardOrTable, notThirteen}
+use Rattle.laws.specs.Refusals.{noBoardOrTable, notThirteen, tooManyCodes}
 use Rattle.laws.specs.Cards.{noSeat}
 use Rattle.laws.specs.Law2.{dealer}
-use Rattle.laws.specs.Auction.{callPlace, trumpAfter, openingAfter}
-use Rattle.laws.specs.CallRefusal.{callRefusal}
-use Rattle.laws.specs.Law44.{cardsPlayed}
-use Rattle.laws.specs.CardRefusal.{cardRefusal}
+use Rattle.laws.specs.Auction.{trumpAfter, openingAfter}
+use Rattle.laws.specs.CallRefusal.{callRefusal, callPlace}
+use Rattle.laws.specs.CardRefusal.{cardRefusal, cardPlace}
 use Rattle.laws.specs.Law68.{Claim, none, agreed}
 use Rattle.laws.specs.Record.{Parts}
 use Rattle.laws.specs.Reading.{Reader, _>>=_, _>>_, give, refuse, checkCode}
@@ -52,16 +51,17 @@ takeDeal deal = do
   checkDeal deal
 
 -- codes, each checked on the history before it; the whole history, latest first
-unfoldable pub takeEach : (List ℕ → ℕ) → (List ℕ → ℕ → ℕ) → List ℕ → List ℕ → Reader (List ℕ)
+unfoldable pub takeEach : (List ℕ → ℕ → ℕ) → (List ℕ → ℕ → ℕ) → List ℕ → List ℕ → Reader (List ℕ)
 takeEach place rule [] h = give h
 takeEach place rule (code ∷ codes) h = do
   checkCode place rule h code
   takeEach place rule codes (code ∷ h)
 
--- the calls; d is the dealer
+-- the calls; d is the dealer. More codes than the count can tell are refused before any is looked at
 unfoldable pub takeCalls : ℕ → List ℕ → Reader (List ℕ)
 takeCalls d calls = do
-  h ← takeEach callPlace (callRefusal d) calls []
+  refuse tooManyCodes 511 (ltb 511 (length calls))
+  h ← takeEach (callPlace d) (callRefusal d) calls []
   checkOver (length calls) h
   give h
 
@@ -69,7 +69,7 @@ takeCalls d calls = do
 unfoldable pub takeCards : ℕ → List ℕ → List ℕ → List ℕ → Reader (List ℕ)
 takeCards d deal h cards = do
   checkCount (min (length cards) 63) (length cards) h
-  takeEach cardsPlayed (cardRefusal (trumpAfter h) (openingAfter d h) deal) cards []
+  takeEach cardPlace (cardRefusal (trumpAfter h) (openingAfter d h) deal) cards []
 
 -- the claim; one over 15 is told as 15
 unfoldable pub takeClaim : List ℕ → List ℕ → Claim → Check

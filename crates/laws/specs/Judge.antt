@@ -6,10 +6,9 @@ use lib.Dec.{ltb, eqb}
 use Rattle.laws.specs.Choice.{if_then_else_}
 use Rattle.laws.specs.Refusals.{refusalNumber, shortBuffer}
 use Rattle.laws.specs.Law2.{dealer}
-use Rattle.laws.specs.Auction.{callPlace, trumpAfter, openingAfter}
-use Rattle.laws.specs.CallRefusal.{callRefusal}
-use Rattle.laws.specs.Law44.{cardsPlayed}
-use Rattle.laws.specs.CardRefusal.{cardRefusal}
+use Rattle.laws.specs.Auction.{trumpAfter, openingAfter}
+use Rattle.laws.specs.CallRefusal.{callRefusal, callPlace}
+use Rattle.laws.specs.CardRefusal.{cardRefusal, cardPlace}
 use Rattle.laws.specs.Law68.{Claim, none, agreed}
 use Rattle.laws.specs.Checks.{checkBoard, checkTable, checkDeal, checkOver, checkCount, checkPlayedOut, checkClaimPoint, checkClaim}
 use Rattle.laws.specs.Record.{Parts}
@@ -40,7 +39,7 @@ readDeal = do
 unfoldable pub readCalls : ℕ → Reader (List ℕ)
 readCalls d = do
   count ← read 9
-  h ← readEach 6 callPlace (callRefusal d) count []
+  h ← readEach 6 (callPlace d) (callRefusal d) count []
   checkOver count h
   give h
 
@@ -49,7 +48,7 @@ unfoldable pub readCards : ℕ → List ℕ → List ℕ → Reader (List ℕ)
 readCards d deal h = do
   count ← read 6
   checkCount count count h
-  readEach 6 cardsPlayed (cardRefusal (trumpAfter h) (openingAfter d h) deal) count []
+  readEach 6 cardPlace (cardRefusal (trumpAfter h) (openingAfter d h) deal) count []
 
 -- no claim
 unfoldable pub readNoClaim : List ℕ → List ℕ → Reader Claim

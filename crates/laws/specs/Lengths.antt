@@ -1,17 +1,22 @@
--- An auction each of whose calls is allowed, and the longest one: three passes, then every bid in its order, each doubled and redoubled after two passes;
--- how many bytes an accepted record has at the most, and how many first bytes decide what is said of any.
+-- An auction each of whose codes is allowed, and the longest one without a mark: three passes, then every bid in its order, each doubled and redoubled
+-- after two passes; how many bytes an accepted record has at the most, and how many first bytes decide what is said of any.
 -- A history has the latest call first, as in `Auction`.
 -- Assumes nothing.
 use Prim.Native.Nat.{ℕ, zero, suc, _+_}
 use mathlib.Core.Path.{_≡_}
 use mathlib.Core.Bool.{true}
 use mathlib.Core.List.{List, [], _∷_}
-use Rattle.laws.specs.Auction.{pass, double, redouble, allowed}
+use Rattle.laws.specs.Auction.{pass, double, redouble, mark, allowed}
 
--- each call of the history is allowed after those before it
+-- each code of the history is allowed after those before it
 unfoldable pub AllAllowed : ℕ → List ℕ → Type 0
 AllAllowed dealer [] = Unit {0}
 AllAllowed dealer (c ∷ h) = (allowed dealer h c ≡ true) × AllAllowed dealer h
+
+-- no code of the history is a mark
+unfoldable pub NoMark : List ℕ → Type 0
+NoMark [] = Unit {0}
+NoMark (c ∷ h) = (c ≡ mark → ⊥) × NoMark h
 
 -- a bid after the calls h, doubled and redoubled, with two passes after each
 abbrev pub twicePassed : ℕ → List ℕ → List ℕ
@@ -26,9 +31,9 @@ bidsInTurn (suc n) = twicePassed (3 + n) (bidsInTurn n)
 unfoldable pub longestAuction : List ℕ
 longestAuction = pass ∷ bidsInTurn 35
 
--- an accepted record has at most so many bytes
+-- an accepted record has at most so many bytes: as many as 511 codes of calls and marks and 52 cards need
 abbrev pub mostBytes : ℕ
-mostBytes = 296
+mostBytes = 440
 
 -- the judge says the same of any bytes and of their first so many: of those that an accepted record can have, and one more
 abbrev pub decidingBytes : ℕ

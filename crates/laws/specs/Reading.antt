@@ -60,12 +60,12 @@ readRow w (suc n) = do
   rest ← readRow w n
   give (value ∷ rest)
 
--- a code is refused by a rule on the history before it, at that history's place
-abbrev pub checkCode : (List ℕ → ℕ) → (List ℕ → ℕ → ℕ) → List ℕ → ℕ → Reader (Unit {0})
-checkCode place rule h code = refuse (rule h code) (place h) (not (eqb (rule h code) accepted))
+-- a code is refused by a rule on the history before it, at a place that history and code tell
+abbrev pub checkCode : (List ℕ → ℕ → ℕ) → (List ℕ → ℕ → ℕ) → List ℕ → ℕ → Reader (Unit {0})
+checkCode place rule h code = refuse (rule h code) (place h code) (not (eqb (rule h code) accepted))
 
 -- n codes of w bits, each checked on the history before it; the whole history, latest first
-unfoldable pub readEach : ℕ → (List ℕ → ℕ) → (List ℕ → ℕ → ℕ) → ℕ → List ℕ → Reader (List ℕ)
+unfoldable pub readEach : ℕ → (List ℕ → ℕ → ℕ) → (List ℕ → ℕ → ℕ) → ℕ → List ℕ → Reader (List ℕ)
 readEach w place rule zero h = give h
 readEach w place rule (suc n) h = do
   code ← read w

@@ -33,11 +33,11 @@ noBoardOrTable = 3
 abbrev pub notThirteen : ℕ
 notThirteen = 4
 
--- a code that is no call
+-- a code that is neither a call nor a mark
 abbrev pub noCall : ℕ
 noCall = 5
 
--- Law 27: a bid that is not above the last
+-- Law 27: a bid without a mark that is not above the last
 abbrev pub insufficientBid : ℕ
 insufficientBid = 6
 
@@ -109,6 +109,10 @@ shortRecordBuffer = 22
 abbrev pub cardAlreadyPlayed : ℕ
 cardAlreadyPlayed = 23
 
+-- Law 27A: a mark that is not followed by a bid at or below a last bid
+abbrev pub wrongMark : ℕ
+wrongMark = 24
+
 -- a board of a team match that is outside 1 to 127, or was used already
 abbrev pub boardNotFree : ℕ
 boardNotFree = 29
@@ -117,10 +121,14 @@ boardNotFree = 29
 abbrev pub tooManyBoards : ℕ
 tooManyBoards = 30
 
--- the numbers that a record is refused with: 1 to 16, and 23
-abbrev pub refusesRecord : ℕ → Bool
-refusesRecord n = (leb 1 n && leb n 16) || eqb n cardAlreadyPlayed
+-- more than 511 codes of calls and marks given for a record
+abbrev pub tooManyCodes : ℕ
+tooManyCodes = 33
 
--- the numbers that contents are refused with when a record is written from them: 3 to 15, 22 and 23
+-- the numbers that a record is refused with: 1 to 16, 23 and 24
+abbrev pub refusesRecord : ℕ → Bool
+refusesRecord n = (leb 1 n && leb n 16) || (leb 23 n && leb n 24)
+
+-- the numbers that contents are refused with when a record is written from them: 3 to 15, 22 to 24, and 33
 abbrev pub refusesContents : ℕ → Bool
-refusesContents n = (leb 3 n && leb n 15) || (eqb n shortRecordBuffer || eqb n cardAlreadyPlayed)
+refusesContents n = (leb 3 n && leb n 15) || ((leb 22 n && leb n 24) || eqb n tooManyCodes)

@@ -17,10 +17,10 @@ pub const NO_BOARD_OR_TABLE: u8 = 3;
 // Law 1: a seat without thirteen cards.
 pub const NOT_THIRTEEN: u8 = 4;
 
-// A code that is no call.
+// A code that is neither a call nor a mark.
 pub const NO_CALL: u8 = 5;
 
-// Law 27: a bid that is not above the last.
+// Law 27: a bid without a mark that is not above the last.
 pub const INSUFFICIENT_BID: u8 = 6;
 
 // Law 36: a double or a redouble that is not allowed.
@@ -74,11 +74,17 @@ pub const SHORT_RECORD_BUFFER: u8 = 22;
 // Law 44: a card that the seat at turn has played already.
 pub const CARD_ALREADY_PLAYED: u8 = 23;
 
+// Law 27A: a mark that is not followed by a bid at or below a last bid.
+pub const WRONG_MARK: u8 = 24;
+
 // A board of a team match that is outside 1 to 127, or was used already.
 pub const BOARD_NOT_FREE: u8 = 29;
 
 // A 33rd board of a team match.
 pub const TOO_MANY_BOARDS: u8 = 30;
+
+// More than 511 codes of calls and marks given for a record.
+pub const TOO_MANY_CODES: u8 = 33;
 
 // A refusal and its place as one number: refusal × 1024 + place.
 pub fn refusal_number(refusal: u8, place: u16) -> u32

@@ -37,10 +37,11 @@ pub record Judged : Type 0 where
 pub judged : Judged
 unfolding
     Choice.howMany Choice.some Cards.clockwise Cards.cardsDealt Cards.firstWithoutThirteen Law2.dealer
-    Auction.strainOf Auction.callPlace Auction.toCall Auction.lastBid Auction.lastBidder Auction.beforePasses
-    Auction.bidByOpponents Auction.bidByOwnSide Auction.doubledOwnBid Auction.sufficient Auction.mayDouble Auction.mayRedouble
+    Auction.strainOf Auction.codesBefore Auction.callsMade Auction.isMarked Auction.toCall Auction.lastBid Auction.lastBidder Auction.beforePasses
+    Auction.bidByOpponents Auction.bidByOwnSide Auction.doubledOwnBid Auction.sufficient Auction.atOrBelow Auction.mayDouble Auction.mayRedouble
     Auction.passesInARow Auction.hasBid Auction.isOver Auction.passedOut Auction.allowed
     Auction.bidsStrain Auction.firstToBid Auction.declarer Auction.trumpAfter Auction.openingAfter CallRefusal.callRefusal
+    CallRefusal.placeOf CallRefusal.callPlace
     Law44.cardsPlayed Law44.allPlayed Law44.tricksComplete Law44.tricksLeft Law44.cardsInTrick Law44.trickUnderWay
     Law44.suitLed Law44.highest Law44.winningCard Law44.playerOf Law44.winner Law44.leader Law44.toPlay
     Law44.isPlayed Law44.holds Law44.hasPlayed Law44.playable CardRefusal.cardRefusal Law68.atClaimPoint Law68.claimable

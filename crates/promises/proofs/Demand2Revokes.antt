@@ -5,13 +5,13 @@ use native.Mathlib.Omega.{arith}
 use mathlib.Core.Path.{_≡_, refl, sym, ap, ap₂, subst, _∙_}
 use mathlib.Core.Logic.{_↔_, _⊎_, inl, inr, ⊎-elim}
 use mathlib.Core.Bool.{Bool, true, false}
-use mathlib.Core.List.{List, [], _∷_, _++_, map, map-append, append-nil, reverse, reverse-append}
+use mathlib.Core.List.{List, [], _∷_, _++_, map, map-append, append-nil, reverse}
 use mathlib.Core.List.{List·Memᴰ, List·Memᴰ·head, List·Memᴰ·tail, List·Memᴰ·not-nil, List·Memᴰ·cases-cons, List·Memᴰ·eq-of-singleton}
 use mathlib.Core.List.{Memᴰ·append-left, Memᴰ·append-right, List·Memᴰ·append-cases}
 use lib.Dec.{eqb}
 use borrow.Author.Tests.{eqb-true, eqb-false, ne-eqb}
 use lib.ListN.{length, getD, take, length-take, length-reverse, length-map, length-append, drop}
-use lib.Seq.{take-suc, take-length, length-take-le, getD-append-seam}
+use lib.Seq.{take-length, length-take-le, getD-append-seam}
 use Rattle.laws.specs.Choice.{if_then_else_}
 use Rattle.laws.specs.Cards.{suitOf, clockwise}
 use Rattle.laws.specs.Law44.{cardsPlayed, tricksComplete, cardsInTrick, leader, toPlay}
@@ -21,6 +21,7 @@ use Rattle.laws.specs.Reading.{numberAt, bitAt}
 use Rattle.laws.specs.Judgement.{trumpOf, openingOf, revokesOf, revokeByte, revokeBytes}
 use Rattle.laws.specs.Lawful.{firstOf, Lawful}
 use Rattle.laws.proofs.Tests.{by-test}
+use Rattle.laws.proofs.Histories.{first-suc}
 use Rattle.laws.proofs.Revokes.{revoke-exactly}
 use Rattle.play.proofs.Holders.{turn-seat}
 use Rattle.promises.proofs.Demand2Judgement.{demand-2-judgement}
@@ -36,16 +37,13 @@ module _ (trump opening : ℕ) (deal cards : List ℕ) where
   placesTo zero = []
   placesTo (suc n) = placesTo n ++ (if isAt n then (n ∷ []) else [])
 
-  first-suc : (n : ℕ) → n < length cards → firstOf (suc n) cards ≡ getD cards n 0 ∷ firstOf n cards
-  first-suc n h = ap reverse (take-suc cards n 0 h) ∙ reverse-append (take n cards) (getD cards n 0 ∷ [])
-
   revokes-to : (n : ℕ) → n ≤ length cards
       → revokes trump opening deal (firstOf n cards) ≡ map (λ k. revokeAt trump opening (firstOf k cards)) (placesTo n)
   unfolding revokes placesTo
   revokes-to zero h = refl
   revokes-to (suc n) h =
       let last : List ℕ = if isAt n then (n ∷ []) else [] in
-      rw (first-suc n (omega arith), map-append (λ k. revokeAt trump opening (firstOf k cards)) (placesTo n) last, revokes-to n (omega arith))
+      rw (first-suc cards n (omega arith), map-append (λ k. revokeAt trump opening (firstOf k cards)) (placesTo n) last, revokes-to n (omega arith))
       (by-test (isAt n)
       (λ (q : isAt n ≡ true). rw q)
       (λ (q : isAt n ≡ false). rw q))
@@ -134,7 +132,7 @@ module _ (p : Parts) where
       let g = firstOf (k + d) (p .cards) in
       let n : length g ≡ k + d = played-to (k + d) (omega arith) in
       let off : eqb (suc (length g) % 4) 0 ≡ false = ne-eqb (suc (length g) % 4) 0 (λ z. omega (arith, n, e, z)) in
-      rw (add-suc k d, first-suc (trumpOf p) (openingOf p) (p .deal) (p .cards) (k + d) (omega arith), off) (same-leader k d (omega arith) (omega (arith, e)))
+      rw (add-suc k d, first-suc (p .cards) (k + d) (omega arith), off) (same-leader k d (omega arith) (omega (arith, e)))
 
   apart : (k d : ℕ) → k + suc d < length (p .cards) → revokeOn k ≡ revokeOn (k + suc d) → ⊥
   unfolding revokeAt toPlay clockwise tricksComplete cardsInTrick cardsPlayed

@@ -16,18 +16,19 @@ use Rattle.laws.specs.Lengths
 use lib.ListN.{length}
 use Rattle.laws.specs.Record.{encode}
 use Rattle.laws.specs.Judge.{Outcome.accepted, judgeOf}
-use Rattle.laws.proofs.LongestAuction.{at-most-319, at-most-319-in-order, longest-allowed, longest-over, longest-length}
-use Rattle.laws.proofs.Lengths.{at-most-296}
-use Rattle.promises.specs.Lengths.{ranksInTurn, longestParts, Lengths}
+use Rattle.laws.proofs.LongestAuction.{at-most-319, at-most-319-in-order, longest-allowed, longest-unmarked, longest-over, longest-length}
+use Rattle.laws.proofs.Lengths.{at-most-296, at-most-440}
+use Rattle.promises.specs.Lengths.{ranksInTurn, longestParts, oneClubAgain, markedParts, Lengths}
 use Rattle.promises.proofs.Demand2Accepts.{accepted-lawful, by-judging}
 
 judged : judgeOf (encode longestParts) 7 36 ≡ accepted longestParts
 unfolding
     Choice.howMany Choice.some Cards.clockwise Cards.cardsDealt Cards.firstWithoutThirteen Law2.dealer
-    Auction.strainOf Auction.callPlace Auction.toCall Auction.lastBid Auction.lastBidder Auction.beforePasses
-    Auction.bidByOpponents Auction.bidByOwnSide Auction.doubledOwnBid Auction.sufficient Auction.mayDouble Auction.mayRedouble
+    Auction.strainOf Auction.codesBefore Auction.callsMade Auction.isMarked Auction.toCall Auction.lastBid Auction.lastBidder Auction.beforePasses
+    Auction.bidByOpponents Auction.bidByOwnSide Auction.doubledOwnBid Auction.sufficient Auction.atOrBelow Auction.mayDouble Auction.mayRedouble
     Auction.passesInARow Auction.hasBid Auction.isOver Auction.passedOut Auction.allowed
     Auction.bidsStrain Auction.firstToBid Auction.declarer Auction.trumpAfter Auction.openingAfter CallRefusal.callRefusal
+    CallRefusal.placeOf CallRefusal.callPlace
     Law44.cardsPlayed Law44.allPlayed Law44.tricksComplete Law44.tricksLeft Law44.cardsInTrick Law44.trickUnderWay
     Law44.suitLed Law44.highest Law44.winningCard Law44.playerOf Law44.winner Law44.leader Law44.toPlay
     Law44.isPlayed Law44.holds Law44.playable CardRefusal.cardRefusal Law68.atClaimPoint Law68.claimable
@@ -38,22 +39,57 @@ unfolding
     Lengths.bidsInTurn Lengths.longestAuction ranksInTurn longestParts
 judged = refl
 
+marked : judgeOf (encode markedParts) 7 36 ≡ accepted markedParts
+unfolding
+    Choice.howMany Choice.some Cards.clockwise Cards.cardsDealt Cards.firstWithoutThirteen Law2.dealer
+    Auction.strainOf Auction.codesBefore Auction.callsMade Auction.isMarked Auction.toCall Auction.lastBid Auction.lastBidder Auction.beforePasses
+    Auction.bidByOpponents Auction.bidByOwnSide Auction.doubledOwnBid Auction.sufficient Auction.atOrBelow Auction.mayDouble Auction.mayRedouble
+    Auction.passesInARow Auction.hasBid Auction.isOver Auction.passedOut Auction.allowed
+    Auction.bidsStrain Auction.firstToBid Auction.declarer Auction.trumpAfter Auction.openingAfter CallRefusal.callRefusal
+    CallRefusal.placeOf CallRefusal.callPlace
+    Law44.cardsPlayed Law44.allPlayed Law44.tricksComplete Law44.tricksLeft Law44.cardsInTrick Law44.trickUnderWay
+    Law44.suitLed Law44.highest Law44.winningCard Law44.playerOf Law44.winner Law44.leader Law44.toPlay
+    Law44.isPlayed Law44.holds Law44.playable CardRefusal.cardRefusal Law68.atClaimPoint Law68.claimable
+    Record.row Record.claimFields Record.layout Record.bits Record.padding Record.padded Record.number Record.bytesOf Record.packed Record.encode
+    Reading.bitAt Reading.numberAt Reading.read Reading.refuse Reading.readRow Reading.readEach Reading.overfull Reading.ending
+    Judge.readHeading Judge.readDeal Judge.readCalls Judge.readCards Judge.readNoClaim Judge.readMarkedClaim Judge.readClaim
+    Judge.readRecord Judge.readLent Judge.judgeOf
+    ranksInTurn oneClubAgain markedParts
+marked = refl
+
 bytes-296 : length (encode longestParts) ≡ 296
 unfolding
     Record.row Record.claimFields Record.layout Record.bits Record.padding Record.padded Record.number Record.bytesOf Record.packed Record.encode
     Lengths.bidsInTurn Lengths.longestAuction ranksInTurn longestParts
 bytes-296 = refl
 
+codes-511 : length (markedParts .calls) ≡ 511
+unfolding oneClubAgain markedParts
+codes-511 = refl
+
+bytes-440 : length (encode markedParts) ≡ 440
+unfolding
+    Record.row Record.claimFields Record.layout Record.bits Record.padding Record.padded Record.number Record.bytesOf Record.packed Record.encode
+    ranksInTurn oneClubAgain markedParts
+bytes-440 = refl
+
 pub lengths : Lengths
 lengths =
     record {
-      most-calls = λ dealer h a. omega (arith, at-most-319 dealer h a);
+      most-calls = λ dealer h a n. omega (arith, at-most-319 dealer h a n);
       most-calls-in-order = at-most-319-in-order;
       longest-auction = longest-allowed;
+      longest-unmarked = longest-unmarked;
       longest-over = longest-over;
       longest-calls = longest-length;
-      most-bytes = λ bytes small answer list p q. let w = accepted-lawful bytes answer list small p q in rw (w .1) (omega (arith, at-most-296 p (w .0)));
+      most-bytes-unmarked = λ bytes small answer list p q n.
+          let w = accepted-lawful bytes answer list small p q in rw (w .1) (omega (arith, at-most-296 p (w .0) n));
       longest-record = judged;
       longest-lawful = by-judging longestParts judged;
       longest-bytes = bytes-296;
+      most-bytes = λ bytes small answer list p q. let w = accepted-lawful bytes answer list small p q in rw (w .1) (omega (arith, at-most-440 p (w .0)));
+      marked-record = marked;
+      marked-lawful = by-judging markedParts marked;
+      marked-codes = codes-511;
+      marked-bytes = bytes-440;
     }

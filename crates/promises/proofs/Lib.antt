@@ -2,6 +2,7 @@ pub mod Examples
 pub mod Demand2Records
 pub mod Demand2Accepts
 pub mod Lengths
+pub mod Marks
 pub mod BestTotal
 pub mod Demand1
 pub mod Demand2Judgement

@@ -20,9 +20,9 @@ use Rattle.laws.specs.Writing.{Written, refused, written, writeBy, writeOf, num
 use Rattle.laws.proofs.Tests.{by-test}
 use Rattle.laws.proofs.RecordNumbers.{contents-from-1}
 use Rattle.laws.proofs.Accepts.{accepts-parts}
-use Rattle.laws.proofs.Lengths.{at-most-296}
+use Rattle.laws.proofs.Lengths.{at-most-440}
 use Rattle.laws.proofs.ContentsLawful.{accepted-fits, judged-alike, accepted-lawful}
-use Rattle.laws.proofs.ContentsStop.{heading-passes, board-stops, table-stops, deal-passes, number-stops, holder-stops, calls-pass, call-stops}
+use Rattle.laws.proofs.ContentsStop.{heading-passes, board-stops, table-stops, deal-passes, number-stops, holder-stops, codes-stop, calls-pass, call-stops}
 use Rattle.laws.proofs.ContentsStop.{cards-pass, count-stops, card-stops, claim-stops}
 use Rattle.laws.proofs.ContentsNumbered.{contents-numbered}
 use Rattle.promises.specs.Writing.{Section, heading, deal, calls, cards, claim, Alike, checksTo, HeadingStands, DealStands, CallsStand, CardsStand}
@@ -118,7 +118,7 @@ module _ (p : Parts) where
 
     -- the number returned
     number : (numberOf (writeOf p room) < 1024) ↔ (writeOf p room ≡ written (encode p))
-    number = (go (writeOf p room) refl, λ e. rw e (omega (arith, at-most-296 p (writes .0 e .0))))
+    number = (go (writeOf p room) refl, λ e. rw e (omega (arith, at-most-440 p (writes .0 e .0))))
       where
         go : (w : Written) → writeOf p room ≡ w → numberOf w < 1024 → w ≡ written (encode p)
         go (refused n place) e l = absurd (not-low n place (never n place e .0) l)
@@ -209,7 +209,7 @@ module _ (p : Parts) (room : ℕ) where
   deal-stands h = deal-passes (p .deal) 0 (h .holders) (h .holder) (h .thirteen)
 
   calls-stand : CallsStand p → takeCalls (dealer (p .board)) (p .calls) [] 0 ≡ found (reverse (p .calls)) 0
-  calls-stand h = calls-pass (dealer (p .board)) (p .calls) 0 (h .called .each) (h .called .over)
+  calls-stand h = calls-pass (dealer (p .board)) (p .calls) 0 (h .few) (h .called .each) (h .called .over)
 
   cards-stand : CardsStand p → takeCards (dealer (p .board)) (p .deal) (reverse (p .calls)) (p .cards) [] 0 ≡ found (reverse (p .cards)) 0
   cards-stand h =
@@ -224,7 +224,8 @@ module _ (p : Parts) (room : ℕ) where
         table = λ a b o. stops (simp (table-stops (p .board) (p .table) 0 a b o));
         holders = λ h o. stops (simp (heading-stands h, number-stops (p .deal) 0 o));
         holder = λ h k w o. stops (simp (heading-stands h, holder-stops (p .deal) 0 k w o));
-        call = λ h k w each o. stops (simp (heading-stands (h .heading), deal-stands h, call-stops (dealer (p .board)) (p .calls) 0 k w each o));
+        codes = λ h o. stops (simp (heading-stands (h .heading), deal-stands h, codes-stop (dealer (p .board)) (p .calls) 0 o));
+        call = λ h few k w each o. stops (simp (heading-stands (h .heading), deal-stands h, call-stops (dealer (p .board)) (p .calls) 0 few k w each o));
         card = λ h played few k w each o.
             stops (simp (
               heading-stands (h .dealt .heading),

@@ -18,7 +18,7 @@ module _ (bytes answer list : List ℕ) where
   saidOf = judgeOf bytes (length answer) (length list)
 
   pub record Demand1 : Type 0 where
-    -- the number is 0, or a refusal of a record, 1 to 16 or 23, × 1024 and a place below 1024
+    -- the number is 0, or a refusal of a record, 1 to 16, 23 or 24, × 1024 and a place below 1024
     pub number : (numberOf saidOf ≡ 0) ⊎ Refusal (numberOf saidOf)
     -- with any number but 0 both buffers are as they were
     pub refusal-leaves : (numberOf saidOf ≡ 0 → ⊥) → (answerLeft saidOf answer ≡ answer) × (listLeft saidOf list ≡ list)

@@ -18,7 +18,7 @@ use Rattle.laws.specs.Record.{Parts, encode}
 use Rattle.laws.specs.Judge.{Outcome.refused, Outcome.accepted, judgeOf, numberOf}
 use Rattle.laws.specs.Lawful.{Lawful}
 
--- a number that is a refusal of a record, 1 to 16 or 23, × 1024, and a place below 1024
+-- a number that is a refusal of a record, 1 to 16, 23 or 24, × 1024, and a place below 1024
 pub record Refusal (number : ℕ) : Type 0 where
   pub refusal : ℕ
   pub place : ℕ

@@ -1,6 +1,7 @@
 pub mod Examples
 pub mod Demand2
 pub mod Lengths
+pub mod Marks
 pub mod BestTotal
 pub mod Demand1
 pub mod Demand2Judgement

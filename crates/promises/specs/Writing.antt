@@ -9,7 +9,7 @@ use mathlib.Core.List.{List, [], reverse}
 use lib.ListN.{length, getD, take, drop}
 use Rattle.laws.specs.Bytes.{Bytes}
 use Rattle.laws.specs.Refusals.{shortBuffer, recordEnds, noBoardOrTable, notThirteen, noCall, tooManyCards, noCard, claimTooMany, notPadding}
-use Rattle.laws.specs.Refusals.{shortRecordBuffer, refusesContents}
+use Rattle.laws.specs.Refusals.{shortRecordBuffer, tooManyCodes, refusesContents}
 use Rattle.laws.specs.Cards.{noSeat}
 use Rattle.laws.specs.Law2.{dealer}
 use Rattle.laws.specs.Auction.{allowed, passedOut, trumpAfter, openingAfter}
@@ -75,6 +75,7 @@ pub record DealStands (p : Parts) : Type 0 where
 
 pub record CallsStand (p : Parts) : Type 0 where
   pub dealt : DealStands p
+  pub few : length (p .calls) ≤ 511
   pub called : Called p
 
 pub record CardsStand (p : Parts) : Type 0 where
@@ -82,7 +83,7 @@ pub record CardsStand (p : Parts) : Type 0 where
   pub few : length (p .cards) ≤ 52
   pub played : Played p
 
--- the first k calls are allowed, each after those before it
+-- the first k codes are allowed, each after those before it
 abbrev pub CallsTo : ℕ → Parts → Type 0
 CallsTo k p = (j : ℕ) → j < k → allowed (dealer (p .board)) (firstOf j (p .calls)) (getD (p .calls) j 0) ≡ true
 
@@ -100,8 +101,11 @@ pub record Beyond (p : Parts) (room : ℕ) : Type 0 where
   -- another number of holders than 52, or a holder that is no seat
   pub holders : HeadingStands p → (length (p .deal) ≡ 52 → ⊥) → writeOf p room ≡ refused notThirteen noSeat
   pub holder : HeadingStands p → (k : ℕ) → k < length (p .deal) → 3 < getD (p .deal) k 0 → writeOf p room ≡ refused notThirteen noSeat
-  -- a code that is no call, over 63 too; and a code that is no card
-  pub call : DealStands p → (k : ℕ) → k < length (p .calls) → CallsTo k p → 37 < getD (p .calls) k 0 → writeOf p room ≡ refused noCall k
+  -- more codes of calls and marks than the count can tell, directly after the deal
+  pub codes : DealStands p → 511 < length (p .calls) → writeOf p room ≡ refused tooManyCodes 511
+  -- a code that is neither a call nor a mark, over 63 too; and a code that is no card
+  pub call : DealStands p → length (p .calls) ≤ 511 → (k : ℕ) → k < length (p .calls) → CallsTo k p → 38 < getD (p .calls) k 0
+      → writeOf p room ≡ refused noCall k
   pub card : CallsStand p → passedOut (reverse (p .calls)) ≡ false → length (p .cards) ≤ 52 → (k : ℕ) → k < length (p .cards) → CardsTo k p
       → 51 < getD (p .cards) k 0
       → writeOf p room ≡ refused noCard k
@@ -130,7 +134,7 @@ pub record Writing : Type 0 where
       → judgeOf bytes answer list ≡ accepted p
   pub rewritten : (bytes : List ℕ) → Bytes bytes → (answer list : ℕ) (p : Parts) → judgeOf bytes answer list ≡ accepted p
       → (room : ℕ) → length bytes ≤ room → writeOf p room ≡ written bytes
-  -- no refusal is 1, 2 or 16: the numbers are 3 to 15, 22 and 23, with a place below 1024
+  -- no refusal is 1, 2 or 16: the numbers are 3 to 15, 22 to 24 and 33, with a place below 1024
   pub never : (p : Parts) (room n place : ℕ) → writeOf p room ≡ refused n place → (refusesContents n ≡ true) × (place < 1024)
   pub never-these : (refusesContents shortBuffer ≡ false) × (refusesContents recordEnds ≡ false) × (refusesContents notPadding ≡ false)
   -- the number returned is below 1024 exactly where bytes were written, and is then how many

@@ -5,7 +5,7 @@ use mathlib.Core.Path.{_≡_, refl, sym, ap, _∙_}
 use mathlib.Core.Bool.{true, false}
 use mathlib.Core.List.{List, [], _∷_, _++_, append-assoc, append-nil}
 use lib.Dec.{leb, lit≤}
-use borrow.Author.Tests.{leb-true, leb-false, le-leb, lt-leb, ne-eqb}
+use borrow.Author.Tests.{leb-true, leb-false, le-leb, lt-leb}
 use lib.IntN.{ℤ}
 use lib.ListN.{length, length-append}
 use Rattle.laws.specs.Auction.{passedOut}
@@ -96,13 +96,13 @@ module _ (bytes : List ℕ) {x : Explained} (ex : x ≡ explainedOf (judgeOf byt
       rw (g .2) (parts-short (g .0) (accepted-lawful bytes (g .0) (g .1)))
 
 -- ---- every slip has at most 72 bytes, whatever the bytes that it is of
-number-le : (n : ℕ) → refusesRecord n ≡ true → n ≤ 23
+number-le : (n : ℕ) → refusesRecord n ≡ true → n ≤ 24
 number-le n e =
-    by-test (leb n 23)
-    (λ (q : leb n 23 ≡ true). leb-true n 23 q)
-    (λ (q : leb n 23 ≡ false).
-    let above : 23 < n = leb-false n 23 q in
-    not-both (refusesRecord n) e (rw (le-leb 1 n (omega arith), lt-leb n 16 (omega arith), ne-eqb n 23 (λ z. omega arith))))
+    by-test (leb n 24)
+    (λ (q : leb n 24 ≡ true). leb-true n 24 q)
+    (λ (q : leb n 24 ≡ false).
+    let above : 24 < n = leb-false n 24 q in
+    not-both (refusesRecord n) e (rw (le-leb 1 n (omega arith), lt-leb n 16 (omega arith), le-leb 23 n (omega arith), q)))
 
 refused-short : (n place : ℕ) → refusesRecord n ≡ true → place < 1024 → length (refusalLine n place) ≤ mostSlipBytes
 unfolding refusalLine

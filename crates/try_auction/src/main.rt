@@ -2,6 +2,8 @@
 // Bids are 3 + 5 × (level - 1) + strain: 3 is one club, 5 one heart, 7 one notrump, 20 four hearts.
 use auction::Auction;
 use libc::STDOUT_FILENO;
+ghost use Prim.Native.Nat.{_≤_};
+ghost use lib.ListN.{length};
 
 fn number(n: u64) {
     io::print_decimal(STDOUT_FILENO, n);
@@ -12,7 +14,7 @@ fn text(bytes: &[u8]) {
 }
 
 // A refused call: its number and its place.
-fn refused(why: u8, place: usize) {
+fn refused(why: u8, place: u16) {
     text(b"refused ");
     number(why as u64);
     text(b" at ");
@@ -47,14 +49,16 @@ fn ending(a: Auction) {
 }
 
 // The calls of one auction, up to the first that is refused.
-fn show(dealer: u8, calls: &[u8]) {
+fn show(dealer: u8, calls: &[u8])
+    requires { ⌜ length (now calls) ≤ 511 ⌝ }
+{
     let mut a = Auction::new(dealer);
     let mut i = 0;
     while i < calls.len() {
         let code = calls[i];
         let why = a.refusal(code);
         if why != 0 {
-            refused(why, i);
+            refused(why, auction::place_of(why, i as u16));
             return;
         }
         a = a.call(code);
@@ -77,10 +81,38 @@ fn allowed() {
     show(0, &[0, 0, 0, 37, 0, 0, 0]);
 }
 
+// Insufficient bids that were accepted: the mark, 38, takes no turn, and the marked bid stands as the last bid.
+fn accepted_bids() {
+    // North 1 spade, East 1 heart, accepted: East declares it.
+    show(0, &[6, 38, 5, 0, 0, 0]);
+    // North 1 spade, East 1 heart, accepted; South doubles it, and East redoubles after two passes.
+    show(0, &[6, 38, 5, 1, 0, 0, 2, 0, 0, 0]);
+    // North 1 heart, East 1 heart, accepted; South 1 heart, accepted: North was first of that side to bid hearts.
+    show(0, &[5, 38, 5, 38, 5, 0, 0, 0]);
+    // After the accepted heart a spade is above the last bid again.
+    show(0, &[6, 38, 5, 6, 0, 0, 0]);
+}
+
+// Marks that are refused: at the mark, once the next code is there.
+fn refused_marks() {
+    // No bid yet; a bid above the last; a pass, a double and a second mark after the mark.
+    show(0, &[38, 3]);
+    show(0, &[3, 0, 38, 4]);
+    show(0, &[3, 38, 0]);
+    show(0, &[3, 38, 1]);
+    show(0, &[3, 38, 38]);
+    // A code that is neither a call nor a mark comes first; a mark after the end; a mark that ends the list.
+    show(0, &[3, 38, 39]);
+    show(0, &[3, 0, 0, 0, 38]);
+    show(0, &[3, 38]);
+    // Without a mark a bid is above the last, also after an accepted one.
+    show(0, &[6, 38, 5, 5]);
+}
+
 // Calls that are refused for what they are.
 fn refusals() {
-    // A code that is no call, also after the end.
-    show(0, &[3, 38]);
+    // A code that is neither a call nor a mark, also after the end.
+    show(0, &[3, 39]);
     show(0, &[0, 0, 0, 0, 63]);
     // A bid that is not above the last.
     show(2, &[7, 0, 6]);
@@ -104,6 +136,8 @@ fn refused_doubles() {
 
 fn main() {
     allowed();
+    accepted_bids();
     refusals();
+    refused_marks();
     refused_doubles();
 }

@@ -8,14 +8,12 @@ use borrow.Author.Tests.{lt-ltb, le-ltb}
 use lib.Dec.{ltb}
 use lib.ListN.{length}
 use Rattle.laws.specs.Choice.{if_then_else_}
-use Rattle.laws.specs.Refusals.{refusalNumber, auctionUnfinished, tooManyCards}
-use Rattle.laws.specs.Auction.{callPlace, isOver}
-use Rattle.laws.specs.CallRefusal.{callRefusal}
-use Rattle.laws.specs.Law44.{cardsPlayed}
-use Rattle.laws.specs.CardRefusal.{cardRefusal}
+use Rattle.laws.specs.Refusals.{refusalNumber, auctionUnfinished, tooManyCards, tooManyCodes}
+use Rattle.laws.specs.Auction.{isOver}
+use Rattle.laws.specs.CallRefusal.{callRefusal, callPlace}
+use Rattle.laws.specs.CardRefusal.{cardRefusal, cardPlace}
 use Rattle.laws.specs.Reading.{Reading, Reading.refused, Reading.found, onward, refuse}
 use Rattle.laws.specs.Contents.{takeEach, takeCalls}
-use Rattle.laws.proofs.ContentsLawful.{each-kept, allowed-each}
 use Rattle.laws.proofs.ContentsStop.{each-numbered}
 use Rattle.auction.specs.Asked.{overOf}
 use Rattle.auction.proofs.History.{over-is}
@@ -33,14 +31,18 @@ or-true false = refl
 -- ---- the calls
 module _ (calls : List ℕ) (d : ℕ) where
   abbrev each : Reading (List ℕ)
-  each = takeEach callPlace (callRefusal d) calls [] [] 0
+  each = takeEach (callPlace d) (callRefusal d) calls [] [] 0
 
   abbrev ended : Reading (List ℕ) → Reading (List ℕ)
   ended r = onward r (λ h m. onward (refuse auctionUnfinished (length calls) (not (isOver h)) [] m) (λ u k. found h k))
 
-  whole : takeCalls d calls [] 0 ≡ ended each
-  unfolding takeCalls
-  whole = refl
+  pub calls-many : 511 < length calls → noCalls tooManyCodes 511 ≡ callsBy d (takeCalls d calls [] 0)
+  unfolding takeCalls refuse
+  calls-many o = rw (lt-ltb 511 (length calls) o)
+
+  whole : length calls ≤ 511 → takeCalls d calls [] 0 ≡ ended each
+  unfolding takeCalls refuse
+  whole few = rw (le-ltb 511 (length calls) few)
 
   stopped : (r : Reading (List ℕ)) → (callsBy d r .refusal ≡ 0 → ⊥) → callsBy d r ≡ callsBy d (ended r)
   stopped (refused n place) e = refl
@@ -54,31 +56,24 @@ module _ (calls : List ℕ) (d : ℕ) where
   unfolding refuse
   over h m o = rw o
 
-  module _ (k : Calls) (ek : k ≡ callsBy d each) where
+  module _ (few : length calls ≤ 511) (k : Calls) (ek : k ≡ callsBy d each) where
     pub calls-stopped : (k .refusal ≡ 0 → ⊥) → k ≡ callsBy d (takeCalls d calls [] 0)
-    calls-stopped e = ek ∙ stopped each (rw ek at e) ∙ ap (callsBy d) (sym whole)
+    calls-stopped e = ek ∙ stopped each (rw ek at e) ∙ ap (callsBy d) (sym (whole few))
 
     module _ (e : k .refusal ≡ 0) where
-      pub few : length calls ≤ 319
-      few = go each refl (rw ek at e)
-        where
-          go : (r : Reading (List ℕ)) → each ≡ r → callsBy d r .refusal ≡ 0 → length calls ≤ 319
-          go (refused n place) q z = absurd (not-0 n place (each-numbered callPlace (callRefusal d) calls [] 0 q) z)
-          go (found h m) q z = allowed-each d calls (each-kept callPlace (callRefusal d) calls [] 0 q) .few
-
       pub calls-open : overOf (k .after) ≡ false → noCalls auctionUnfinished (length calls) ≡ callsBy d (takeCalls d calls [] 0)
-      calls-open o = go each refl (rw ek at e) (rw ek at o) ∙ ap (callsBy d) (sym whole)
+      calls-open o = go each refl (rw ek at e) (rw ek at o) ∙ ap (callsBy d) (sym (whole few))
         where
           go : (r : Reading (List ℕ)) → each ≡ r → callsBy d r .refusal ≡ 0 → overOf (callsBy d r .after) ≡ false
               → noCalls auctionUnfinished (length calls) ≡ callsBy d (ended r)
-          go (refused n place) q z o = absurd (not-0 n place (each-numbered callPlace (callRefusal d) calls [] 0 q) z)
+          go (refused n place) q z o = absurd (not-0 n place (each-numbered (callPlace d) (callRefusal d) calls [] 0 q) z)
           go (found h m) q z o = not-over h m (sym (over-is d h) ∙ o)
 
       pub calls-over : overOf (k .after) ≡ true → k ≡ callsBy d (takeCalls d calls [] 0)
-      calls-over o = ek ∙ go each refl (rw ek at e) (rw ek at o) ∙ ap (callsBy d) (sym whole)
+      calls-over o = ek ∙ go each refl (rw ek at e) (rw ek at o) ∙ ap (callsBy d) (sym (whole few))
         where
           go : (r : Reading (List ℕ)) → each ≡ r → callsBy d r .refusal ≡ 0 → overOf (callsBy d r .after) ≡ true → callsBy d r ≡ callsBy d (ended r)
-          go (refused n place) q z o = absurd (not-0 n place (each-numbered callPlace (callRefusal d) calls [] 0 q) z)
+          go (refused n place) q z o = absurd (not-0 n place (each-numbered (callPlace d) (callRefusal d) calls [] 0 q) z)
           go (found h m) q z o = over h m (sym (over-is d h) ∙ o)
 
 -- ---- the cards
@@ -98,7 +93,7 @@ module _ (out : Bool) (trump opening : ℕ) (deal cards : List ℕ) where
       over-most true h = rw (lt-ltb 0 (length cards) h) (or-true (ltb 52 (length cards)))
       over-most false h = rw (lt-ltb 52 (length cards) h)
 
-  pub cards-counted : length cards ≤ most → refusalIn (takeEach cardsPlayed (cardRefusal trump opening deal) cards [] [] 0)
+  pub cards-counted : length cards ≤ most → refusalIn (takeEach cardPlace (cardRefusal trump opening deal) cards [] [] 0)
       ≡ refusalIn (cardsBy out trump opening deal cards [] 0)
   unfolding cardsBy refuse
   cards-counted h = rw (within out h)

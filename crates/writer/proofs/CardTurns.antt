@@ -1,11 +1,11 @@
 -- The loop over the cards that are given: the play's position is that of the history, and its refusal is the Law's. Assumes nothing.
 use Prim.Native.Nat.{ℕ, _≤_, _<_, _+_}
-use mathlib.Core.Path.{_≡_, refl, sym, ap, _∙_, subst}
+use mathlib.Core.Path.{_≡_, sym, ap, _∙_, subst}
 use mathlib.Core.List.{List, []}
 use lib.ListN.{length, getD}
 use Rattle.laws.specs.Refusals.{refusalNumber}
 use Rattle.laws.specs.Law44.{cardsPlayed}
-use Rattle.laws.specs.CardRefusal.{cardRefusal}
+use Rattle.laws.specs.CardRefusal.{cardRefusal, cardPlace}
 use Rattle.laws.specs.Reading.{Reading}
 use Rattle.laws.specs.Contents.{takeEach}
 use Rattle.deal.specs.Hands.{wordsOf}
@@ -17,23 +17,19 @@ use Rattle.play.proofs.Verdicts.{all-played, verdict-law}
 use Rattle.writer.specs.Checked.{refusalIn}
 use Rattle.writer.proofs.Turns.{Reached, begins, ends, stops, goes}
 
-placed : (g : List ℕ) → cardsPlayed g ≡ length g
-unfolding cardsPlayed
-placed g = refl
-
 module _ (cards deal : List ℕ) (trump opening : ℕ) where
   abbrev pub CardsAt : Play → ℕ → Type 0
-  CardsAt p i = Reached cardsPlayed (cardRefusal trump opening deal) cards (positionOf deal trump opening) p i
+  CardsAt p i = Reached cardPlace (cardRefusal trump opening deal) cards (positionOf deal trump opening) p i
 
   abbrev each : Reading (List ℕ)
-  each = takeEach cardsPlayed (cardRefusal trump opening deal) cards [] [] 0
+  each = takeEach cardPlace (cardRefusal trump opening deal) cards [] [] 0
 
   card-begins : {p : Play} → p ≡ startOf deal (wordsOf deal) trump opening → CardsAt p 0
   unfolding positionOf
-  card-begins e = begins cardsPlayed (cardRefusal trump opening deal) placed cards (positionOf deal trump opening) e
+  card-begins e = begins cardPlace (cardRefusal trump opening deal) cards (positionOf deal trump opening) e
 
   pub card-ends : {p : Play} {i : ℕ} → CardsAt p i → length cards ≤ i → 0 ≡ refusalIn each
-  card-ends r t = sym (ap refusalIn (ends cardsPlayed (cardRefusal trump opening deal) placed cards (positionOf deal trump opening) r t))
+  card-ends r t = sym (ap refusalIn (ends cardPlace (cardRefusal trump opening deal) cards (positionOf deal trump opening) r t))
 
   module _ {p : Play} {i : ℕ} (r : CardsAt p i) (t : i < length cards) (all : length deal ≡ 52) {c f : ℕ} (q : c ≡ getD cards i 0)
       (e : f ≡ verdictNumber (verdictOf p c)) where
@@ -43,12 +39,15 @@ module _ (cards deal : List ℕ) (trump opening : ℕ) where
         ∙ verdict-law deal trump opening all (r .history) (all-played deal trump opening (r .history) (r .clean)) c
 
     pub card-stops : (f ≡ 0 → ⊥) → refusalNumber f i ≡ refusalIn each
-    card-stops z = sym (ap refusalIn (stops cardsPlayed (cardRefusal trump opening deal) placed cards (positionOf deal trump opening) r t q law z))
+    unfolding cardsPlayed
+    card-stops z =
+        ap (refusalNumber f) (sym (r .many))
+        ∙ sym (ap refusalIn (stops cardPlace (cardRefusal trump opening deal) cards (positionOf deal trump opening) r t q law z))
 
     pub card-goes : f ≡ 0 → {b : Play} → b ≡ step p c → CardsAt b (i + 1)
     unfolding positionOf
     card-goes z s =
-        goes cardsPlayed (cardRefusal trump opening deal) placed cards (positionOf deal trump opening) r t q law z
+        goes cardPlace (cardRefusal trump opening deal) cards (positionOf deal trump opening) r t q law z
         (s ∙ ap (λ (x : Play). step x c) (r .position))
 
 -- ---- the loop speaks of the deal that its first position has

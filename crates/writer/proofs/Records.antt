@@ -14,7 +14,7 @@ use Rattle.laws.specs.Judge.{Outcome, Outcome.refused as declined, Outcome.acce
 use Rattle.laws.specs.Contents.{Fits, contentsOf}
 use Rattle.laws.specs.Writing.{writeOf, numberOf, recordLeft}
 use Rattle.laws.proofs.RecordNumbers.{contents-from-1}
-use Rattle.laws.proofs.Lengths.{at-most-296}
+use Rattle.laws.proofs.Lengths.{at-most-440}
 use Rattle.laws.proofs.Contents.{layout-fits}
 use Rattle.laws.proofs.ContentsLawful.{accepted-fits, accepted-lawful}
 use Rattle.laws.proofs.ContentsNumbered.{contents-numbered}
@@ -50,8 +50,8 @@ module _ (p : Parts) (old : List ℕ) (n : ℕ) (en : n ≡ Judge.numberOf (cont
     pub fits : Fits p
     fits = accepted-fits p taken .1
 
-    pub length-low : length (encode p) ≤ 296
-    length-low = at-most-296 p (accepted-lawful p .0 taken)
+    pub length-low : length (encode p) ≤ 440
+    length-low = at-most-440 p (accepted-lawful p .0 taken)
 
     module _ (size : ℕ) (es : size ≡ length (encode p)) where
       pub record-short : length old < size → Left (refusalNumber shortRecordBuffer 0) old

@@ -13,7 +13,7 @@ use Rattle.laws.specs.Contents.{takeEach}
 use Rattle.laws.proofs.Histories.{Clean}
 
 -- after i of the codes: a is the state of their history
-pub record Reached (place : List ℕ → ℕ) (rule : List ℕ → ℕ → ℕ) (codes : List ℕ) {A : Type 0} (state : List ℕ → A) (a : A) (i : ℕ) : Type 0 where
+pub record Reached (place rule : List ℕ → ℕ → ℕ) (codes : List ℕ) {A : Type 0} (state : List ℕ → A) (a : A) (i : ℕ) : Type 0 where
   pub history : List ℕ
   pub position : a ≡ state history
   pub many : length history ≡ i
@@ -21,7 +21,7 @@ pub record Reached (place : List ℕ → ℕ) (rule : List ℕ → ℕ → ℕ) 
   pub few : i ≤ length codes
   pub same : takeEach place rule (drop i codes) history [] 0 ≡ takeEach place rule codes [] [] 0
 
-module _ (place : List ℕ → ℕ) (rule : List ℕ → ℕ → ℕ) (placed : (h : List ℕ) → place h ≡ length h) (codes : List ℕ) {A : Type 0} (state : List ℕ → A) where
+module _ (place rule : List ℕ → ℕ → ℕ) (codes : List ℕ) {A : Type 0} (state : List ℕ → A) where
   abbrev whole : Reading (List ℕ)
   whole = takeEach place rule codes [] [] 0
 
@@ -38,9 +38,9 @@ module _ (place : List ℕ → ℕ) (rule : List ℕ → ℕ → ℕ) (placed : 
     next : drop i codes ≡ c ∷ drop (i + 1) codes
     next = rw (add-one i, ec) (drop-cons codes i 0 t)
 
-    pub stops : (f ≡ 0 → ⊥) → whole ≡ refused f i
+    pub stops : (f ≡ 0 → ⊥) → whole ≡ refused f (place (r .history) c)
     unfolding takeEach refuse
-    stops z = sym (rw next at (r .same)) ∙ rw (← e, placed (r .history), r .many, ne-eqb f 0 z)
+    stops z = sym (rw next at (r .same)) ∙ rw (← e, ne-eqb f 0 z)
 
     pub goes : f ≡ 0 → {b : A} → b ≡ state (c ∷ r .history) → Reached place rule codes state b (i + 1)
     unfolding Clean takeEach refuse

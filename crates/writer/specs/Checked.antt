@@ -6,8 +6,7 @@ use mathlib.Core.List.{List, []}
 use lib.Dec.{ltb, leb, eqb}
 use lib.ListN.{length, replicate}
 use Rattle.laws.specs.Refusals.{refusalNumber, tooManyCards, playUnfinished, noClaimPoint, claimTooMany}
-use Rattle.laws.specs.Law44.{cardsPlayed}
-use Rattle.laws.specs.CardRefusal.{cardRefusal}
+use Rattle.laws.specs.CardRefusal.{cardRefusal, cardPlace}
 use Rattle.laws.specs.Law68.{Claim, none, agreed}
 use Rattle.laws.specs.Reading.{Reading, Reading.refused, Reading.found, Reader, _>>=_, _>>_, refuse}
 use Rattle.laws.specs.Contents.{takeEach, takeCards, takeClaim}
@@ -42,7 +41,7 @@ callsBy dealer (found h at) = record { refusal = 0; after = positionOf dealer h 
 unfoldable pub cardsBy : Bool → ℕ → ℕ → List ℕ → List ℕ → Reader (List ℕ)
 cardsBy out trump opening deal cards = do
   refuse tooManyCards (min (length cards) 63) (ltb 52 (length cards) || (out && ltb 0 (length cards)))
-  takeEach cardsPlayed (cardRefusal trump opening deal) cards []
+  takeEach cardPlace (cardRefusal trump opening deal) cards []
 
 -- ---- the number of the refusal of a claim, by whether the board was passed out and the number of cards played
 unfoldable pub claimBy : Bool → ℕ → Claim → ℕ

@@ -2,6 +2,7 @@
 use auction::Auction;
 use laws::AUCTION_UNFINISHED;
 use laws::TOO_MANY_CARDS;
+use laws::TOO_MANY_CODES;
 use laws::refusal_number;
 use play::Play;
 ghost use mathlib.Core.Path.{_≡_};
@@ -9,10 +10,8 @@ ghost use mathlib.Core.List.{[]};
 ghost use Prim.Native.Nat.{_≤_, min};
 ghost use lib.ListN.{length};
 ghost use Rattle.laws.specs.Choice.{if_then_else_};
-ghost use Rattle.laws.specs.Auction.{callPlace};
-ghost use Rattle.laws.specs.CallRefusal.{callRefusal};
-ghost use Rattle.laws.specs.Law44.{cardsPlayed};
-ghost use Rattle.laws.specs.CardRefusal.{cardRefusal};
+ghost use Rattle.laws.specs.CallRefusal.{callRefusal, callPlace};
+ghost use Rattle.laws.specs.CardRefusal.{cardRefusal, cardPlace};
 ghost use Rattle.laws.specs.Contents.{takeEach, takeCalls};
 ghost use Rattle.deal.specs.Hands.{wordsOf};
 ghost use Rattle.writer.specs.Checked.{refusalIn, noCalls, callsBy, cardsBy};
@@ -35,7 +34,8 @@ fn no_calls(refusal: u8, place: u16) -> Calls
 
 // Each call on those before it.
 fn take_each_call(calls: &[u8], dealer: u8) -> Calls
-    ensures { λ r. ⌜ r ≡ callsBy dealer (takeEach callPlace (callRefusal dealer) (now (calls .entry)) [] [] 0) ⌝ }
+    requires { ⌜ length (now calls) ≤ 511 ⌝ }
+    ensures { λ r. ⌜ r ≡ callsBy dealer (takeEach (callPlace dealer) (callRefusal dealer) (now (calls .entry)) [] [] 0) ⌝ }
 {
     let mut a = Auction::new(dealer);
     let mut i: usize = 0;
@@ -43,7 +43,7 @@ fn take_each_call(calls: &[u8], dealer: u8) -> Calls
         let c = calls[i];
         let f = a.refusal(c);
         if f != 0 {
-            return no_calls(f, i as u16);
+            return no_calls(f, auction::place_of(f, i as u16));
         }
         a = a.call(c);
         i += 1;
@@ -54,10 +54,13 @@ fn take_each_call(calls: &[u8], dealer: u8) -> Calls
     }
 }
 
-// The calls, and that the auction is over after them.
+// The calls, at most 511 codes, and that the auction is over after them.
 pub(crate) fn take_calls(calls: &[u8], dealer: u8) -> Calls
     ensures { λ r. ⌜ r ≡ callsBy dealer (takeCalls dealer (now (calls .entry)) [] 0) ⌝ }
 {
+    if 511 < calls.len() {
+        return no_calls(TOO_MANY_CODES, 511);
+    }
     let called = take_each_call(calls, dealer);
     if called.refusal != 0 {
         return called;
@@ -72,7 +75,7 @@ pub(crate) fn take_calls(calls: &[u8], dealer: u8) -> Calls
 // The number of the refusal of the cards, each on those before it, 0 for none; `hands` are those of the deal.
 fn each_card_refusal(cards: &[u8], deal: [u8; 52], hands: [u64; 4], trump: u8, opening: u8) -> u32
     requires { ⌜ (length (now cards) ≤ 52) × (hands ≡ wordsOf deal) ⌝ }
-    ensures { λ r. ⌜ r ≡ refusalIn (takeEach cardsPlayed (cardRefusal trump opening deal) (now (cards .entry)) [] [] 0) ⌝ }
+    ensures { λ r. ⌜ r ≡ refusalIn (takeEach cardPlace (cardRefusal trump opening deal) (now (cards .entry)) [] [] 0) ⌝ }
 {
     let mut p = Play::new(deal, hands, trump, opening);
     let mut i: usize = 0;

@@ -71,12 +71,13 @@ fn hand(deal: &mut [u64], seat: &str, cards: &str) {
     }
 }
 
-/// `P`, `X`, `XX`, or a bid such as `3NT`.
+/// `P`, `X`, `XX`, a bid such as `3NT`, or `M`, the mark of an insufficient bid that was accepted.
 fn call(word: &str) -> u64 {
     match word {
         "P" => 0,
         "X" => 1,
         "XX" => 2,
+        "M" => 38,
         _ => {
             let (level, strain) = word.split_at(1);
             let strain = STRAINS.iter().position(|&s| s == strain).unwrap_or_else(|| stop(&format!("no such call: {word}")));

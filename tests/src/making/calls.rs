@@ -1,5 +1,5 @@
 //! Auctions that the Laws allow.
-use crate::auction::{Auction, DOUBLE, PASS, REDOUBLE};
+use crate::auction::{Auction, DOUBLE, FIRST_BID, LAST_BID, MARK, PASS, REDOUBLE};
 use crate::random::Random;
 
 fn make(auction: &mut Auction, calls: &mut Vec<u64>, code: u64) {
@@ -97,4 +97,48 @@ fn name_bids(random: &mut Random, calls: &mut [u64]) {
     for (place, bid) in places.into_iter().zip(bids) {
         calls[place] = bid;
     }
+}
+
+/// An auction of exactly so many codes, from 4 to 511, with insufficient bids that were accepted at any point after the first bid.
+pub fn marked(random: &mut Random, dealer: u8, count: usize) -> Vec<u64> {
+    let often = *random.pick(&[5, 30, 60, 100]);
+    let mut auction = Auction::new(dealer);
+    let mut calls = Vec::new();
+    while calls.len() + 3 < count {
+        let left = count - 3 - calls.len();
+        for code in step(random, &auction, left, often) {
+            make(&mut auction, &mut calls, code);
+        }
+    }
+    for _ in 0..3 {
+        make(&mut auction, &mut calls, PASS);
+    }
+    calls
+}
+
+/// The next call, or a mark and a bid, with so many codes left until the three passes that end the auction: the last of them is a bid.
+fn step(random: &mut Random, auction: &Auction, left: usize, often: usize) -> Vec<u64> {
+    let last = u64::from(auction.last_bid());
+    if last == 0 && left <= 3 {
+        return vec![random.between(FIRST_BID as usize, LAST_BID as usize - 1) as u64];
+    }
+    if left == 1 {
+        return vec![random.between(last as usize + 1, LAST_BID as usize) as u64];
+    }
+    let above = last.max(2) + 1;
+    let may_bid = above <= LAST_BID;
+    if last > 0 && (left <= 3 || random.percent(often) || (!may_bid && pass_ends(auction))) {
+        let most = if left == 3 { last.min(LAST_BID - 1) } else { last };
+        let low = random.between(FIRST_BID as usize, most as usize) as u64;
+        return vec![MARK, *random.pick(&[low, most])];
+    }
+    let doubling = one_doubling(auction, random.percent(40));
+    if doubling != PASS {
+        return vec![doubling];
+    }
+    if may_bid && (pass_ends(auction) || random.percent(30)) {
+        let most = (above + 3).min(LAST_BID);
+        return vec![random.between(above as usize, most as usize) as u64];
+    }
+    vec![PASS]
 }

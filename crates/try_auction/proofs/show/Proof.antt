@@ -23,6 +23,12 @@ shared-slice-read-code c = search needs
 refusal-requires : tie.Need-refusal-requires Inv-loop μ-loop
 refusal-requires c κs = search needs
 
+cast-place-of : tie.Need-cast-place-of Inv-loop μ-loop
+cast-place-of c = search needs
+
+place-of-requires : tie.Need-place-of-requires Inv-loop μ-loop
+place-of-requires c κs = search needs
+
 refused-requires : tie.Need-refused-requires Inv-loop μ-loop
 refused-requires c κs = search needs
 
@@ -57,6 +63,8 @@ show-spec =
     loop-holds
     shared-slice-read-code
     refusal-requires
+    cast-place-of
+    place-of-requires
     refused-requires
     returns
     call-requires

@@ -1,11 +1,12 @@
 -- `read_each_call` meets its contract: what the reading comes to from a turn on is what it comes to in all. Assumes nothing.
 use Prim.Native.Nat.{_≤_, _<_, _+_, _-_, _*_, _/_, min}
-use mathlib.Core.Path.{_≡_, _∙_}
+use mathlib.Core.Path.{_≡_, ap, _∙_}
 use native.Mathlib.Omega.{arith}
 use borrow.Author.Needs.{needs}
 use lib.ListN.{length}
 use Rattle.laws.specs.Refusals.{recordEnds}
 use Rattle.laws.specs.Reading.{Reading.found, Reading.refused, read}
+use Rattle.judge.specs.Sections.{noCalls}
 use Rattle.judge.proofs.SixBits.{whole-most, whole-in, whole-out, code-read, code-short}
 use Rattle.judge.proofs.CallTurns.{CallsAt, call-begins, call-ends, call-short, call-stops, call-goes}
 use Rattle.judge.proofs.reading.read_each_call.Statement.{statement}
@@ -70,17 +71,22 @@ code-ending-requires c κs =
 refusal-requires : tie.Need-refusal-requires Inv-loop μ-loop
 refusal-requires c κs = search needs
 
-cast-no-calls : tie.Need-cast-no-calls Inv-loop μ-loop
-cast-no-calls c = search needs
+cast-place-of : tie.Need-cast-place-of Inv-loop μ-loop
+cast-place-of c = search needs
+
+place-of-requires : tie.Need-place-of-requires Inv-loop μ-loop
+place-of-requires c κs = search needs
 
 no-calls-requires : tie.Need-no-calls-requires Inv-loop μ-loop
 no-calls-requires c κs = search needs
 
 returns : tie.Need-returns Inv-loop μ-loop
 returns c =
-    let w = c .before .before .before in
+    let f = c .before .before .before in
+    let w = f .before in
     let l = w .before in
-    c .no-calls .ensures ∙ call-stops _ _ _ _ (l .before .loop .inv .0) (within l) (code-reads w) (c .before .before .refusal .ensures) (c .before .if1 .taken)
+    c .no-calls .ensures ∙ ap (noCalls _) (c .before .place-of .ensures)
+    ∙ call-stops _ _ _ _ (l .before .loop .inv .0) (within l) (code-reads w) (f .refusal .ensures) (c .before .before .if1 .taken)
 
 call-requires : tie.Need-call-requires Inv-loop μ-loop
 call-requires c κs = search needs
@@ -126,7 +132,8 @@ read-each-call-spec =
     add-code-ending
     code-ending-requires
     refusal-requires
-    cast-no-calls
+    cast-place-of
+    place-of-requires
     no-calls-requires
     returns
     call-requires

@@ -1,10 +1,10 @@
 -- `take_each_call` meets its contract: what the checks come to from a turn on is what they come to in all. The measure is the calls left.
 -- Assumes nothing.
-use Prim.Native.Nat.{_-_, _≤_}
-use mathlib.Core.Path.{_≡_, refl, _∙_}
-use native.Mathlib.Omega.{arith}
+use Prim.Native.Nat.{_-_}
+use mathlib.Core.Path.{refl, ap, _∙_}
 use lib.ListN.{length}
-use Rattle.writer.proofs.CallTurns.{CallsAt, call-begins, few-calls, call-ends, call-stops, call-goes}
+use Rattle.writer.specs.Checked.{noCalls}
+use Rattle.writer.proofs.CallTurns.{CallsAt, call-begins, call-ends, call-stops, call-goes}
 use borrow.Author.Needs.{needs}
 use Rattle.writer.proofs.codes.take_each_call.Statement.{statement}
 use Rattle.writer.proofs.codes.take_each_call.Tie as tie
@@ -27,17 +27,21 @@ shared-slice-read-c c = search needs
 refusal-requires : tie.Need-refusal-requires Inv-loop μ-loop
 refusal-requires c κs = search needs
 
-cast-no-calls : tie.Need-cast-no-calls Inv-loop μ-loop
-cast-no-calls c = omega (arith, few-calls _ _ (c .before .before .before .before .loop .inv))
+cast-place-of : tie.Need-cast-place-of Inv-loop μ-loop
+cast-place-of c = search needs
+
+place-of-requires : tie.Need-place-of-requires Inv-loop μ-loop
+place-of-requires c κs = search needs
 
 no-calls-requires : tie.Need-no-calls-requires Inv-loop μ-loop
 no-calls-requires c κs = search needs
 
 returns : tie.Need-returns Inv-loop μ-loop
 returns c =
-    let r = c .before .before in
+    let r = c .before .before .before in
     let l = r .before .before in
-    c .no-calls .ensures ∙ call-stops _ _ (l .before .loop .inv) (l .loop-test .taken) refl (r .refusal .ensures) (c .before .if1 .taken)
+    c .no-calls .ensures ∙ ap (noCalls _) (c .before .place-of .ensures)
+    ∙ call-stops _ _ (l .before .loop .inv) (l .loop-test .taken) refl (r .refusal .ensures) (c .before .before .if1 .taken)
 
 call-requires : tie.Need-call-requires Inv-loop μ-loop
 call-requires c κs = search needs
@@ -67,7 +71,8 @@ take-each-call-spec =
     loop-holds
     shared-slice-read-c
     refusal-requires
-    cast-no-calls
+    cast-place-of
+    place-of-requires
     no-calls-requires
     returns
     call-requires
