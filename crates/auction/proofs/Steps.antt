@@ -1,5 +1,6 @@
--- The position after a mark, a double or a redouble, a bid, and what is no call; the test of a double or a redouble; verdicts. Assumes nothing.
-use Prim.Native.Nat.{ℕ, _+_, _%_, _≤_, _<_}
+-- The position after a mark, a double or a redouble, a bid, and what is no call; the test of a double or a redouble; verdicts; the place of a refusal.
+-- Assumes nothing.
+use Prim.Native.Nat.{ℕ, _+_, _-_, _%_, _≤_, _<_}
 use mathlib.Core.Path.{_≡_, refl, sym, _∙_}
 use mathlib.Core.Bool.{Bool, true, false, not, _&&_}
 use native.Mathlib.Omega.{arith}
@@ -7,6 +8,8 @@ use borrow.Author.Tests.{le-ltb, lt-leb, le-leb, eq-eqb, ne-eqb, eqb-true, eqb-f
 use lib.Dec.{eqb, ltb, leb}
 use Rattle.laws.specs.Choice.{if_then_else_}
 use Rattle.laws.specs.Cards.{clockwise, sameSide}
+use Rattle.laws.specs.Refusals.{wrongMark}
+use Rattle.laws.specs.CallRefusal.{placeOf}
 use Rattle.laws.proofs.Tests.{by-test}
 use Rattle.auction.specs.declared.Auction.{Auction}
 use Rattle.auction.specs.declared.Verdict.the-variants.{Allowed, Inadmissible, Insufficient, WrongMark}
@@ -118,3 +121,16 @@ module _ (a : Auction) (c : ℕ) where
   pub mark-on-bid : 3 ≤ c → c ≤ a .last → Allowed ≡ markedVerdict a c
   unfolding markedVerdict
   mark-on-bid l h = simp (le-leb 3 c l, le-leb c (a .last) h)
+
+-- the place of a refusal: a wrong mark's is the code before, and where there is none 0; any other's is its own
+module _ (n codes : ℕ) where
+  pub own-place : (n ≡ wrongMark → ⊥) → codes ≡ placeOf n codes
+  unfolding placeOf
+  own-place other = rw (ne-eqb n wrongMark other)
+
+  pub mark-place : n ≡ wrongMark → codes - 1 ≡ placeOf n codes
+  unfolding placeOf
+  mark-place e = rw (eq-eqb n wrongMark e)
+
+  pub first-mark : n ≡ wrongMark → codes ≡ 0 → 0 ≡ placeOf n codes
+  first-mark e z = omega (arith, mark-place e)
