@@ -88,7 +88,7 @@ enum judge_refusal {
     JUDGE_NO_ROOM_FOR_RECORD = 22,   /* judge_write_record alone: the buffer is too short for the record; place 0 */
     JUDGE_CARD_ALREADY_PLAYED = 23,  /* Law 44: card that this seat has played already; place: the play */
     JUDGE_MARK_NOT_ALLOWED = 24,     /* Law 27A: mark not followed by a bid at or below a last bid; place: the mark */
-    JUDGE_TOO_MANY_CODES = 33        /* judge_write_record alone: more than 511 codes of calls; place 511 */
+    JUDGE_TOO_MANY_CALLS = 33        /* judge_write_record alone: more than 511 codes of calls; place 511 */
 };
 
 /* Whether what either function returned is a refusal. */

@@ -57,7 +57,7 @@ void print_refusal(FILE *out, uint32_t number) {
     case JUDGE_CLAIM_TOO_HIGH: fprintf(out, "claim of %u%s: more tricks than are left\n", place, place < 15 ? "" : " or more"); return;
     case JUDGE_NO_ROOM_FOR_RECORD: fprintf(out, "no room for the record\n"); return;
     case JUDGE_MARK_NOT_ALLOWED: fprintf(out, "call %u: mark not followed by a bid at or below a last bid\n", place); return;
-    case JUDGE_TOO_MANY_CODES: fprintf(out, "more than %u calls and marks\n", place); return;
+    case JUDGE_TOO_MANY_CALLS: fprintf(out, "more than %u calls and marks\n", place); return;
     case JUDGE_CARD_ALREADY_PLAYED: fprintf(out, "play %u: card already played\n", place); return;
     case JUDGE_NOT_ENDED: fprintf(out, "a padding bit is 1, or a byte follows the record\n"); return;
     }

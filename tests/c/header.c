@@ -62,7 +62,7 @@ static void unpacks_a_number(void) {
     expect("no room", JUDGE_NO_ROOM_FOR_RECORD, 22);
     expect("a card again", JUDGE_CARD_ALREADY_PLAYED, 23);
     expect("a wrong mark", JUDGE_MARK_NOT_ALLOWED, 24);
-    expect("too many codes", JUDGE_TOO_MANY_CODES, 33);
+    expect("too many codes", JUDGE_TOO_MANY_CALLS, 33);
     expect("the longest record", JUDGE_RECORD_MOST, 440);
     expect("a length is no refusal", judge_is_refusal(1023), 0);
     expect("a refusal", judge_is_refusal(3 * 1024), 1);

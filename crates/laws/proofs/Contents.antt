@@ -9,7 +9,7 @@ use lib.Dec.{ltb}
 use lib.ListN.{length, getD}
 use Rattle.laws.specs.Choice.{some}
 use Rattle.laws.specs.Law2.{dealer}
-use Rattle.laws.specs.Refusals.{tooManyCards, tooManyCodes}
+use Rattle.laws.specs.Refusals.{tooManyCards, tooManyCalls}
 use Rattle.laws.specs.Auction.{trumpAfter, openingAfter}
 use Rattle.laws.specs.CallRefusal.{callRefusal, callPlace}
 use Rattle.laws.specs.CardRefusal.{cardRefusal, cardPlace}
@@ -85,7 +85,7 @@ outcome-turn (found a m) end v f g e = e a m refl
 calls-history : (d : ℕ) (calls : List ℕ) (from : ℕ) {h : List ℕ} {m : ℕ} → takeCalls d calls [] from ≡ found h m → h ≡ reverse calls
 unfolding takeCalls
 calls-history d calls from {h} q =
-    let f = first-test tooManyCodes 511 _ [] from _ q in
+    let f = first-test tooManyCalls 511 _ [] from _ q in
     let a = first-of (takeEach (callPlace d) (callRefusal d) calls [] [] from) _ (f .1) in
     let t = first-test 9 (length calls) _ [] (a .1) _ (a .3) in
     let same : a .0 ≡ h = cc in

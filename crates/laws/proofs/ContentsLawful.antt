@@ -9,7 +9,7 @@ use borrow.Author.Tests.{eqb-true, leb-true, ltb-false, not-false, not-true}
 use lib.Dec.{ltb, eqb, lit≤}
 use lib.ListN.{length, getD}
 use Rattle.laws.specs.Choice.{some}
-use Rattle.laws.specs.Refusals.{accepted, noBoardOrTable, notThirteen, tooManyCards, noClaimPoint, tooManyCodes}
+use Rattle.laws.specs.Refusals.{accepted, noBoardOrTable, notThirteen, tooManyCards, noClaimPoint, tooManyCalls}
 use Rattle.laws.specs.Cards.{noSeat}
 use Rattle.laws.specs.Law2.{dealer}
 use Rattle.laws.specs.Auction.{passedOut, trumpAfter, openingAfter}
@@ -84,7 +84,7 @@ allowed-each d calls few e =
 calls-kept : (d : ℕ) (calls : List ℕ) (from : ℕ) {h : List ℕ} {m : ℕ} → takeCalls d calls [] from ≡ found h m → Allowed calls
 unfolding takeCalls
 calls-kept d calls from q =
-    let t = first-test tooManyCodes 511 (ltb 511 (length calls)) [] from _ q in
+    let t = first-test tooManyCalls 511 (ltb 511 (length calls)) [] from _ q in
     let a = first-of (takeEach (callPlace d) (callRefusal d) calls [] [] from) _ (t .1) in
     allowed-each d calls (ltb-false 511 (length calls) (t .0)) (each-kept (callPlace d) (callRefusal d) calls [] from (a .2))
 

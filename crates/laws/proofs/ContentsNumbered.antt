@@ -8,7 +8,7 @@ use borrow.Author.Tests.{eqb-true, not-false, ltb-false}
 use lib.Dec.{ltb, eqb}
 use lib.ListN.{length, length-reverse}
 use Rattle.laws.specs.Refusals.{accepted, noBoardOrTable, notThirteen, auctionUnfinished}
-use Rattle.laws.specs.Refusals.{tooManyCards, playUnfinished, noClaimPoint, claimTooMany, tooManyCodes}
+use Rattle.laws.specs.Refusals.{tooManyCards, playUnfinished, noClaimPoint, claimTooMany, tooManyCalls}
 use Rattle.laws.specs.Refusals.{refusesContents}
 use Rattle.laws.specs.Cards.{noSeat, seatWithoutThirteen}
 use Rattle.laws.specs.Law2.{dealer}
@@ -86,7 +86,7 @@ module _ (place rule : List ℕ → ℕ → ℕ) (Good : List ℕ → Type 0) (m
 pub sound-calls : (d : ℕ) (calls : List ℕ) (from : ℕ) → Sound (takeCalls d calls [] from)
 unfolding takeCalls
 sound-calls d calls from =
-    sound-test tooManyCodes 511 (ltb 511 (length calls)) from _ (λ t. at-place refl (omega arith)) (λ f.
+    sound-test tooManyCalls 511 (ltb 511 (length calls)) from _ (λ t. at-place refl (omega arith)) (λ f.
     let few = ltb-false 511 (length calls) f in
     sound-on (takeEach (callPlace d) (callRefusal d) calls [] [] from) _
     (sound-each (callPlace d) (callRefusal d) (λ h. Unit {0}) (λ h c e u. tt)

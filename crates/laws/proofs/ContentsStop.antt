@@ -8,7 +8,7 @@ use borrow.Author.Tests.{eqb-false, eq-eqb, ne-eqb, le-ltb, lt-ltb, le-leb, lt-l
 use lib.Dec.{ltb, eqb}
 use lib.ListN.{length, getD, take, length-reverse, length-take}
 use Rattle.laws.specs.Choice.{some}
-use Rattle.laws.specs.Refusals.{accepted, noBoardOrTable, notThirteen, noCall, auctionUnfinished, tooManyCards, noCard, claimTooMany, tooManyCodes}
+use Rattle.laws.specs.Refusals.{accepted, noBoardOrTable, notThirteen, noCall, auctionUnfinished, tooManyCards, noCard, claimTooMany, tooManyCalls}
 use Rattle.laws.specs.Cards.{noSeat, cardsDealt, seatWithoutThirteen}
 use Rattle.laws.specs.Auction.{codesBefore, isOver, passedOut, allowed, trumpAfter, openingAfter}
 use Rattle.laws.specs.CallRefusal.{callRefusal, placeOf, callPlace}
@@ -105,7 +105,7 @@ unfolding callPlace placeOf codesBefore
 no-call-place d h c o = rw (no-call d h c o)
 
 module _ (d : ℕ) (calls : List ℕ) (from : ℕ) where
-  pub codes-stop : 511 < length calls → takeCalls d calls [] from ≡ refused tooManyCodes 511
+  pub codes-stop : 511 < length calls → takeCalls d calls [] from ≡ refused tooManyCalls 511
   unfolding takeCalls
   codes-stop o = simp (lt-ltb 511 (length calls) o, test-stops)
 
@@ -211,7 +211,7 @@ module _ (place rule : List ℕ → ℕ → ℕ) where
 pub calls-stay : (d : ℕ) (calls : List ℕ) (from : ℕ) {h : List ℕ} {m : ℕ} → takeCalls d calls [] from ≡ found h m → m ≡ from
 unfolding takeCalls
 calls-stay d calls from {h} {m} q =
-    let f = first-test tooManyCodes 511 _ [] from _ q in
+    let f = first-test tooManyCalls 511 _ [] from _ q in
     let a = first-of (takeEach (callPlace d) (callRefusal d) calls [] [] from) _ (f .1) in
     let t = first-test auctionUnfinished (length calls) (not (isOver (a .0))) [] (a .1) _ (a .3) in
     let last : a .1 ≡ m = cc in

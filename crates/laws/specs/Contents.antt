@@ -8,7 +8,7 @@ use mathlib.Core.List.{List, [], _∷_}
 use lib.Dec.{ltb, eqb}
 use lib.ListN.{length, getD}
 use Rattle.laws.specs.Choice.{some}
-use Rattle.laws.specs.Refusals.{noBoardOrTable, notThirteen, tooManyCodes}
+use Rattle.laws.specs.Refusals.{noBoardOrTable, notThirteen, tooManyCalls}
 use Rattle.laws.specs.Cards.{noSeat}
 use Rattle.laws.specs.Law2.{dealer}
 use Rattle.laws.specs.Auction.{trumpAfter, openingAfter}
@@ -60,7 +60,7 @@ takeEach place rule (code ∷ codes) h = do
 -- the calls; d is the dealer. More codes than the count can tell are refused before any is looked at
 unfoldable pub takeCalls : ℕ → List ℕ → Reader (List ℕ)
 takeCalls d calls = do
-  refuse tooManyCodes 511 (ltb 511 (length calls))
+  refuse tooManyCalls 511 (ltb 511 (length calls))
   h ← takeEach (callPlace d) (callRefusal d) calls []
   checkOver (length calls) h
   give h

@@ -122,8 +122,8 @@ abbrev pub tooManyBoards : ℕ
 tooManyBoards = 30
 
 -- more than 511 codes of calls and marks given for a record
-abbrev pub tooManyCodes : ℕ
-tooManyCodes = 33
+abbrev pub tooManyCalls : ℕ
+tooManyCalls = 33
 
 -- the numbers that a record is refused with: 1 to 16, 23 and 24
 abbrev pub refusesRecord : ℕ → Bool
@@ -131,4 +131,4 @@ refusesRecord n = (leb 1 n && leb n 16) || (leb 23 n && leb n 24)
 
 -- the numbers that contents are refused with when a record is written from them: 3 to 15, 22 to 24, and 33
 abbrev pub refusesContents : ℕ → Bool
-refusesContents n = (leb 3 n && leb n 15) || ((leb 22 n && leb n 24) || eqb n tooManyCodes)
+refusesContents n = (leb 3 n && leb n 15) || ((leb 22 n && leb n 24) || eqb n tooManyCalls)

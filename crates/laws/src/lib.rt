@@ -84,7 +84,7 @@ pub const BOARD_NOT_FREE: u8 = 29;
 pub const TOO_MANY_BOARDS: u8 = 30;
 
 // More than 511 codes of calls and marks given for a record.
-pub const TOO_MANY_CODES: u8 = 33;
+pub const TOO_MANY_CALLS: u8 = 33;
 
 // A refusal and its place as one number: refusal × 1024 + place.
 pub fn refusal_number(refusal: u8, place: u16) -> u32

@@ -9,7 +9,7 @@ use mathlib.Core.List.{List, [], reverse}
 use lib.ListN.{length, getD, take, drop}
 use Rattle.laws.specs.Bytes.{Bytes}
 use Rattle.laws.specs.Refusals.{shortBuffer, recordEnds, noBoardOrTable, notThirteen, noCall, tooManyCards, noCard, claimTooMany, notPadding}
-use Rattle.laws.specs.Refusals.{shortRecordBuffer, tooManyCodes, refusesContents}
+use Rattle.laws.specs.Refusals.{shortRecordBuffer, tooManyCalls, refusesContents}
 use Rattle.laws.specs.Cards.{noSeat}
 use Rattle.laws.specs.Law2.{dealer}
 use Rattle.laws.specs.Auction.{allowed, passedOut, trumpAfter, openingAfter}
@@ -102,7 +102,7 @@ pub record Beyond (p : Parts) (room : ℕ) : Type 0 where
   pub holders : HeadingStands p → (length (p .deal) ≡ 52 → ⊥) → writeOf p room ≡ refused notThirteen noSeat
   pub holder : HeadingStands p → (k : ℕ) → k < length (p .deal) → 3 < getD (p .deal) k 0 → writeOf p room ≡ refused notThirteen noSeat
   -- more codes of calls and marks than the count can tell, directly after the deal
-  pub codes : DealStands p → 511 < length (p .calls) → writeOf p room ≡ refused tooManyCodes 511
+  pub codes : DealStands p → 511 < length (p .calls) → writeOf p room ≡ refused tooManyCalls 511
   -- a code that is neither a call nor a mark, over 63 too; and a code that is no card
   pub call : DealStands p → length (p .calls) ≤ 511 → (k : ℕ) → k < length (p .calls) → CallsTo k p → 38 < getD (p .calls) k 0
       → writeOf p room ≡ refused noCall k

@@ -8,7 +8,7 @@ use borrow.Author.Tests.{lt-ltb, le-ltb}
 use lib.Dec.{ltb}
 use lib.ListN.{length}
 use Rattle.laws.specs.Choice.{if_then_else_}
-use Rattle.laws.specs.Refusals.{refusalNumber, auctionUnfinished, tooManyCards, tooManyCodes}
+use Rattle.laws.specs.Refusals.{refusalNumber, auctionUnfinished, tooManyCards, tooManyCalls}
 use Rattle.laws.specs.Auction.{isOver}
 use Rattle.laws.specs.CallRefusal.{callRefusal, callPlace}
 use Rattle.laws.specs.CardRefusal.{cardRefusal, cardPlace}
@@ -36,7 +36,7 @@ module _ (calls : List ℕ) (d : ℕ) where
   abbrev ended : Reading (List ℕ) → Reading (List ℕ)
   ended r = onward r (λ h m. onward (refuse auctionUnfinished (length calls) (not (isOver h)) [] m) (λ u k. found h k))
 
-  pub calls-many : 511 < length calls → noCalls tooManyCodes 511 ≡ callsBy d (takeCalls d calls [] 0)
+  pub calls-many : 511 < length calls → noCalls tooManyCalls 511 ≡ callsBy d (takeCalls d calls [] 0)
   unfolding takeCalls refuse
   calls-many o = rw (lt-ltb 511 (length calls) o)
 

@@ -1,8 +1,8 @@
 // The calls and the cards of a record's contents, each code checked on those before it, as the Laws' sections of these names are.
 use auction::Auction;
 use laws::AUCTION_UNFINISHED;
+use laws::TOO_MANY_CALLS;
 use laws::TOO_MANY_CARDS;
-use laws::TOO_MANY_CODES;
 use laws::refusal_number;
 use play::Play;
 ghost use mathlib.Core.Path.{_≡_};
@@ -59,7 +59,7 @@ pub(crate) fn take_calls(calls: &[u8], dealer: u8) -> Calls
     ensures { λ r. ⌜ r ≡ callsBy dealer (takeCalls dealer (now (calls .entry)) [] 0) ⌝ }
 {
     if 511 < calls.len() {
-        return no_calls(TOO_MANY_CODES, 511);
+        return no_calls(TOO_MANY_CALLS, 511);
     }
     let called = take_each_call(calls, dealer);
     if called.refusal != 0 {
