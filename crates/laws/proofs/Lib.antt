@@ -37,3 +37,5 @@ pub mod BestTotal
 pub mod Lengths
 pub mod FirstBytes
 pub mod Slip
+pub mod BestPlay
+pub mod PlayedOut

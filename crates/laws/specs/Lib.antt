@@ -25,6 +25,8 @@ pub mod Contents
 pub mod Writing
 pub mod Lawful
 pub mod Lengths
+pub mod BestPlay
+pub mod Lines
 pub mod Tally
 pub mod Decimal
 pub mod Sheet
