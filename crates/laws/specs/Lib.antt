@@ -8,6 +8,7 @@ pub mod Auction
 pub mod CallRefusal
 pub mod Law44
 pub mod Law61
+pub mod Events
 pub mod Law68
 pub mod Law64
 pub mod Allotment
