@@ -9,12 +9,17 @@ pub mod CallRefusal
 pub mod Law44
 pub mod Law61
 pub mod Events
+pub mod Law50
+pub mod Law51
+pub mod LeadRevoke
+pub mod Failures
 pub mod Law68
 pub mod Law64
 pub mod Allotment
 pub mod Law77
 pub mod Law78
 pub mod CardRefusal
+pub mod CodeRefusal
 pub mod Bytes
 pub mod Record
 pub mod Reading
