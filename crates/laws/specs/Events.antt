@@ -3,7 +3,8 @@
 -- Assumes nothing.
 use Prim.Native.Nat.{ℕ, suc}
 use mathlib.Core.Bool.{Bool}
-use mathlib.Core.List.{List, [], _∷_}
+use mathlib.Core.List.{List, [], _∷_, _++_}
+use Rattle.laws.specs.Choice.{if_then_else_}
 
 -- declarer's choice before a lead: a suit is required, or a suit is forbidden
 abbrev pub require : ℕ
@@ -31,3 +32,15 @@ codesOf [] = 0
 codesOf (played c ∷ e) = codesOf e
 codesOf (exposed c deliberate ∷ e) = suc (codesOf e)
 codesOf (choice kind suit ∷ e) = suc (codesOf e)
+
+-- in order of play, an entry for each card that passes a test after the events before it
+unfoldable pub listPlays : {A : Type 0} → (List Event → ℕ → Bool) → (List Event → ℕ → A) → List Event → List A
+listPlays test entry [] = []
+listPlays test entry (played c ∷ e) = listPlays test entry e ++ (if test e c then (entry e c ∷ []) else [])
+listPlays test entry (exposed c deliberate ∷ e) = listPlays test entry e
+listPlays test entry (choice kind suit ∷ e) = listPlays test entry e
+
+-- the history of a play without codes: its cards alone
+unfoldable pub asEvents : List ℕ → List Event
+asEvents [] = []
+asEvents (c ∷ g) = played c ∷ asEvents g

@@ -3,12 +3,12 @@
 use Prim.Native.Nat.{ℕ, _+_, _<_}
 use mathlib.Core.Path.{_≡_}
 use mathlib.Core.Bool.{Bool, true, false, not, _&&_, _||_}
-use mathlib.Core.List.{List, [], _∷_, _++_}
+use mathlib.Core.List.{List}
 use lib.Dec.{eqb}
-use Rattle.laws.specs.Choice.{if_then_else_, someBelow}
+use Rattle.laws.specs.Choice.{someBelow}
 use Rattle.laws.specs.Cards.{suitOf, dealtTo}
 use Rattle.laws.specs.Law44.{tricksComplete, isOf, toPlay}
-use Rattle.laws.specs.Events.{Event, played, exposed, choice, cardsOf}
+use Rattle.laws.specs.Events.{Event, cardsOf, listPlays}
 use Rattle.laws.specs.Law50.{isHonour, isMinor, isMajorOf}
 use Rattle.laws.specs.LeadRevoke.{seatAfter, obeys}
 
@@ -47,10 +47,7 @@ module _ (trump opening : ℕ) where
 module _ (trump opening : ℕ) (deal : List ℕ) where
   -- the plays against 50C or 50D1, in order of play
   unfoldable pub failures : List Event → List Failure
-  failures [] = []
-  failures (played c ∷ e) = failures e ++ (if isFailure trump opening deal e c then (failureBy trump opening e c ∷ []) else [])
-  failures (exposed c deliberate ∷ e) = failures e
-  failures (choice kind suit ∷ e) = failures e
+  failures e = listPlays (isFailure trump opening deal) (failureBy trump opening) e
 
 -- ---- the same in full
 -- the seat at turn has a minor penalty card, and plays another card of its suit that is no honour

@@ -5,13 +5,13 @@ use Prim.Native.Nat.{ℕ, _+_, _<_}
 use mathlib.Core.Path.{_≡_}
 use mathlib.Core.Logic.{_⊎_}
 use mathlib.Core.Bool.{Bool, true, false, not, _&&_, _||_}
-use mathlib.Core.List.{List, [], _∷_, _++_, map}
+use mathlib.Core.List.{List}
 use lib.Dec.{eqb}
 use Rattle.laws.specs.Choice.{if_then_else_, someBelow}
 use Rattle.laws.specs.Cards.{suitOf}
 use Rattle.laws.specs.Law44.{tricksComplete, cardsInTrick, trickUnderWay, suitLed, isOf, toPlay, holds}
 use Rattle.laws.specs.Law61.{RevokedAt, Revoke}
-use Rattle.laws.specs.Events.{Event, played, exposed, choice, cardsOf}
+use Rattle.laws.specs.Events.{Event, cardsOf, listPlays}
 use Rattle.laws.specs.Law50.{isFacedOf}
 use Rattle.laws.specs.Law51.{noSuit, required, isForbidden}
 
@@ -43,6 +43,10 @@ module _ (trump opening : ℕ) (deal : List ℕ) where
   unfoldable pub obeys : List Event → ℕ → Bool
   obeys e c = isAsked trump opening e c || not (isAble e)
 
+  -- the play of the card is a revoke
+  unfoldable pub disobeys : List Event → ℕ → Bool
+  disobeys e c = not (obeys e c)
+
   -- 64B3: the seat at turn has a penalty card, minor or major, whose play would be no revoke
   unfoldable pub isExcused : List Event → Bool
   isExcused e = someBelow 52 (λ k. isFacedOf trump opening deal e (seatAfter trump opening e) k && obeys e k)
@@ -62,19 +66,17 @@ pub record Counted : Type 0 where
   pub excused : Bool
 
 module _ (trump opening : ℕ) (deal : List ℕ) where
-  -- the revokes in order of play, each with whether it is excused
-  unfoldable pub countedRevokes : List Event → List Counted
-  countedRevokes [] = []
-  countedRevokes (played c ∷ e) =
-      countedRevokes e
-      ++ (if obeys trump opening deal e c then []
-      else (record { revoke = revokeBy trump opening e c; excused = isExcused trump opening deal e } ∷ []))
-  countedRevokes (exposed c deliberate ∷ e) = countedRevokes e
-  countedRevokes (choice kind suit ∷ e) = countedRevokes e
-
   -- the revokes as they are listed, in order of play
   unfoldable pub allRevokes : List Event → List Revoke
-  allRevokes e = map (λ (r : Counted). r .revoke) (countedRevokes e)
+  allRevokes e = listPlays (disobeys trump opening deal) (revokeBy trump opening) e
+
+  -- the revoke by the card, as Law 64 counts it
+  unfoldable pub countedBy : List Event → ℕ → Counted
+  countedBy e c = record { revoke = revokeBy trump opening e c; excused = isExcused trump opening deal e }
+
+  -- the revokes as Law 64 counts them, in order of play
+  unfoldable pub countedRevokes : List Event → List Counted
+  countedRevokes e = listPlays (disobeys trump opening deal) countedBy e
 
 -- ---- the same in full
 -- the card is a lead of another suit than the one required, by a seat that held a card of that suit

@@ -20,6 +20,7 @@ pub mod Law77
 pub mod Law78
 pub mod CardRefusal
 pub mod CodeRefusal
+pub mod Kept
 pub mod Bytes
 pub mod Record
 pub mod Reading
