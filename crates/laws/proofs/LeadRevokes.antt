@@ -25,6 +25,21 @@ refused-both true b e = not-both false e refl
 refused-both false true e = (refl, refl)
 refused-both false false e = not-both false e refl
 
+-- ---- what is asked, by the turn
+module _ (trump opening : ℕ) (e : List Event) where
+  pub asked-led : leads e ≡ false → (k : ℕ) → isAsked trump opening e k ≡ isOf (ledAfter e) k
+  unfolding isAsked
+  asked-led q k = rw q
+
+  module _ (q : leads e ≡ true) where
+    pub asked-suit : eqb (required e) noSuit ≡ false → (k : ℕ) → isAsked trump opening e k ≡ isOf (required e) k
+    unfolding isAsked
+    asked-suit n k = rw (q, n)
+
+    pub asked-free : eqb (required e) noSuit ≡ true → (k : ℕ) → isAsked trump opening e k ≡ not (isForbidden trump opening e (suitOf k))
+    unfolding isAsked
+    asked-free n k = rw (q, n)
+
 module _ (trump opening : ℕ) (deal : List ℕ) where
   abbrev could : List Event → ℕ → Bool
   could e k = isAsked trump opening e k && holds deal (cardsOf e) (seatAfter trump opening e) k
@@ -68,16 +83,6 @@ module _ (trump opening : ℕ) (deal : List ℕ) where
       (and-both (isAsked trump opening e (t .card)) (holds deal (cardsOf e) (seatAfter trump opening e) (t .card)) (t .asked) (t .held)) in
       rw (t .not-asked, able)
 
-  -- ---- a lead, by what is asked of it
-  module _ (e : List Event) (q : leads e ≡ true) where
-    asked-suit : eqb (required e) noSuit ≡ false → (k : ℕ) → isAsked trump opening e k ≡ isOf (required e) k
-    unfolding isAsked
-    asked-suit n k = rw (q, n)
-
-    asked-free : eqb (required e) noSuit ≡ true → (k : ℕ) → isAsked trump opening e k ≡ not (isForbidden trump opening e (suitOf k))
-    unfolding isAsked
-    asked-free n k = rw (q, n)
-
   in-full : (e : List Event) (c : ℕ) → disobeys trump opening deal e c ≡ true → RevokedBy trump opening deal e c
   in-full e c d =
       by-test (leads e)
@@ -86,7 +91,7 @@ module _ (trump opening : ℕ) (deal : List ℕ) where
       let lead = eqb-true (cardsInTrick (cardsOf e)) 0 q in
       inr (by-test (eqb (required e) noSuit)
       (λ (n : eqb (required e) noSuit ≡ true).
-      let free = asked-free e q n in
+      let free = asked-free trump opening e q n in
       inr (record {
         leads = lead;
         none-required = eqb-true (required e) noSuit n;
@@ -97,7 +102,7 @@ module _ (trump opening : ℕ) (deal : List ℕ) where
         could-held = t .held;
       }))
       (λ (n : eqb (required e) noSuit ≡ false).
-      let suit = asked-suit e q n in
+      let suit = asked-suit trump opening e q n in
       inl (record {
         leads = lead;
         asked = eqb-false (required e) noSuit n;
@@ -116,7 +121,7 @@ module _ (trump opening : ℕ) (deal : List ℕ) where
       rw (following e c (ne-eqb (cardsInTrick (cardsOf e)) 0 (r .follows))) (revoke-exactly trump opening deal (cardsOf e) c .1 r))
       (⊎-elim
       (λ (r : RequiredNotLed trump opening deal e c).
-      let suit = asked-suit e (eq-eqb (cardsInTrick (cardsOf e)) 0 (r .leads)) (ne-eqb (required e) noSuit (r .asked)) in
+      let suit = asked-suit trump opening e (eq-eqb (cardsInTrick (cardsOf e)) 0 (r .leads)) (ne-eqb (required e) noSuit (r .asked)) in
       is-told e c (record {
         not-asked = rw (suit c) (ne-eqb (suitOf c) (required e) (r .other));
         card = r .could;
@@ -125,7 +130,7 @@ module _ (trump opening : ℕ) (deal : List ℕ) where
         held = r .could-held;
       }))
       (λ (r : ForbiddenLed trump opening deal e c).
-      let free = asked-free e (eq-eqb (cardsInTrick (cardsOf e)) 0 (r .leads)) (eq-eqb (required e) noSuit (r .none-required)) in
+      let free = asked-free trump opening e (eq-eqb (cardsInTrick (cardsOf e)) 0 (r .leads)) (eq-eqb (required e) noSuit (r .none-required)) in
       is-told e c (record {
         not-asked = rw (free c, r .forbidden);
         card = r .could;

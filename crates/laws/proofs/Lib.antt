@@ -44,3 +44,4 @@ pub mod KeptChoices
 pub mod PlaysListed
 pub mod LeadRevokes
 pub mod FailuresInFull
+pub mod OneCard

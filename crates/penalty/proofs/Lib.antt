@@ -1,0 +1,4 @@
+pub mod Sets
+pub mod Tests
+pub mod Stands
+pub mod Stepping
