@@ -2,3 +2,4 @@ pub mod Sets
 pub mod Tests
 pub mod Stands
 pub mod Stepping
+pub mod AtMost
