@@ -3,3 +3,4 @@ pub mod Tests
 pub mod Stands
 pub mod Stepping
 pub mod AtMost
+pub mod Marking
