@@ -37,3 +37,11 @@ pub mod BestTotal
 pub mod Lengths
 pub mod FirstBytes
 pub mod Slip
+pub mod CardsAlone
+pub mod CodeRefusals
+pub mod KeptCards
+pub mod KeptChoices
+pub mod PlaysListed
+pub mod LeadRevokes
+pub mod FailuresInFull
+pub mod OneCard

@@ -1,0 +1,6 @@
+pub mod Sets
+pub mod Tests
+pub mod Stands
+pub mod Stepping
+pub mod AtMost
+pub mod Marking

@@ -1,0 +1,4 @@
+pub mod Words
+pub mod Position
+pub mod Found
+pub mod Table
