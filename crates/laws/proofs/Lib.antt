@@ -18,6 +18,7 @@ pub mod Readings
 pub mod Histories
 pub mod Exact
 pub mod CardRefusals
+pub mod Plays
 pub mod Sections
 pub mod Claims
 pub mod LawfulParts

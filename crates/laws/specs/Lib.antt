@@ -24,6 +24,7 @@ pub mod Kept
 pub mod Bytes
 pub mod Record
 pub mod Reading
+pub mod Plays
 pub mod Checks
 pub mod Judge
 pub mod Judgement
