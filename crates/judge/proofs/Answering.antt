@@ -15,7 +15,7 @@ use Rattle.laws.specs.Reading.{Reading, Reading.refused, Reading.found, refuse}
 use Rattle.laws.specs.Law2.{dealer}
 use Rattle.laws.specs.Judge as Judge
 use Rattle.laws.specs.Judgement.{answerFields, answerBytes, playedFields, callsOf, revokesOf, revokeByte, revokeBytes}
-use Rattle.laws.specs.Lent.{_over_, answerLeft, listLeft}
+use Rattle.laws.specs.Lent.{roomsOf, _over_, answerLeft, listLeft}
 use Rattle.laws.proofs.Bytes.{length-bytes}
 use Rattle.laws.proofs.Padded.{padded-back}
 use Rattle.laws.proofs.Numbered.{Ruled, ruled, not-0}
@@ -74,7 +74,7 @@ few-revokes bytes {p} q =
 -- ---- the judge's answer
 module _ (bytes : List ℕ) (answer list : List ℕ) where
   abbrev said : Judge.Outcome
-  said = Judge.judgeOf bytes (length answer) (length list)
+  said = Judge.judgeOf bytes (roomsOf answer list)
 
   -- the number returned and the two buffers
   pub record Left (n : ℕ) (a l : List ℕ) : Type 0 where
@@ -88,7 +88,7 @@ module _ (bytes : List ℕ) (answer list : List ℕ) where
 
   -- a refusal's number is not 0
   not-none : {n place : ℕ} → said ≡ Judge.Outcome.refused n place → n * 1024 + place ≡ 0 → ⊥
-  not-none o z = not-0 (subst Ruled o (ruled bytes (length answer) (length list))) z
+  not-none o z = not-0 (subst Ruled o (ruled bytes (roomsOf answer list))) z
 
   answer-said : length answer < 7 → said ≡ Judge.Outcome.refused 1 0
   unfolding Judge.judgeOf Judge.readLent refuse

@@ -5,18 +5,17 @@ use mathlib.Core.Path.{_≡_, refl, ap, ap₂, _∙_, subst}
 use mathlib.Core.Bool.{Bool, true, false}
 use mathlib.Core.List.{List, [], _∷_}
 use borrow.Author.Tests.{eq-eqb, ne-eqb}
-use lib.Dec.{lit≤}
 use lib.ListN.{length}
 use Rattle.laws.specs.Auction.{passedOut}
 use Rattle.laws.specs.Law2.{vulnerable}
 use Rattle.laws.specs.Law77.{Stake}
 use Rattle.laws.specs.Record.{Parts, field, bits, number}
 use Rattle.laws.specs.Reading.{Reading, Reading.refused, Reading.found}
-use Rattle.laws.specs.Judge.{readRecord, outcome, judgeOf}
+use Rattle.laws.specs.Judge.{readRecord, outcome, leastRooms, judgeOf}
 use Rattle.laws.specs.Judgement.{callsOf, contractOf, declarerOf, wonOf, afterOf, revokesOf, stakeOf, scoreOf, twosComplement, playedFields, answerFields}
 use Rattle.laws.specs.Lawful.{Lawful}
 use Rattle.laws.specs.Slip.{pointsOf}
-use Rattle.laws.proofs.Accepts.{judged, lent-is}
+use Rattle.laws.proofs.Accepts.{least-enough, judged, lent-is}
 use Rattle.laws.proofs.Numbered.{Ruled, ruled, not-0}
 use Rattle.laws.proofs.Tests.{by-test}
 use Rattle.judge.specs.declared.slip.Items.{Items}
@@ -161,8 +160,8 @@ module _ (p : Parts) (ok : Lawful p) (few : length (revokesOf p) ≤ 36) where
 
 -- ---- a record
 module _ (bytes : List ℕ) (j : Judged) (ej : j ≡ judgedOf (readRecord bytes 0)) where
-  said : judgeOf bytes 7 36 ≡ outcome (readRecord bytes 0)
-  said = lent-is 7 36 (lit≤ tt) (lit≤ tt) bytes
+  said : judgeOf bytes leastRooms ≡ outcome (readRecord bytes 0)
+  said = lent-is leastRooms least-enough bytes
 
   -- a refusal's number and its place, out of the one that holds both
   taken-apart : (r : Reading Parts) → Ruled (outcome r) → (judgedOf r .refusal ≡ 0 → ⊥)
@@ -173,9 +172,9 @@ module _ (bytes : List ℕ) (j : Judged) (ej : j ≡ judgedOf (readRecord bytes 
       ap₂ Refused (omega arith) (omega arith)
   taken-apart (found p at) f e = absurd (e refl)
 
-  pub explained-refused : (j .refusal ≡ 0 → ⊥) → Refused (j .refusal / 1024) (j .refusal % 1024) ≡ explainedOf (judgeOf bytes 7 36)
+  pub explained-refused : (j .refusal ≡ 0 → ⊥) → Refused (j .refusal / 1024) (j .refusal % 1024) ≡ explainedOf (judgeOf bytes leastRooms)
   explained-refused e =
-      rw (ej, said) (taken-apart (readRecord bytes 0) (subst Ruled said (ruled bytes 7 36)) (rw ej at e))
+      rw (ej, said) (taken-apart (readRecord bytes 0) (subst Ruled said (ruled bytes leastRooms)) (rw ej at e))
 
   -- what holds of the bits where nothing is refused
   abbrev Reads : Reading Parts → Type 0
@@ -192,10 +191,10 @@ module _ (bytes : List ℕ) (j : Judged) (ej : j ≡ judgedOf (readRecord bytes 
 
   module _ (none : j .refusal ≡ 0) where
     all-read : Reads (readRecord bytes 0)
-    all-read = read-bits (readRecord bytes 0) refl (subst Ruled said (ruled bytes 7 36)) (rw ej at none)
+    all-read = read-bits (readRecord bytes 0) refl (subst Ruled said (ruled bytes leastRooms)) (rw ej at none)
 
     pub answer-possible : (levelIn (j .bits) ≡ 0 → ⊥) → Possible (stakeIn (j .bits)) (tricksIn (j .bits))
     answer-possible = rw ej (all-read .0)
 
-    pub explained-granted : (i : Items) → i ≡ itemsAt (j .bits) → Granted i ≡ explainedOf (judgeOf bytes 7 36)
+    pub explained-granted : (i : Items) → i ≡ itemsAt (j .bits) → Granted i ≡ explainedOf (judgeOf bytes leastRooms)
     explained-granted i e = rw (e, ej, said) (all-read .1)

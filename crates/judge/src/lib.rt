@@ -20,7 +20,7 @@ ghost use Prim.Native.Nat.{_<_, _≤_};
 ghost use lib.ListN.{length, take, drop};
 ghost use Rattle.laws.specs.Record.{bytesOf};
 ghost use Rattle.laws.specs.Judge.{judgeOf, numberOf};
-ghost use Rattle.laws.specs.Lent.{answerLeft, listLeft};
+ghost use Rattle.laws.specs.Lent.{roomsOf, answerLeft, listLeft};
 
 fn narrow(x: u64) -> u8
     requires { ⌜ x < 256 ⌝ }
@@ -59,11 +59,11 @@ fn put_list(list: &mut [u8], revokes: [u8; 36], count: usize)
 // or a refusal × 1024 + its place, with both as they were.
 #[no_mangle]
 pub extern "C" fn judge_record(bytes: &[u8], answer: &mut [u8], list: &mut [u8]) -> u32
-    ensures number { λ r. ⌜ r ≡ numberOf (judgeOf (now (bytes .entry)) (length (now (answer .entry))) (length (now (list .entry)))) ⌝ }
+    ensures number { λ r. ⌜ r ≡ numberOf (judgeOf (now (bytes .entry)) (roomsOf (now (answer .entry)) (now (list .entry)))) ⌝ }
     ensures answered { λ r. ⌜ now (answer .exit)
-        ≡ answerLeft (judgeOf (now (bytes .entry)) (length (now (answer .entry))) (length (now (list .entry)))) (now (answer .entry)) ⌝ }
+        ≡ answerLeft (judgeOf (now (bytes .entry)) (roomsOf (now (answer .entry)) (now (list .entry)))) (now (answer .entry)) ⌝ }
     ensures listed { λ r. ⌜ now (list .exit)
-        ≡ listLeft (judgeOf (now (bytes .entry)) (length (now (answer .entry))) (length (now (list .entry)))) (now (list .entry)) ⌝ }
+        ≡ listLeft (judgeOf (now (bytes .entry)) (roomsOf (now (answer .entry)) (now (list .entry)))) (now (list .entry)) ⌝ }
 {
     if answer.len() < 7 {
         return refusal_number(SHORT_BUFFER, 0);

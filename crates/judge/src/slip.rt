@@ -13,7 +13,7 @@ use crate::whole::judge;
 ghost use mathlib.Core.Path.{_≡_};
 ghost use Prim.Native.Nat.{_≤_, _<_, _/_, _%_};
 ghost use lib.IntN.{pos, negℤ, natAbs};
-ghost use Rattle.laws.specs.Judge.{judgeOf};
+ghost use Rattle.laws.specs.Judge.{leastRooms, judgeOf};
 ghost use Rattle.laws.specs.Law77.{declarerScore, isMade, nsScore};
 ghost use Rattle.judge.specs.Scoring.{stakeOf};
 ghost use Rattle.judge.specs.Explained.{Possible, noItems, itemsFor, levelIn, stakeIn, tricksIn, itemsAt, explainedOf};
@@ -163,7 +163,7 @@ fn items_in(bits: u64) -> Items
 
 // The items of Law 77 that make the score of a table record.
 pub fn explain(bytes: &[u8]) -> Explained
-    ensures { λ r. ⌜ r ≡ explainedOf (judgeOf (now (bytes .entry)) 7 36) ⌝ }
+    ensures { λ r. ⌜ r ≡ explainedOf (judgeOf (now (bytes .entry)) leastRooms) ⌝ }
 {
     let judged = judge(bytes);
     let refusal = judged.refusal;

@@ -11,7 +11,8 @@ use Rattle.laws.specs.Law2.{dealer}
 use Rattle.laws.specs.Law68.{Claim}
 use Rattle.laws.specs.Record.{Parts, row, bits, claimFields, layout, encode}
 use Rattle.laws.specs.Reading.{Reading, Reading.refused as stopped, Reading.found}
-use Rattle.laws.specs.Judge.{Heading, readHeading, readDeal, readCalls, readCards, readClaim, readRecord, readLent, Outcome.accepted, outcome, judgeOf}
+use Rattle.laws.specs.Judge.{Heading, readHeading, readDeal, readCalls, readCards, readClaim, readRecord}
+use Rattle.laws.specs.Judge.{readLent, Outcome.accepted, outcome, Rooms, leastRooms, Enough, judgeOf}
 use Rattle.laws.specs.Lawful.{Lawful}
 use Rattle.laws.proofs.Spelled.{Stands, Padded, stands-append, stands-front, stands-behind, is-packed, holds}
 use Rattle.laws.proofs.Readings.{first-of, first-ending, test-is, ending-is}
@@ -94,21 +95,25 @@ module _ (bytes : List ℕ) where
       (rw (← staged (headingOf p) (p .deal) h g (p .claim)) (subst (λ (r : Parts). Stands bytes 0 (layout r) end) (sym (as-read p)) s)) z
       ∙ ap (λ (r : Parts). found r end) (as-read p)
 
--- with buffers of at least 7 and 36 bytes the record decides
-module _ (answer list : ℕ) (ha : 7 ≤ answer) (hl : 36 ≤ list) where
-  pub lent-is : (bytes : List ℕ) → judgeOf bytes answer list ≡ outcome (readRecord bytes 0)
+-- buffers of the least lengths
+pub least-enough : Enough leastRooms
+least-enough = record { answer = lit≤ tt; list = lit≤ tt }
+
+-- with buffers that are long enough the record decides
+module _ (rooms : Rooms) (enough : Enough rooms) where
+  pub lent-is : (bytes : List ℕ) → judgeOf bytes rooms ≡ outcome (readRecord bytes 0)
   unfolding judgeOf readLent
-  lent-is bytes = simp (le-ltb answer 7 ha, le-ltb list 36 hl, test-is)
+  lent-is bytes = simp (le-ltb (rooms .answer) 7 (enough .answer), le-ltb (rooms .list) 36 (enough .list), test-is)
 
   -- the encoding of lawful parts is accepted, as those parts
-  pub read-back : (p : Parts) → Lawful p → judgeOf (encode p) answer list ≡ accepted p
+  pub read-back : (p : Parts) → Lawful p → judgeOf (encode p) rooms ≡ accepted p
   unfolding encode
   read-back p ok =
       let s = holds (layout p) (lawful-fits p ok) in
       lent-is (encode p) ∙ ap outcome (judges (encode p) p (bits (layout p)) ok (s .0) (s .1))
 
   -- and nothing else is
-  accepted-parts : (bytes : List ℕ) → Bytes bytes → (p : Parts) → judgeOf bytes answer list ≡ accepted p → Lawful p × (bytes ≡ encode p)
+  accepted-parts : (bytes : List ℕ) → Bytes bytes → (p : Parts) → judgeOf bytes rooms ≡ accepted p → Lawful p × (bytes ≡ encode p)
   unfolding encode
   accepted-parts bytes small p q =
       let r = reached (readRecord bytes 0) (sym (lent-is bytes) ∙ q) in
@@ -119,7 +124,7 @@ module _ (answer list : ℕ) (ha : 7 ≤ answer) (hl : 36 ≤ list) where
       reached (stopped n place) e = let z : _≡_ {A = ℕ} 0 1 = cc in absurd (omega arith)
       reached (found x end) e = let z : x ≡ p = cc in (end, ap (λ (y : Parts). found y end) z)
 
-  pub accepts-parts : (bytes : List ℕ) → Bytes bytes → (p : Parts) → (judgeOf bytes answer list ≡ accepted p) ↔ (Lawful p × (bytes ≡ encode p))
+  pub accepts-parts : (bytes : List ℕ) → Bytes bytes → (p : Parts) → (judgeOf bytes rooms ≡ accepted p) ↔ (Lawful p × (bytes ≡ encode p))
   accepts-parts bytes small p = (accepted-parts bytes small p, λ w. rw (w .1) (read-back p (w .0)))
 
 -- an accepted outcome has one value
@@ -129,4 +134,4 @@ same-accepted p q e = cc
 -- no bytes are the encoding of two lawful parts
 pub unique : (p q : Parts) → Lawful p → Lawful q → encode p ≡ encode q → p ≡ q
 unique p q a b e =
-    same-accepted p q (sym (read-back 7 36 (lit≤ tt) (lit≤ tt) p a) ∙ rw e (read-back 7 36 (lit≤ tt) (lit≤ tt) q b))
+    same-accepted p q (sym (read-back leastRooms least-enough p a) ∙ rw e (read-back leastRooms least-enough q b))

@@ -6,7 +6,7 @@ use mathlib.Core.Logic.{_↔_}
 use mathlib.Core.Bool.{true, false, not, _&&_, _||_}
 use mathlib.Core.List.{List, [], _∷_, reverse}
 use borrow.Author.Tests.{eqb-true, leb-true, ltb-false, not-false, not-true}
-use lib.Dec.{ltb, eqb, lit≤}
+use lib.Dec.{ltb, eqb}
 use lib.ListN.{length, getD}
 use Rattle.laws.specs.Choice.{some}
 use Rattle.laws.specs.Refusals.{accepted, noBoardOrTable, notThirteen, tooManyCards, noClaimPoint, tooManyCalls}
@@ -20,7 +20,7 @@ use Rattle.laws.specs.Law68.{Claim, none, agreed, atClaimPoint, claimabl
 use Rattle.laws.specs.Record.{Parts, encode, packed}
 use Rattle.laws.specs.Bytes.{Bytes}
 use Rattle.laws.specs.Reading.{Reading, Reading.refused as stopped, Reading.found, refuse}
-use Rattle.laws.specs.Judge.{Outcome.accepted as taken, outcome, judgeOf}
+use Rattle.laws.specs.Judge.{Outcome.accepted as taken, outcome, Rooms, leastRooms, Enough, judgeOf}
 use Rattle.laws.specs.Lawful.{Claimed, Lawful}
 use Rattle.laws.specs.Contents.{Fits, takeHeading, areSeats, takeDeal, takeEach, takeCalls, takeCards, takeClaim, takeParts, contentsOf}
 use Rattle.laws.proofs.Tests.{by-test, and-left, and-right, or-left, or-right}
@@ -29,7 +29,7 @@ use Rattle.laws.proofs.CallRefusals.{accepted-is, allowed-lt}
 use Rattle.laws.proofs.CardRefusals.{accepted-playable, playable-dealt}
 use Rattle.laws.proofs.Histories.{Each, each-place}
 use Rattle.laws.proofs.Readings.{refused-found, first-of, first-test}
-use Rattle.laws.proofs.Accepts.{lent-is, read-back, accepts-parts}
+use Rattle.laws.proofs.Accepts.{least-enough, lent-is, read-back, accepts-parts}
 use Rattle.laws.proofs.Contents.{as-judged}
 
 -- ---- what the checks of a section let through
@@ -176,10 +176,10 @@ lawful-fit p ok =
     claimed : (tricks : ℕ) → Claimed (reverse (p .calls)) (reverse (p .cards)) (agreed tricks) → tricks ≤ 15
     claimed tricks c = omega (arith, at-most-13 (reverse (p .cards)) tricks (c .2))
 
-module _ (answer list : ℕ) (ha : 7 ≤ answer) (hl : 36 ≤ list) (p : Parts) where
+module _ (rooms : Rooms) (enough : Enough rooms) (p : Parts) where
   -- what the judge says of the record of contents that fit
-  pub judged-alike : Fits p → judgeOf (encode p) answer list ≡ contentsOf p
-  judged-alike fits = lent-is answer list ha hl (encode p) ∙ as-judged p fits
+  pub judged-alike : Fits p → judgeOf (encode p) rooms ≡ contentsOf p
+  judged-alike fits = lent-is rooms enough (encode p) ∙ as-judged p fits
 
 bytes-encoded : (p : Parts) → Bytes (encode p)
 unfolding encode packed
@@ -190,6 +190,6 @@ pub accepted-lawful : (p : Parts) → (contentsOf p ≡ taken p) ↔ Lawful p
 accepted-lawful p = (
   λ e.
       let fits = accepted-fits p e .1 in
-      accepts-parts 7 36 (lit≤ tt) (lit≤ tt) (encode p) (bytes-encoded p) p .0 (judged-alike 7 36 (lit≤ tt) (lit≤ tt) p fits ∙ e) .0,
-  λ ok. sym (judged-alike 7 36 (lit≤ tt) (lit≤ tt) p (lawful-fit p ok)) ∙ read-back 7 36 (lit≤ tt) (lit≤ tt) p ok,
+      accepts-parts leastRooms least-enough (encode p) (bytes-encoded p) p .0 (judged-alike leastRooms least-enough p fits ∙ e) .0,
+  λ ok. sym (judged-alike leastRooms least-enough p (lawful-fit p ok)) ∙ read-back leastRooms least-enough p ok,
 )

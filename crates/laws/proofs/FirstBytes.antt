@@ -22,7 +22,8 @@ use Rattle.laws.specs.CardRefusal.{cardRefusal, cardPlace}
 use Rattle.laws.specs.Law68.{atClaimPoint, claimable}
 use Rattle.laws.specs.Record.{bits}
 use Rattle.laws.specs.Reading.{bitAt, numberAt, Reading, Reading.refused, Reading.found, onward, read, refuse, readRow, readEach, overfull, ending}
-use Rattle.laws.specs.Judge.{readHeading, readDeal, readCalls, readCards, readNoClaim, readMarkedClaim, readClaim, readRecord, readLent, outcome, judgeOf}
+use Rattle.laws.specs.Judge.{readHeading, readDeal, readCalls, readCards, readNoClaim, readMarkedClaim}
+use Rattle.laws.specs.Judge.{readClaim, readRecord, readLent, outcome, Rooms, judgeOf}
 use Rattle.laws.specs.Lengths.{decidingBytes}
 use Rattle.laws.proofs.Tests.{by-test, or-left}
 use Rattle.laws.proofs.Bits.{number-lt}
@@ -174,16 +175,16 @@ module _ (most : ℕ) (bytes : List ℕ) (long : most ≤ length bytes) where
       let e₅ : m₅ ≤ 3518 = omega (arith, h₅ .1 .next, claim-bits t .1) in
       same-on _ _ _ _ (same-ending m₅ (omega arith)) (λ u m₆ q₆. refl))))))
 
-  same-lent : decidingBytes ≤ most → (answer list : ℕ) → judgeOf bytes answer list ≡ judgeOf front answer list
+  same-lent : decidingBytes ≤ most → (rooms : Rooms) → judgeOf bytes rooms ≡ judgeOf front rooms
   unfolding judgeOf readLent
-  same-lent enough answer list =
+  same-lent enough rooms =
       ap outcome
-      (same-test shortBuffer 0 bytes front 0 _ _ (ltb answer 7) (λ a.
-      same-test shortBuffer 1 bytes front 0 _ _ (ltb list 36) (λ b. same-record enough)))
+      (same-test shortBuffer 0 bytes front 0 _ _ (ltb (rooms .answer) 7) (λ a.
+      same-test shortBuffer 1 bytes front 0 _ _ (ltb (rooms .list) 36) (λ b. same-record enough)))
 
 -- ---- the theorem: as many first bytes as decide, or more, are judged as the whole
-pub first-bytes : (most : ℕ) → decidingBytes ≤ most → (bytes : List ℕ) (answer list : ℕ) → judgeOf bytes answer list ≡ judgeOf (take most bytes) answer list
-first-bytes most enough bytes answer list =
+pub first-bytes : (most : ℕ) → decidingBytes ≤ most → (bytes : List ℕ) (rooms : Rooms) → judgeOf bytes rooms ≡ judgeOf (take most bytes) rooms
+first-bytes most enough bytes rooms =
     by-test (ltb (length bytes) most)
     (λ (q : ltb (length bytes) most ≡ true). rw (take-all most bytes (omega (arith, ltb-true (length bytes) most q))))
-    (λ (q : ltb (length bytes) most ≡ false). same-lent most bytes (ltb-false (length bytes) most q) enough answer list)
+    (λ (q : ltb (length bytes) most ≡ false). same-lent most bytes (ltb-false (length bytes) most q) enough rooms)

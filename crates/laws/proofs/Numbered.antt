@@ -1,4 +1,4 @@
--- A refusal of the judge has a number from 1 to 16, 23 or 24, and a place below 1024, for every list of numbers and every two lengths. Assumes nothing.
+-- A refusal of the judge has a number from 1 to 16, 23 or 24, and a place below 1024, for every list of numbers and buffers of any lengths. Assumes nothing.
 use Prim.Native.Nat.{ℕ, zero, suc, _+_, _*_, _^_, _≤_, _<_}
 use native.Mathlib.Omega.{arith}
 use mathlib.Core.Path.{_≡_, refl}
@@ -19,7 +19,7 @@ use Rattle.laws.specs.Law68.{atClaimPoint, claimable}
 use Rattle.laws.specs.Record.{Parts}
 use Rattle.laws.specs.Reading.{numberAt, Reading, Reading.refused, Reading.found, onward, read, refuse, readRow, readEach, overfull, ending}
 use Rattle.laws.specs.Judge.{readHeading, readDeal, readCalls, readCards, readNoClaim, readMarkedClaim, readClaim, readRecord, readLent}
-use Rattle.laws.specs.Judge.{Outcome, Outcome.refused as declined, Outcome.accepted as taken, outcome, judgeOf}
+use Rattle.laws.specs.Judge.{Outcome, Outcome.refused as declined, Outcome.accepted as taken, outcome, Rooms, judgeOf}
 use Rattle.laws.proofs.Tests.{by-test}
 use Rattle.laws.proofs.Bits.{number-lt}
 use Rattle.laws.proofs.CallRefusals.{numbered, call-place-le}
@@ -152,20 +152,20 @@ fair-record bytes =
     fair-on (readClaim h g bytes m₄) _ (fair-claim h g bytes m₄ (h₄ .0 .count)) (λ t m₅ q₅.
     fair-test notPadding 0 (overfull bytes m₅) bytes m₅ _ (λ t. at-place refl (omega arith)) tt)))))
 
-fair-lent : (answer list : ℕ) (bytes : List ℕ) → Fair (readLent answer list bytes 0)
+fair-lent : (rooms : Rooms) (bytes : List ℕ) → Fair (readLent rooms bytes 0)
 unfolding readLent
-fair-lent answer list bytes =
-    fair-test shortBuffer 0 (ltb answer 7) bytes 0 _ (λ t. at-place refl (omega arith))
-    (fair-test shortBuffer 1 (ltb list 36) bytes 0 _ (λ t. at-place refl (omega arith)) (fair-record bytes))
+fair-lent rooms bytes =
+    fair-test shortBuffer 0 (ltb (rooms .answer) 7) bytes 0 _ (λ t. at-place refl (omega arith))
+    (fair-test shortBuffer 1 (ltb (rooms .list) 36) bytes 0 _ (λ t. at-place refl (omega arith)) (fair-record bytes))
 
 -- an outcome that is a refusal is so numbered
 abbrev pub Ruled : Outcome → Type 0
 Ruled (declined n place) = Numbered n place
 Ruled (taken p) = Unit {0}
 
-pub ruled : (bytes : List ℕ) (answer list : ℕ) → Ruled (judgeOf bytes answer list)
+pub ruled : (bytes : List ℕ) (rooms : Rooms) → Ruled (judgeOf bytes rooms)
 unfolding judgeOf
-ruled bytes answer list = go (readLent answer list bytes 0) (fair-lent answer list bytes)
+ruled bytes rooms = go (readLent rooms bytes 0) (fair-lent rooms bytes)
   where
     go : (r : Reading Parts) → Fair r → Ruled (outcome r)
     go (refused n place) f = f

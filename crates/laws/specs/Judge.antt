@@ -1,6 +1,6 @@
 -- The judge: the order of checks, section by section as docs/RULES.md has them, on the fields read and the histories of calls and cards.
 -- Assumes nothing.
-use Prim.Native.Nat.{ℕ}
+use Prim.Native.Nat.{ℕ, _≤_}
 use mathlib.Core.List.{List, [], reverse}
 use lib.Dec.{ltb, eqb}
 use Rattle.laws.specs.Choice.{if_then_else_}
@@ -81,11 +81,25 @@ readRecord = do
   ending
   give (record { board = top .board; table = top .table; deal = deal; calls = reverse h; cards = reverse g; claim = claim })
 
--- the two lent buffers come before the record; `answer` and `list` are their lengths
-unfoldable pub readLent : ℕ → ℕ → Reader Parts
-readLent answer list = do
-  refuse shortBuffer 0 (ltb answer 7)
-  refuse shortBuffer 1 (ltb list 36)
+-- the lengths of the lent buffers
+pub record Rooms : Type 0 where
+  pub answer : ℕ
+  pub list : ℕ
+
+-- the least lengths that serve
+abbrev pub leastRooms : Rooms
+leastRooms = record { answer = 7; list = 36 }
+
+-- no lent buffer is too short
+pub record Enough (rooms : Rooms) : Type 0 where
+  pub answer : leastRooms .answer ≤ rooms .answer
+  pub list : leastRooms .list ≤ rooms .list
+
+-- the lent buffers come before the record
+unfoldable pub readLent : Rooms → Reader Parts
+readLent rooms = do
+  refuse shortBuffer 0 (ltb (rooms .answer) (leastRooms .answer))
+  refuse shortBuffer 1 (ltb (rooms .list) (leastRooms .list))
   readRecord
 
 -- a refusal with its number and place, or the parts of an accepted record
@@ -98,8 +112,8 @@ outcome (stopped n place) = refused n place
 outcome (read-to p at) = accepted p
 
 -- what the judge says of the bytes, given buffers of these lengths
-unfoldable pub judgeOf : List ℕ → ℕ → ℕ → Outcome
-judgeOf bytes answer list = outcome (readLent answer list bytes 0)
+unfoldable pub judgeOf : List ℕ → Rooms → Outcome
+judgeOf bytes rooms = outcome (readLent rooms bytes 0)
 
 -- the number returned: 0, or refusal × 1024 + place
 abbrev pub numberOf : Outcome → ℕ

@@ -3,8 +3,12 @@
 use mathlib.Core.List.{List, _++_}
 use Prim.Native.Nat.{ℕ}
 use lib.ListN.{length, drop}
-use Rattle.laws.specs.Judge.{Outcome, Outcome.refused, Outcome.accepted}
+use Rattle.laws.specs.Judge.{Rooms, Outcome, Outcome.refused, Outcome.accepted}
 use Rattle.laws.specs.Judgement.{answerBytes, revokeBytes}
+
+-- the lengths of two buffers
+abbrev pub roomsOf : List ℕ → List ℕ → Rooms
+roomsOf answer list = record { answer = length answer; list = length list }
 
 infixr 5 _over_
 -- bytes over the front of a buffer; the buffer's bytes behind them stay

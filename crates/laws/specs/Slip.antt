@@ -10,7 +10,7 @@ use Rattle.laws.specs.Choice.{if_then_else_}
 use Rattle.laws.specs.Auction.{passedOut}
 use Rattle.laws.specs.Law77.{Items, items, nsScore}
 use Rattle.laws.specs.Record.{Parts}
-use Rattle.laws.specs.Judge.{Outcome, Outcome.refused, Outcome.accepted, judgeOf}
+use Rattle.laws.specs.Judge.{Outcome, Outcome.refused, Outcome.accepted, leastRooms, judgeOf}
 use Rattle.laws.specs.Judgement.{callsOf, declarerOf, stakeOf, afterOf, scoreOf}
 use Rattle.laws.specs.Decimal.{decimal, signedDecimal}
 use Rattle.laws.specs.Sheet.{newline}
@@ -103,7 +103,7 @@ slipOf (accepted p) = lines (itemsOf p) ++ line sumWord (scoreOf p)
 
 -- the slip of a record, which is judged with buffers of the least lengths, so that none is too short
 unfoldable pub slip : List ℕ → List ℕ
-slip bytes = slipOf (judgeOf bytes 7 36)
+slip bytes = slipOf (judgeOf bytes leastRooms)
 
 -- no slip has more bytes
 abbrev pub mostSlipBytes : ℕ

@@ -1,20 +1,19 @@
 -- Demand 1 of the judge, proved. Assumes nothing.
-use Prim.Native.Nat.{ℕ, zero, suc, _+_, _-_, _≤_, _<_}
+use Prim.Native.Nat.{ℕ, _+_, _-_, _≤_}
 use native.Mathlib.Omega.{arith}
 use mathlib.Core.Path.{_≡_, refl, sym, ap, _∙_}
 use mathlib.Core.List.{List, [], _∷_, _++_}
-use borrow.Author.Tests.{le-ltb}
 use lib.ListN.{length, take, drop, length-append, length-drop, length-map}
-use Rattle.laws.specs.Record.{Parts, packed}
+use Rattle.laws.specs.Record.{Parts}
 use Rattle.laws.specs.Reading.{Reading, Reading.refused as stopped, Reading.found}
-use Rattle.laws.specs.Judge.{Outcome, Outcome.refused, Outcome.accepted, outcome, readRecord, readLent, judgeOf, numberOf}
-use Rattle.laws.specs.Judgement.{answerBytes, answerFields, revokesOf, revokeByte, revokeBytes}
-use Rattle.laws.specs.Lent.{_over_, answerLeft, listLeft}
-use Rattle.laws.proofs.Readings.{test-is}
+use Rattle.laws.specs.Judge.{Outcome, Outcome.refused, Outcome.accepted, outcome, readRecord, Rooms, numberOf}
+use Rattle.laws.specs.Judgement.{answerBytes, revokesOf, revokeByte, revokeBytes}
+use Rattle.laws.specs.Lent.{roomsOf, _over_, answerLeft, listLeft}
+use Rattle.laws.proofs.Accepts.{lent-is}
 use Rattle.laws.proofs.Numbered.{ruled}
 use Rattle.judge.proofs.Answering.{seven-long, few-revokes}
 use Rattle.promises.specs.Demand1.{saidOf, Demand1}
-use Rattle.promises.proofs.Demand2Accepts.{either, lent-enough, never}
+use Rattle.promises.proofs.Demand2Accepts.{either, lent-enough}
 
 -- ---- bytes over the front of a buffer
 pub front-is : (front old : List ℕ) → take (length front) (front over old) ≡ front
@@ -42,6 +41,9 @@ unfolding revokeBytes
 revoke-bytes-long p = length-map (revokesOf p) revokeByte
 
 module _ (bytes answer list : List ℕ) where
+  abbrev rooms : Rooms
+  rooms = roomsOf answer list
+
   abbrev said : Outcome
   said = saidOf bytes answer list
 
@@ -53,10 +55,7 @@ module _ (bytes answer list : List ℕ) where
 
   -- ---- accepted
   pub was-read : (p : Parts) → said ≡ accepted p → (e : ℕ) × (readRecord bytes 0 ≡ found p e)
-  unfolding judgeOf readLent
-  was-read p q =
-      let lent = lent-enough bytes (length answer) (length list) p q in
-      go (readRecord bytes 0) refl (sym (simp (le-ltb (length answer) 7 (lent .0), le-ltb (length list) 36 (lent .1), test-is)) ∙ q)
+  was-read p q = go (readRecord bytes 0) refl (sym (lent-is rooms (lent-enough bytes rooms p q) bytes) ∙ q)
     where
       go : (r : Reading Parts) → readRecord bytes 0 ≡ r → outcome r ≡ accepted p → (e : ℕ) × (readRecord bytes 0 ≡ found p e)
       go (stopped n place) e o = let z : _≡_ {A = ℕ} 0 1 = cc in absurd (omega arith)
@@ -69,16 +68,16 @@ module _ (bytes answer list : List ℕ) where
   unfolding answerLeft listLeft
   lengths (refused n place) q = (refl, refl)
   lengths (accepted p) q =
-      let lent = lent-enough bytes (length answer) (length list) p q in (
-        length-over (answerBytes p) answer (omega (arith, seven-long p, lent .0)),
-        length-over (revokeBytes p) list (omega (arith, revoke-bytes-long p, few p q, lent .1)),
+      let lent = lent-enough bytes rooms p q in (
+        length-over (answerBytes p) answer (omega (arith, seven-long p, lent .answer)),
+        length-over (revokeBytes p) list (omega (arith, revoke-bytes-long p, few p q, lent .list)),
       )
 
   pub demand-1 : Demand1 bytes answer list
   unfolding answerLeft listLeft
   demand-1 =
       record {
-        number = either said (ruled bytes (length answer) (length list));
+        number = either said (ruled bytes rooms);
         refusal-leaves = untouched said;
         answer-front = λ p q. rw q (rw (seven-long p) at (front-is (answerBytes p) answer));
         answer-behind = λ p q. rw q (rw (seven-long p) at (behind-is (answerBytes p) answer));

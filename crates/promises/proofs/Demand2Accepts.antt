@@ -7,18 +7,18 @@ use mathlib.Core.Logic.{_↔_, _⊎_, inl, inr}
 use mathlib.Core.Bool.{true, false}
 use mathlib.Core.List.{List}
 use borrow.Author.Tests.{le-ltb, lt-ltb, ltb-true, ltb-false}
-use lib.Dec.{ltb, lit≤}
+use lib.Dec.{ltb}
 use lib.ListN.{length}
 use Rattle.laws.specs.Bytes.{Bytes}
 use Rattle.laws.specs.Refusals.{shortBuffer}
 use Rattle.laws.specs.Record.{Parts, encode, packed}
-use Rattle.laws.specs.Judge.{Outcome, Outcome.refused, Outcome.accepted, readLent, judgeOf, numberOf}
+use Rattle.laws.specs.Judge.{Outcome, Outcome.refused, Outcome.accepted, readLent, Rooms, leastRooms, Enough, judgeOf, numberOf}
 use Rattle.laws.specs.Lawful.{Lawful}
 use Rattle.laws.proofs.Tests.{by-test}
 use Rattle.laws.proofs.Bytes.{bytes-of}
 use Rattle.laws.proofs.Readings.{test-is, test-stops}
 use Rattle.laws.proofs.CardRefusals.{already-played, anothers-card}
-use Rattle.laws.proofs.Accepts.{accepts-parts, read-back, unique}
+use Rattle.laws.proofs.Accepts.{least-enough, accepts-parts, read-back, unique}
 use Rattle.laws.proofs.Numbered.{Ruled, ruled, not-0}
 use Rattle.laws.proofs.Lengths.{at-least-20}
 use Rattle.promises.specs.Demand2.{Refusal, passedOutParts, oneClub, Demand2Accepts}
@@ -33,48 +33,48 @@ pub either : (o : Outcome) → Ruled o → (numberOf o ≡ 0) ⊎ Refusal (numbe
 either (refused n place) f = inr (record { refusal = n; place = place; is = refl; of-record = f .number; places = f .place-lt })
 either (accepted p) f = inl refl
 
-module _ (bytes : List ℕ) (answer list : ℕ) where
-  zero-accepts : (numberOf (judgeOf bytes answer list) ≡ 0) ↔ ((p : Parts) × (judgeOf bytes answer list ≡ accepted p))
-  zero-accepts = (reached (judgeOf bytes answer list) (ruled bytes answer list), λ (p, e). ap numberOf e)
+module _ (bytes : List ℕ) (rooms : Rooms) where
+  zero-accepts : (numberOf (judgeOf bytes rooms) ≡ 0) ↔ ((p : Parts) × (judgeOf bytes rooms ≡ accepted p))
+  zero-accepts = (reached (judgeOf bytes rooms) (ruled bytes rooms), λ (p, e). ap numberOf e)
 
-  short-answer : answer < 7 → judgeOf bytes answer list ≡ refused shortBuffer 0
+  short-answer : rooms .answer < 7 → judgeOf bytes rooms ≡ refused shortBuffer 0
   unfolding judgeOf readLent
-  short-answer h = simp (lt-ltb answer 7 h, test-stops)
+  short-answer h = simp (lt-ltb (rooms .answer) 7 h, test-stops)
 
-  short-list : 7 ≤ answer → list < 36 → judgeOf bytes answer list ≡ refused shortBuffer 1
+  short-list : 7 ≤ rooms .answer → rooms .list < 36 → judgeOf bytes rooms ≡ refused shortBuffer 1
   unfolding judgeOf readLent
-  short-list h k = simp (le-ltb answer 7 h, lt-ltb list 36 k, test-is, test-stops)
+  short-list h k = simp (le-ltb (rooms .answer) 7 h, lt-ltb (rooms .list) 36 k, test-is, test-stops)
 
   -- two constructors of an outcome
-  pub never : {P : Type 0} {n place : ℕ} {p : Parts} → judgeOf bytes answer list ≡ refused n place → judgeOf bytes answer list ≡ accepted p → P
-  never e f = absurd (let z : _≡_ {A = ℕ} 0 1 = clash (judgeOf bytes answer list) e f in omega arith)
+  pub never : {P : Type 0} {n place : ℕ} {p : Parts} → judgeOf bytes rooms ≡ refused n place → judgeOf bytes rooms ≡ accepted p → P
+  never e f = absurd (let z : _≡_ {A = ℕ} 0 1 = clash (judgeOf bytes rooms) e f in omega arith)
     where
       clash : {n place : ℕ} {p : Parts} (o : Outcome) → o ≡ refused n place → o ≡ accepted p → _≡_ {A = ℕ} 0 1
       clash o e f = cc
 
   -- what is accepted was lent buffers of at least 7 and 36 bytes
-  pub lent-enough : (p : Parts) → judgeOf bytes answer list ≡ accepted p → (7 ≤ answer) × (36 ≤ list)
+  pub lent-enough : (p : Parts) → judgeOf bytes rooms ≡ accepted p → Enough rooms
   lent-enough p q =
-      by-test (ltb answer 7)
-      (λ (a : ltb answer 7 ≡ true). never (short-answer (ltb-true answer 7 a)) q)
-      (λ (a : ltb answer 7 ≡ false).
-      let enough : 7 ≤ answer = ltb-false answer 7 a in
-      by-test (ltb list 36)
-      (λ (b : ltb list 36 ≡ true). never (short-list enough (ltb-true list 36 b)) q)
-      (λ (b : ltb list 36 ≡ false). (enough, ltb-false list 36 b)))
+      by-test (ltb (rooms .answer) 7)
+      (λ (a : ltb (rooms .answer) 7 ≡ true). never (short-answer (ltb-true (rooms .answer) 7 a)) q)
+      (λ (a : ltb (rooms .answer) 7 ≡ false).
+      let long : 7 ≤ rooms .answer = ltb-false (rooms .answer) 7 a in
+      by-test (ltb (rooms .list) 36)
+      (λ (b : ltb (rooms .list) 36 ≡ true). never (short-list long (ltb-true (rooms .list) 36 b)) q)
+      (λ (b : ltb (rooms .list) 36 ≡ false). record { answer = long; list = ltb-false (rooms .list) 36 b }))
 
   -- what is accepted is the encoding of lawful parts
-  pub accepted-lawful : Bytes bytes → (p : Parts) → judgeOf bytes answer list ≡ accepted p → Lawful p × (bytes ≡ encode p)
-  accepted-lawful small p q = let lent = lent-enough p q in accepts-parts answer list (lent .0) (lent .1) bytes small p .0 q
+  pub accepted-lawful : Bytes bytes → (p : Parts) → judgeOf bytes rooms ≡ accepted p → Lawful p × (bytes ≡ encode p)
+  accepted-lawful small p q = accepts-parts rooms (lent-enough p q) bytes small p .0 q
 
-  accepted-20 : Bytes bytes → (p : Parts) → judgeOf bytes answer list ≡ accepted p → 20 ≤ length bytes
+  accepted-20 : Bytes bytes → (p : Parts) → judgeOf bytes rooms ≡ accepted p → 20 ≤ length bytes
   accepted-20 small p q = let w = accepted-lawful small p q in rw (w .1) (at-least-20 p (w .0))
 
-  module _ (small : Bytes bytes) (ha : 7 ≤ answer) (hl : 36 ≤ list) where
-    accepts : (numberOf (judgeOf bytes answer list) ≡ 0) ↔ ((p : Parts) × Lawful p × (bytes ≡ encode p))
+  module _ (small : Bytes bytes) (enough : Enough rooms) where
+    accepts : (numberOf (judgeOf bytes rooms) ≡ 0) ↔ ((p : Parts) × Lawful p × (bytes ≡ encode p))
     accepts = (
-      λ z. let a = zero-accepts .0 z in let w = accepts-parts answer list ha hl bytes small (a .0) .0 (a .1) in (a .0, w .0, w .1),
-      λ (p, ok, e). ap numberOf (accepts-parts answer list ha hl bytes small p .1 (ok, e)),
+      λ z. let a = zero-accepts .0 z in let w = accepts-parts rooms enough bytes small (a .0) .0 (a .1) in (a .0, w .0, w .1),
+      λ (p, ok, e). ap numberOf (accepts-parts rooms enough bytes small p .1 (ok, e)),
     )
 
 bytes-encoded : (p : Parts) → Bytes (encode p)
@@ -82,22 +82,22 @@ unfolding encode packed
 bytes-encoded p = bytes-of _ _
 
 -- parts whose encoding the judge accepts as them are lawful
-pub by-judging : (p : Parts) → judgeOf (encode p) 7 36 ≡ accepted p → Lawful p
-by-judging p e = accepts-parts 7 36 (lit≤ tt) (lit≤ tt) (encode p) (bytes-encoded p) p .0 e .0
+pub by-judging : (p : Parts) → judgeOf (encode p) leastRooms ≡ accepted p → Lawful p
+by-judging p e = accepts-parts leastRooms least-enough (encode p) (bytes-encoded p) p .0 e .0
 
 pub demand-2-accepts : Demand2Accepts
 demand-2-accepts =
     record {
-      accepts = λ bytes small answer list ha hl. accepts bytes answer list small ha hl;
-      accepts-parts = λ bytes small answer list ha hl p. accepts-parts answer list ha hl bytes small p;
-      read-back = λ p ok answer list ha hl. read-back answer list ha hl p ok;
+      accepts = λ bytes small rooms enough. accepts bytes rooms small enough;
+      accepts-parts = λ bytes small rooms enough p. accepts-parts rooms enough bytes small p;
+      read-back = λ p ok rooms enough. read-back rooms enough p ok;
       encoded-bytes = bytes-encoded;
       unique = unique;
       zero-accepts = zero-accepts;
-      zero-or-refusal = λ bytes answer list. either (judgeOf bytes answer list) (ruled bytes answer list);
+      zero-or-refusal = λ bytes rooms. either (judgeOf bytes rooms) (ruled bytes rooms);
       short-answer = short-answer;
       short-list = short-list;
-      at-least-20 = λ bytes small answer list p q. accepted-20 bytes answer list small p q;
+      at-least-20 = λ bytes small rooms p q. accepted-20 bytes rooms small p q;
       passed-out = (by-judging passedOutParts (judged .passed-out), judged .no-contract, judged .bytes);
       one-byte-less = judged .one-less;
       one-byte-more = judged .one-more;

@@ -1,21 +1,20 @@
 -- Demand 2, what the judge answers, proved. Assumes nothing.
-use Prim.Native.Nat.{ℕ, _+_, _≤_, _<_, _^_}
+use Prim.Native.Nat.{ℕ, _+_, _≤_}
 use native.Mathlib.Omega.{arith}
 use mathlib.Core.Path.{_≡_, refl, sym, ap, _∙_}
 use mathlib.Core.Logic.{_↔_}
 use mathlib.Core.Bool.{true, false}
 use mathlib.Core.List.{List, [], _∷_, _++_, List·Memᴰ}
-use lib.Dec.{lit≤}
 use lib.ListN.{length, replicate}
 use Rattle.laws.specs.Law61.{Revoke}
-use Rattle.laws.specs.Record.{Parts, encode, Field, field, bits, number, bytesOf}
+use Rattle.laws.specs.Record.{Parts, encode, Field, field, bits}
 use Rattle.laws.specs.Reading.{numberAt}
 use Rattle.laws.specs.Auction.{passedOut}
-use Rattle.laws.specs.Judge.{Outcome, Outcome.accepted, numberOf}
+use Rattle.laws.specs.Judge.{leastRooms, Outcome, Outcome.accepted, numberOf}
 use Rattle.laws.specs.Judgement.{callsOf, contractOf, declarerOf, trumpOf, openingOf, cardsOf, wonOf, afterOf, revokesOf, scoreOf}
 use Rattle.laws.specs.Judgement.{twosComplement, playedFields, answerFields, answerBytes, revokeBytes}
 use Rattle.laws.specs.Lawful.{Lawful}
-use Rattle.laws.specs.Lent.{_over_, answerLeft, listLeft}
+use Rattle.laws.specs.Lent.{roomsOf, _over_, answerLeft, listLeft}
 use Rattle.laws.proofs.Accepts as Accepts
 use Rattle.laws.proofs.Tests.{by-test}
 use Rattle.laws.proofs.Written.{Fit, read-back}
@@ -48,7 +47,7 @@ field-back p before f behind e fit =
 
 module _ (p : Parts) (ok : Lawful p) where
   few : length (revokesOf p) ≤ 36
-  few = few-revokes (encode p) (was-read (encode p) (replicate 7 0) (replicate 36 0) p (Accepts.read-back 7 36 (lit≤ tt) (lit≤ tt) p ok) .1)
+  few = few-revokes (encode p) (was-read (encode p) (replicate 7 0) (replicate 36 0) p (Accepts.read-back leastRooms Accepts.least-enough p ok) .1)
 
   head-fit : (rest : List Field) → Fit rest → Fit (field 7 (p .board) ∷ field 9 (p .table) ∷ rest)
   unfolding Fit
@@ -150,6 +149,6 @@ demand-2-bits p ok = bits-of-answer p ok
 pub demand-2-judgement : Demand2Judgement
 demand-2-judgement =
     record {
-      answers = λ p ok answer list ha hl. left p answer list (saidOf (encode p) answer list) (Accepts.read-back (length answer) (length list) ha hl p ok);
+      answers = λ p ok answer list enough. left p answer list (saidOf (encode p) answer list) (Accepts.read-back (roomsOf answer list) enough p ok);
       revokes = revokes;
     }

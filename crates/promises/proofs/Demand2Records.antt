@@ -17,22 +17,22 @@ use Rattle.laws.specs.Reading
 use Rattle.laws.specs.Judge
 use Rattle.laws.specs.Auction.{passedOut}
 use Rattle.laws.specs.Record.{encode}
-use Rattle.laws.specs.Judge.{Outcome.accepted, judgeOf, numberOf}
+use Rattle.laws.specs.Judge.{Outcome.accepted, leastRooms, judgeOf, numberOf}
 use Rattle.promises.specs.Demand2.{fourPasses, passedOutParts, oneClub, fifthCard}
 
 -- what the judge says of the two records, of three that are one off, and of a fifth card that North does not hold
 pub record Judged : Type 0 where
   pub bytes : fourPasses ≡ encode passedOutParts
-  pub passed-out : judgeOf (encode passedOutParts) 7 36 ≡ accepted passedOutParts
+  pub passed-out : judgeOf (encode passedOutParts) leastRooms ≡ accepted passedOutParts
   pub no-contract : passedOut (reverse (passedOutParts .calls)) ≡ true
-  pub one-less : numberOf (judgeOf (take 19 fourPasses) 7 36) ≡ 2 * 1024
-  pub one-more : numberOf (judgeOf (fourPasses ++ (0 ∷ [])) 7 36) ≡ 16 * 1024
-  pub claim-12 : judgeOf (encode (oneClub 12)) 7 36 ≡ accepted (oneClub 12)
+  pub one-less : numberOf (judgeOf (take 19 fourPasses) leastRooms) ≡ 2 * 1024
+  pub one-more : numberOf (judgeOf (fourPasses ++ (0 ∷ [])) leastRooms) ≡ 16 * 1024
+  pub claim-12 : judgeOf (encode (oneClub 12)) leastRooms ≡ accepted (oneClub 12)
   pub contract : passedOut (reverse (oneClub 12 .calls)) ≡ false
-  pub claim-13 : numberOf (judgeOf (encode (oneClub 13)) 7 36) ≡ 15 * 1024 + 13
-  pub own-again : numberOf (judgeOf (encode (fifthCard 0)) 7 36) ≡ 23 * 1024 + 4
-  pub easts-again : numberOf (judgeOf (encode (fifthCard 13)) 7 36) ≡ 12 * 1024 + 4
-  pub easts : numberOf (judgeOf (encode (fifthCard 14)) 7 36) ≡ 12 * 1024 + 4
+  pub claim-13 : numberOf (judgeOf (encode (oneClub 13)) leastRooms) ≡ 15 * 1024 + 13
+  pub own-again : numberOf (judgeOf (encode (fifthCard 0)) leastRooms) ≡ 23 * 1024 + 4
+  pub easts-again : numberOf (judgeOf (encode (fifthCard 13)) leastRooms) ≡ 12 * 1024 + 4
+  pub easts : numberOf (judgeOf (encode (fifthCard 14)) leastRooms) ≡ 12 * 1024 + 4
 
 pub judged : Judged
 unfolding

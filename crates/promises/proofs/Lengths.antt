@@ -15,13 +15,13 @@ use Rattle.laws.specs.Judge
 use Rattle.laws.specs.Lengths
 use lib.ListN.{length}
 use Rattle.laws.specs.Record.{encode}
-use Rattle.laws.specs.Judge.{Outcome.accepted, judgeOf}
+use Rattle.laws.specs.Judge.{Outcome.accepted, leastRooms, judgeOf}
 use Rattle.laws.proofs.LongestAuction.{at-most-319, at-most-319-in-order, longest-allowed, longest-unmarked, longest-over, longest-length}
 use Rattle.laws.proofs.Lengths.{at-most-296, at-most-440}
 use Rattle.promises.specs.Lengths.{ranksInTurn, longestParts, oneClubAgain, markedParts, Lengths}
 use Rattle.promises.proofs.Demand2Accepts.{accepted-lawful, by-judging}
 
-judged : judgeOf (encode longestParts) 7 36 ≡ accepted longestParts
+judged : judgeOf (encode longestParts) leastRooms ≡ accepted longestParts
 unfolding
     Choice.howMany Choice.some Cards.clockwise Cards.cardsDealt Cards.firstWithoutThirteen Law2.dealer
     Auction.strainOf Auction.codesBefore Auction.callsMade Auction.isMarked Auction.toCall Auction.lastBid Auction.lastBidder Auction.beforePasses
@@ -39,7 +39,7 @@ unfolding
     Lengths.bidsInTurn Lengths.longestAuction ranksInTurn longestParts
 judged = refl
 
-marked : judgeOf (encode markedParts) 7 36 ≡ accepted markedParts
+marked : judgeOf (encode markedParts) leastRooms ≡ accepted markedParts
 unfolding
     Choice.howMany Choice.some Cards.clockwise Cards.cardsDealt Cards.firstWithoutThirteen Law2.dealer
     Auction.strainOf Auction.codesBefore Auction.callsMade Auction.isMarked Auction.toCall Auction.lastBid Auction.lastBidder Auction.beforePasses
@@ -82,12 +82,12 @@ lengths =
       longest-unmarked = longest-unmarked;
       longest-over = longest-over;
       longest-calls = longest-length;
-      most-bytes-unmarked = λ bytes small answer list p q n.
-          let w = accepted-lawful bytes answer list small p q in rw (w .1) (omega (arith, at-most-296 p (w .0) n));
+      most-bytes-unmarked = λ bytes small rooms p q n.
+          let w = accepted-lawful bytes rooms small p q in rw (w .1) (omega (arith, at-most-296 p (w .0) n));
       longest-record = judged;
       longest-lawful = by-judging longestParts judged;
       longest-bytes = bytes-296;
-      most-bytes = λ bytes small answer list p q. let w = accepted-lawful bytes answer list small p q in rw (w .1) (omega (arith, at-most-440 p (w .0)));
+      most-bytes = λ bytes small rooms p q. let w = accepted-lawful bytes rooms small p q in rw (w .1) (omega (arith, at-most-440 p (w .0)));
       marked-record = marked;
       marked-lawful = by-judging markedParts marked;
       marked-codes = codes-511;

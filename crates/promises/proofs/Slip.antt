@@ -2,7 +2,7 @@
 use Prim.Native.Nat.{ℕ, _≤_, _<_}
 use mathlib.Core.Path.{_≡_, refl, sym, ap, subst, _∙_}
 use mathlib.Core.Logic.{_↔_, _⊎_, ⊎-elim}
-use mathlib.Core.Bool.{true, false, not}
+use mathlib.Core.Bool.{true, false}
 use mathlib.Core.List.{List, [], _∷_, _++_, map, List·Memᴰ, List·Memᴰ·not-nil, List·Memᴰ·cases-cons}
 use lib.Dec.{lit≤, lit<}
 use lib.IntN.{ℤ, pos}
@@ -11,14 +11,14 @@ use Rattle.laws.specs.Auction.{passedOut}
 use Rattle.laws.specs.Law77.{Stake, isMade, isGame, items, partScorePoints, gamePoints, nsScore}
 use Rattle.laws.specs.Record.{Parts, encode}
 use Rattle.laws.specs.Refusals.{refusesRecord}
-use Rattle.laws.specs.Judge.{Outcome.refused as declined, judgeOf}
+use Rattle.laws.specs.Judge.{Outcome.refused as declined, Rooms, leastRooms, Enough, judgeOf}
 use Rattle.laws.specs.Judgement.{callsOf, declarerOf, stakeOf, afterOf, scoreOf}
 use Rattle.laws.specs.Lawful.{Lawful}
 use Rattle.laws.specs.Lengths.{decidingBytes}
 use Rattle.laws.specs.Decimal.{lastDigits, decimal, signedDecimal}
 use Rattle.laws.specs.Slip.{Name, OVERTRICKS, UNDERTRICKS, PARTSCORE, GAME, inOrder, gain, pointsOf, Item, isNothing, itemsAmong}
 use Rattle.laws.specs.Slip.{itemsOf, sumWord, line, lines, refusalLine, slipOf, slip}
-use Rattle.laws.proofs.Accepts.{lent-is, read-back}
+use Rattle.laws.proofs.Accepts.{least-enough, lent-is, read-back}
 use Rattle.laws.proofs.FirstBytes.{first-bytes}
 use Rattle.laws.proofs.Numbered.{Ruled, ruled}
 use Rattle.laws.proofs.Score.{no-undertricks}
@@ -148,7 +148,7 @@ module _ (p : Parts) where
 -- ---- the text
 accepted-slip : (p : Parts) → Lawful p → slip (encode p) ≡ lines (itemsOf p) ++ line sumWord (scoreOf p)
 unfolding slip slipOf
-accepted-slip p ok = ap slipOf (read-back 7 36 (lit≤ tt) (lit≤ tt) p ok)
+accepted-slip p ok = ap slipOf (read-back leastRooms least-enough p ok)
 
 out-text : (p : Parts) → passedOut (callsOf p) ≡ true
     → lines (itemsOf p) ++ line sumWord (scoreOf p) ≡ 83 ∷ 85 ∷ 77 ∷ 32 ∷ 48 ∷ 10 ∷ []
@@ -167,19 +167,19 @@ of-record p ok =
 
 -- ---- refusals
 module _ (bytes : List ℕ) where
-  same-judgement : (answer list : ℕ) → 7 ≤ answer → 36 ≤ list → judgeOf bytes 7 36 ≡ judgeOf bytes answer list
-  same-judgement answer list ha hl = lent-is 7 36 (lit≤ tt) (lit≤ tt) bytes ∙ sym (lent-is answer list ha hl bytes)
+  same-judgement : (rooms : Rooms) → Enough rooms → judgeOf bytes leastRooms ≡ judgeOf bytes rooms
+  same-judgement rooms enough = lent-is leastRooms least-enough bytes ∙ sym (lent-is rooms enough bytes)
 
-  refused-slip : (answer list : ℕ) → 7 ≤ answer → 36 ≤ list → (n at : ℕ) → judgeOf bytes answer list ≡ declined n at → slip bytes ≡ refusalLine n at
+  refused-slip : (rooms : Rooms) → Enough rooms → (n at : ℕ) → judgeOf bytes rooms ≡ declined n at → slip bytes ≡ refusalLine n at
   unfolding slip slipOf
-  refused-slip answer list ha hl n at q = ap slipOf (same-judgement answer list ha hl ∙ q)
+  refused-slip rooms enough n at q = ap slipOf (same-judgement rooms enough ∙ q)
 
-  numbered : (n at : ℕ) → judgeOf bytes 7 36 ≡ declined n at → refusesRecord n ≡ true
-  numbered n at q = subst Ruled q (ruled bytes 7 36) .number
+  numbered : (n at : ℕ) → judgeOf bytes leastRooms ≡ declined n at → refusesRecord n ≡ true
+  numbered n at q = subst Ruled q (ruled bytes leastRooms) .number
 
   first-slip : slip bytes ≡ slip (take decidingBytes bytes)
   unfolding slip
-  first-slip = ap slipOf (first-bytes decidingBytes (lit≤ tt) bytes 7 36)
+  first-slip = ap slipOf (first-bytes decidingBytes (lit≤ tt) bytes leastRooms)
 
 slip-text : (n at : ℕ) → refusalLine n at ≡ (decimal n ++ (32 ∷ decimal at)) ++ (10 ∷ [])
 unfolding refusalLine
@@ -189,8 +189,8 @@ pub slip-promises : Slip
 slip-promises =
     record {
       of-record = of-record;
-      refused = λ bytes answer list ha hl n at q. refused-slip bytes answer list ha hl n at q ∙ slip-text n at;
+      refused = λ bytes rooms enough n at q. refused-slip bytes rooms enough n at q ∙ slip-text n at;
       numbered = numbered;
-      judged-by-first = λ bytes answer list. first-bytes decidingBytes (lit≤ tt) bytes answer list;
+      judged-by-first = λ bytes rooms. first-bytes decidingBytes (lit≤ tt) bytes rooms;
       first-bytes = first-slip;
     }

@@ -13,7 +13,7 @@ use Rattle.laws.specs.Refusals.{shortRecordBuffer, refusalNumber, refusesConten
 use Rattle.laws.specs.Law2.{dealer}
 use Rattle.laws.specs.Record.{Parts, encode}
 use Rattle.laws.specs.Reading.{Reading, Reading.refused as stopped, Reading.found, onward}
-use Rattle.laws.specs.Judge.{Outcome, Outcome.refused as declined, Outcome.accepted, judgeOf}
+use Rattle.laws.specs.Judge.{Outcome, Outcome.refused as declined, Outcome.accepted, Rooms, Enough, judgeOf}
 use Rattle.laws.specs.Lawful.{Lawful}
 use Rattle.laws.specs.Contents.{Fits, takeHeading, takeDeal, takeCalls, takeCards, takeParts, contentsOf}
 use Rattle.laws.specs.Writing.{Written, refused, written, writeBy, writeOf, numberOf, recordLeft}
@@ -86,19 +86,19 @@ module _ (p : Parts) where
     unfolding writeOf
     declines e = rw e
 
-    agrees : Fits p → (Lawful p → ⊥) → (answer list : ℕ) → 7 ≤ answer → 36 ≤ list
-        → (n : ℕ) × (place : ℕ) × (writeOf p room ≡ refused n place) × (judgeOf (encode p) answer list ≡ declined n place)
-    agrees fits not answer list ha hl = go (contentsOf p) refl
+    agrees : Fits p → (Lawful p → ⊥) → (rooms : Rooms) → Enough rooms
+        → (n : ℕ) × (place : ℕ) × (writeOf p room ≡ refused n place) × (judgeOf (encode p) rooms ≡ declined n place)
+    agrees fits not rooms enough = go (contentsOf p) refl
       where
         go : (o : Outcome) → contentsOf p ≡ o
-            → (n : ℕ) × (place : ℕ) × (writeOf p room ≡ refused n place) × (judgeOf (encode p) answer list ≡ declined n place)
-        go (declined n place) e = (n, place, declines e, judged-alike answer list ha hl p fits ∙ e)
+            → (n : ℕ) × (place : ℕ) × (writeOf p room ≡ refused n place) × (judgeOf (encode p) rooms ≡ declined n place)
+        go (declined n place) e = (n, place, declines e, judged-alike rooms enough p fits ∙ e)
         go (accepted q) e = absurd (not (accepted-lawful p .0 (e ∙ ap accepted (accepted-fits p e .0))))
 
-    judged : (bytes : List ℕ) → writeOf p room ≡ written bytes → (answer list : ℕ) → 7 ≤ answer → 36 ≤ list → judgeOf bytes answer list ≡ accepted p
-    judged bytes e answer list ha hl =
+    judged : (bytes : List ℕ) → writeOf p room ≡ written bytes → (rooms : Rooms) → Enough rooms → judgeOf bytes rooms ≡ accepted p
+    judged bytes e rooms enough =
         let w = wrote bytes e in
-        rw (w .2) (judged-alike answer list ha hl p (accepted-fits p (w .0) .1) ∙ w .0)
+        rw (w .2) (judged-alike rooms enough p (accepted-fits p (w .0) .1) ∙ w .0)
 
     never : (n place : ℕ) → writeOf p room ≡ refused n place → (refusesContents n ≡ true) × (place < 1024)
     unfolding writeOf
@@ -252,11 +252,10 @@ module _ (p : Parts) (room : ℕ) where
       }
 
 -- the parts of an accepted record are written to its bytes
-rewritten : (bytes : List ℕ) → Bytes bytes → (answer list : ℕ) (p : Parts) → judgeOf bytes answer list ≡ accepted p
+rewritten : (bytes : List ℕ) → Bytes bytes → (rooms : Rooms) (p : Parts) → judgeOf bytes rooms ≡ accepted p
     → (room : ℕ) → length bytes ≤ room → writeOf p room ≡ written bytes
-rewritten bytes small answer list p e room enough =
-    let lent = lent-enough bytes answer list p e in
-    let w = accepts-parts answer list (lent .0) (lent .1) bytes small p .0 e in
+rewritten bytes small rooms p e room enough =
+    let w = accepts-parts rooms (lent-enough bytes rooms p e) bytes small p .0 e in
     writes p room .1 (w .0, rw (← w .1) enough) ∙ ap written (sym (w .1))
 
 pub writing : Writing
@@ -265,7 +264,7 @@ writing =
       writes = writes;
       nothing-else = λ p room bytes e. wrote p room bytes e .2;
       short = short;
-      agrees = λ p fits not room answer list ha hl. agrees p room fits not answer list ha hl;
+      agrees = λ p fits not room rooms enough. agrees p room fits not rooms enough;
       prefix = prefix;
       beyond = beyond;
       judged = judged;

@@ -9,13 +9,13 @@ use lib.ListN.{length, take, drop}
 use Rattle.laws.specs.Record.{Parts}
 use Rattle.laws.specs.Judge.{Outcome, Outcome.accepted, judgeOf, numberOf}
 use Rattle.laws.specs.Judgement.{answerBytes, revokesOf, revokeBytes}
-use Rattle.laws.specs.Lent.{answerLeft, listLeft}
+use Rattle.laws.specs.Lent.{roomsOf, answerLeft, listLeft}
 use Rattle.promises.specs.Demand2.{Refusal}
 
 module _ (bytes answer list : List ℕ) where
   -- what the judge says of the bytes, given these buffers
   abbrev pub saidOf : Outcome
-  saidOf = judgeOf bytes (length answer) (length list)
+  saidOf = judgeOf bytes (roomsOf answer list)
 
   pub record Demand1 : Type 0 where
     -- the number is 0, or a refusal of a record, 1 to 16, 23 or 24, × 1024 and a place below 1024

@@ -1,5 +1,4 @@
--- Demand 2, which records are accepted, and demand 1 of the number: what the judge says of every list of bytes and every two buffers.
--- `answer` and `list` are the lengths of the two lent buffers.
+-- Demand 2, which records are accepted, and demand 1 of the number: what the judge says of every list of bytes, with lent buffers of any lengths (`rooms`).
 -- Assumes nothing.
 use Prim.Native.Nat.{ℕ, _+_, _*_, _≤_, _<_}
 use mathlib.Core.Path.{_≡_}
@@ -15,7 +14,7 @@ use Rattle.laws.specs.Law44.{toPlay, isPlayed}
 use Rattle.laws.specs.CardRefusal.{cardRefusal}
 use Rattle.laws.specs.Law68.{none, agreed}
 use Rattle.laws.specs.Record.{Parts, encode}
-use Rattle.laws.specs.Judge.{Outcome.refused, Outcome.accepted, judgeOf, numberOf}
+use Rattle.laws.specs.Judge.{Outcome.refused, Outcome.accepted, Rooms, leastRooms, Enough, judgeOf, numberOf}
 use Rattle.laws.specs.Lawful.{Lawful}
 
 -- a number that is a refusal of a record, 1 to 16, 23 or 24, × 1024, and a place below 1024
@@ -64,32 +63,32 @@ fifthCard card =
 
 pub record Demand2Accepts : Type 0 where
   -- a record is accepted exactly when it is the encoding of lawful parts
-  pub accepts : (bytes : List ℕ) → Bytes bytes → (answer list : ℕ) → 7 ≤ answer → 36 ≤ list
-      → (numberOf (judgeOf bytes answer list) ≡ 0) ↔ ((p : Parts) × Lawful p × (bytes ≡ encode p))
+  pub accepts : (bytes : List ℕ) → Bytes bytes → (rooms : Rooms) → Enough rooms
+      → (numberOf (judgeOf bytes rooms) ≡ 0) ↔ ((p : Parts) × Lawful p × (bytes ≡ encode p))
   -- and as those parts
-  pub accepts-parts : (bytes : List ℕ) → Bytes bytes → (answer list : ℕ) → 7 ≤ answer → 36 ≤ list → (p : Parts)
-      → (judgeOf bytes answer list ≡ accepted p) ↔ (Lawful p × (bytes ≡ encode p))
+  pub accepts-parts : (bytes : List ℕ) → Bytes bytes → (rooms : Rooms) → Enough rooms → (p : Parts)
+      → (judgeOf bytes rooms ≡ accepted p) ↔ (Lawful p × (bytes ≡ encode p))
   -- the encoding of lawful parts is read back as them
-  pub read-back : (p : Parts) → Lawful p → (answer list : ℕ) → 7 ≤ answer → 36 ≤ list → judgeOf (encode p) answer list ≡ accepted p
+  pub read-back : (p : Parts) → Lawful p → (rooms : Rooms) → Enough rooms → judgeOf (encode p) rooms ≡ accepted p
   -- an encoding is bytes
   pub encoded-bytes : (p : Parts) → Bytes (encode p)
   -- no bytes are the encoding of two lawful parts
   pub unique : (p q : Parts) → Lawful p → Lawful q → encode p ≡ encode q → p ≡ q
   -- the number is 0 exactly when a record is accepted, and else a refusal and its place
-  pub zero-accepts : (bytes : List ℕ) (answer list : ℕ) → (numberOf (judgeOf bytes answer list) ≡ 0) ↔ ((p : Parts) × (judgeOf bytes answer list ≡ accepted p))
-  pub zero-or-refusal : (bytes : List ℕ) (answer list : ℕ) → (numberOf (judgeOf bytes answer list) ≡ 0) ⊎ Refusal (numberOf (judgeOf bytes answer list))
+  pub zero-accepts : (bytes : List ℕ) (rooms : Rooms) → (numberOf (judgeOf bytes rooms) ≡ 0) ↔ ((p : Parts) × (judgeOf bytes rooms ≡ accepted p))
+  pub zero-or-refusal : (bytes : List ℕ) (rooms : Rooms) → (numberOf (judgeOf bytes rooms) ≡ 0) ⊎ Refusal (numberOf (judgeOf bytes rooms))
   -- a buffer that is too short comes first: the answer's, then the list's
-  pub short-answer : (bytes : List ℕ) (answer list : ℕ) → answer < 7 → judgeOf bytes answer list ≡ refused shortBuffer 0
-  pub short-list : (bytes : List ℕ) (answer list : ℕ) → 7 ≤ answer → list < 36 → judgeOf bytes answer list ≡ refused shortBuffer 1
+  pub short-answer : (bytes : List ℕ) (rooms : Rooms) → rooms .answer < 7 → judgeOf bytes rooms ≡ refused shortBuffer 0
+  pub short-list : (bytes : List ℕ) (rooms : Rooms) → 7 ≤ rooms .answer → rooms .list < 36 → judgeOf bytes rooms ≡ refused shortBuffer 1
   -- an accepted record has at least 20 bytes
-  pub at-least-20 : (bytes : List ℕ) → Bytes bytes → (answer list : ℕ) (p : Parts) → judgeOf bytes answer list ≡ accepted p → 20 ≤ length bytes
+  pub at-least-20 : (bytes : List ℕ) → Bytes bytes → (rooms : Rooms) (p : Parts) → judgeOf bytes rooms ≡ accepted p → 20 ≤ length bytes
   -- lawful parts that are passed out, in the bytes of docs/RULES.md; one byte less is 2, one more is 16
   pub passed-out : Lawful passedOutParts × (passedOut (reverse (passedOutParts .calls)) ≡ true) × (fourPasses ≡ encode passedOutParts)
-  pub one-byte-less : numberOf (judgeOf (take 19 fourPasses) 7 36) ≡ 2 * 1024
-  pub one-byte-more : numberOf (judgeOf (fourPasses ++ (0 ∷ [])) 7 36) ≡ 16 * 1024
+  pub one-byte-less : numberOf (judgeOf (take 19 fourPasses) leastRooms) ≡ 2 * 1024
+  pub one-byte-more : numberOf (judgeOf (fourPasses ++ (0 ∷ [])) leastRooms) ≡ 16 * 1024
   -- lawful parts with a contract and a claim of 12; a claim of 13 is 15
   pub with-contract : Lawful (oneClub 12) × (passedOut (reverse (oneClub 12 .calls)) ≡ false)
-  pub one-too-many : numberOf (judgeOf (encode (oneClub 13)) 7 36) ≡ 15 * 1024 + 13
+  pub one-too-many : numberOf (judgeOf (encode (oneClub 13)) leastRooms) ≡ 15 * 1024 + 13
   -- after every play: a card is refused with 23 exactly when the seat at turn was dealt it and it has been played, and with 12 exactly when
   -- it was dealt to another seat, played or not
   pub already-played : (trump opening : ℕ) (deal g : List ℕ) (card : ℕ) → card < 52
@@ -97,6 +96,6 @@ pub record Demand2Accepts : Type 0 where
   pub anothers-card : (trump opening : ℕ) (deal g : List ℕ) (card : ℕ) → card < 52
       → (cardRefusal trump opening deal g card ≡ cardNotHeld) ↔ (dealtTo deal card ≡ toPlay trump opening g → ⊥)
   -- North's two of clubs a second time is 23; East's two of diamonds a second time is 12, and so is East's three of diamonds
-  pub own-again : numberOf (judgeOf (encode (fifthCard 0)) 7 36) ≡ 23 * 1024 + 4
-  pub easts-again : numberOf (judgeOf (encode (fifthCard 13)) 7 36) ≡ 12 * 1024 + 4
-  pub easts : numberOf (judgeOf (encode (fifthCard 14)) 7 36) ≡ 12 * 1024 + 4
+  pub own-again : numberOf (judgeOf (encode (fifthCard 0)) leastRooms) ≡ 23 * 1024 + 4
+  pub easts-again : numberOf (judgeOf (encode (fifthCard 13)) leastRooms) ≡ 12 * 1024 + 4
+  pub easts : numberOf (judgeOf (encode (fifthCard 14)) leastRooms) ≡ 12 * 1024 + 4

@@ -1,6 +1,6 @@
 -- Demand 2, what the judge answers: for lawful parts the answer and the revokes are the Laws' on those parts.
 -- Assumes nothing.
-use Prim.Native.Nat.{ℕ, _≤_}
+use Prim.Native.Nat.{ℕ}
 use mathlib.Core.Path.{_≡_}
 use mathlib.Core.Logic.{_↔_}
 use mathlib.Core.Bool.{true, false}
@@ -8,14 +8,14 @@ use mathlib.Core.List.{List, _∷_, _++_, List·Memᴰ}
 use lib.ListN.{length}
 use Rattle.laws.specs.Law61.{Revoke, RevokedAt, revokeAt}
 use Rattle.laws.specs.Record.{Parts, encode}
-use Rattle.laws.specs.Judge.{Outcome.accepted, numberOf}
+use Rattle.laws.specs.Judge.{Enough, Outcome.accepted, numberOf}
 use Rattle.laws.specs.Auction.{passedOut}
 use Rattle.laws.specs.Law77.{validScore}
 use Rattle.laws.specs.Reading.{numberAt}
 use Rattle.laws.specs.Judgement.{callsOf, contractOf, declarerOf, trumpOf, openingOf, cardsOf, wonOf, afterOf, revokesOf, scoreOf}
 use Rattle.laws.specs.Judgement.{twosComplement, answerBytes, revokeBytes}
 use Rattle.laws.specs.Lawful.{Lawful}
-use Rattle.laws.specs.Lent.{_over_, answerLeft, listLeft}
+use Rattle.laws.specs.Lent.{roomsOf, _over_, answerLeft, listLeft}
 use Rattle.promises.specs.Demand1.{saidOf}
 
 -- r is a revoke of the parts: at some card the seat at turn held a card of the suit led and played another suit
@@ -29,7 +29,7 @@ pub record RevokeOf (p : Parts) (r : Revoke) : Type 0 where
 
 pub record Demand2Judgement : Type 0 where
   -- lawful parts are accepted, and the buffers hold their answer and their revokes over what was there
-  pub answers : (p : Parts) → Lawful p → (answer list : List ℕ) → 7 ≤ length answer → 36 ≤ length list
+  pub answers : (p : Parts) → Lawful p → (answer list : List ℕ) → Enough (roomsOf answer list)
       → (numberOf (saidOf (encode p) answer list) ≡ 0)
       × (answerLeft (saidOf (encode p) answer list) answer ≡ answerBytes p over answer)
       × (listLeft (saidOf (encode p) answer list) list ≡ revokeBytes p over list)

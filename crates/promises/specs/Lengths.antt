@@ -10,7 +10,7 @@ use Rattle.laws.specs.Bytes.{Bytes}
 use Rattle.laws.specs.Auction.{pass, mark, isOver, allowed}
 use Rattle.laws.specs.Law68.{none}
 use Rattle.laws.specs.Record.{Parts, encode}
-use Rattle.laws.specs.Judge.{Outcome.accepted, judgeOf}
+use Rattle.laws.specs.Judge.{Outcome.accepted, Rooms, leastRooms, judgeOf}
 use Rattle.laws.specs.Lawful.{firstOf, Lawful}
 use Rattle.laws.specs.Lengths.{AllAllowed, NoMark, longestAuction}
 use Rattle.promises.specs.Demand2.{oneSuitEach}
@@ -47,16 +47,16 @@ pub record Lengths : Type 0 where
   pub longest-over : isOver longestAuction ≡ true
   pub longest-calls : length longestAuction ≡ 319
   -- an accepted record without a mark has at most 296 bytes
-  pub most-bytes-unmarked : (bytes : List ℕ) → Bytes bytes → (answer list : ℕ) (p : Parts) → judgeOf bytes answer list ≡ accepted p
+  pub most-bytes-unmarked : (bytes : List ℕ) → Bytes bytes → (rooms : Rooms) (p : Parts) → judgeOf bytes rooms ≡ accepted p
       → NoMark (p .calls) → length bytes ≤ 296
   -- one of 296 bytes, with that auction
-  pub longest-record : judgeOf (encode longestParts) 7 36 ≡ accepted longestParts
+  pub longest-record : judgeOf (encode longestParts) leastRooms ≡ accepted longestParts
   pub longest-lawful : Lawful longestParts
   pub longest-bytes : length (encode longestParts) ≡ 296
   -- any accepted record has at most 440 bytes
-  pub most-bytes : (bytes : List ℕ) → Bytes bytes → (answer list : ℕ) (p : Parts) → judgeOf bytes answer list ≡ accepted p → length bytes ≤ 440
+  pub most-bytes : (bytes : List ℕ) → Bytes bytes → (rooms : Rooms) (p : Parts) → judgeOf bytes rooms ≡ accepted p → length bytes ≤ 440
   -- one of 440 bytes, with 511 codes of calls
-  pub marked-record : judgeOf (encode markedParts) 7 36 ≡ accepted markedParts
+  pub marked-record : judgeOf (encode markedParts) leastRooms ≡ accepted markedParts
   pub marked-lawful : Lawful markedParts
   pub marked-codes : length (markedParts .calls) ≡ 511
   pub marked-bytes : length (encode markedParts) ≡ 440

@@ -1,7 +1,7 @@
--- Request 105: what is promised of the slip. `judge::explain` answers `explainedOf (judgeOf bytes 7 36)`, and `slip_text::write` leaves `slip bytes` in the
+-- What is promised of the slip. `judge::explain` answers `explainedOf (judgeOf bytes leastRooms)`, and `slip_text::write` leaves `slip bytes` in the
 -- bytes that it is lent, where they are enough.
 -- Assumes nothing.
-use Prim.Native.Nat.{ℕ, _≤_}
+use Prim.Native.Nat.{ℕ}
 use mathlib.Core.Path.{_≡_}
 use mathlib.Core.Logic.{_↔_}
 use mathlib.Core.Bool.{true, false}
@@ -12,7 +12,7 @@ use Rattle.laws.specs.Auction.{passedOut}
 use Rattle.laws.specs.Law77.{items, nsScore}
 use Rattle.laws.specs.Record.{Parts, encode}
 use Rattle.laws.specs.Refusals.{refusesRecord}
-use Rattle.laws.specs.Judge.{Outcome.refused as declined, judgeOf}
+use Rattle.laws.specs.Judge.{Outcome.refused as declined, Rooms, leastRooms, Enough, judgeOf}
 use Rattle.laws.specs.Judgement.{callsOf, declarerOf, stakeOf, afterOf, scoreOf}
 use Rattle.laws.specs.Lawful.{Lawful}
 use Rattle.laws.specs.Lengths.{decidingBytes}
@@ -53,10 +53,10 @@ pub record OfRecord (p : Parts) : Type 0 where
 pub record Slip : Type 0 where
   pub of-record : (p : Parts) → Lawful p → OfRecord p
   -- a record that the judge refuses, given buffers that are long enough: the number, a space, the place and a newline, and nothing else
-  pub refused : (bytes : List ℕ) (answer list : ℕ) → 7 ≤ answer → 36 ≤ list → (n at : ℕ) → judgeOf bytes answer list ≡ declined n at
+  pub refused : (bytes : List ℕ) (rooms : Rooms) → Enough rooms → (n at : ℕ) → judgeOf bytes rooms ≡ declined n at
       → slip bytes ≡ (decimal n ++ (32 ∷ decimal at)) ++ (newline ∷ [])
   -- the number is one of a record's
-  pub numbered : (bytes : List ℕ) (n at : ℕ) → judgeOf bytes 7 36 ≡ declined n at → refusesRecord n ≡ true
+  pub numbered : (bytes : List ℕ) (n at : ℕ) → judgeOf bytes leastRooms ≡ declined n at → refusesRecord n ≡ true
   -- the first bytes decide, however many follow: the judge says the same of them for any buffers, and the slip is the same
-  pub judged-by-first : (bytes : List ℕ) (answer list : ℕ) → judgeOf bytes answer list ≡ judgeOf (take decidingBytes bytes) answer list
+  pub judged-by-first : (bytes : List ℕ) (rooms : Rooms) → judgeOf bytes rooms ≡ judgeOf (take decidingBytes bytes) rooms
   pub first-bytes : (bytes : List ℕ) → slip bytes ≡ slip (take decidingBytes bytes)

@@ -18,7 +18,7 @@ use Rattle.laws.specs.Law68.{agreed, atClaimPoint}
 use Rattle.laws.specs.Record.{Parts, encode}
 use Rattle.laws.specs.Reading.{Reading.refused as stopped, _>>=_, _>>_, give}
 use Rattle.laws.specs.Checks.{Check}
-use Rattle.laws.specs.Judge.{Outcome.refused as declined, Outcome.accepted, judgeOf}
+use Rattle.laws.specs.Judge.{Outcome.refused as declined, Outcome.accepted, Rooms, Enough, judgeOf}
 use Rattle.laws.specs.Lawful.{Lawful, Dealt, Called, Played, firstOf}
 use Rattle.laws.specs.Contents.{Fits, takeHeading, takeDeal, takeCalls, takeCards, takeParts}
 use Rattle.laws.specs.Writing.{refused, written, writeOf, numberOf, recordLeft}
@@ -124,15 +124,15 @@ pub record Writing : Type 0 where
   -- lawful contents with too little room are 22, which comes last
   pub short : (p : Parts) (room : ℕ) → Lawful p → room < length (encode p) → writeOf p room ≡ refused shortRecordBuffer 0
   -- contents that fields can hold and that are not lawful: the writer's refusal and place are the judge's of their record
-  pub agrees : (p : Parts) → Fits p → (Lawful p → ⊥) → (room answer list : ℕ) → 7 ≤ answer → 36 ≤ list
-      → (n : ℕ) × (place : ℕ) × (writeOf p room ≡ refused n place) × (judgeOf (encode p) answer list ≡ declined n place)
+  pub agrees : (p : Parts) → Fits p → (Lawful p → ⊥) → (room : ℕ) (rooms : Rooms) → Enough rooms
+      → (n : ℕ) × (place : ℕ) × (writeOf p room ≡ refused n place) × (judgeOf (encode p) rooms ≡ declined n place)
   -- contents that are alike up to the section that is refused are refused alike, whatever follows
   pub prefix : (s : Section) (p q : Parts) → Alike s p q → (n place : ℕ) → checksTo s p [] 0 ≡ stopped n place → (room : ℕ) → writeOf q room ≡ refused n place
   pub beyond : (p : Parts) (room : ℕ) → Beyond p room
   -- the judge accepts what is written, as these contents, and the contents of an accepted record are written to its bytes
-  pub judged : (p : Parts) (room : ℕ) (bytes : List ℕ) → writeOf p room ≡ written bytes → (answer list : ℕ) → 7 ≤ answer → 36 ≤ list
-      → judgeOf bytes answer list ≡ accepted p
-  pub rewritten : (bytes : List ℕ) → Bytes bytes → (answer list : ℕ) (p : Parts) → judgeOf bytes answer list ≡ accepted p
+  pub judged : (p : Parts) (room : ℕ) (bytes : List ℕ) → writeOf p room ≡ written bytes → (rooms : Rooms) → Enough rooms
+      → judgeOf bytes rooms ≡ accepted p
+  pub rewritten : (bytes : List ℕ) → Bytes bytes → (rooms : Rooms) (p : Parts) → judgeOf bytes rooms ≡ accepted p
       → (room : ℕ) → length bytes ≤ room → writeOf p room ≡ written bytes
   -- no refusal is 1, 2 or 16: the numbers are 3 to 15, 22 to 24 and 33, with a place below 1024
   pub never : (p : Parts) (room n place : ℕ) → writeOf p room ≡ refused n place → (refusesContents n ≡ true) × (place < 1024)

@@ -11,13 +11,13 @@ use lib.ListN.{length, length-append}
 use Rattle.laws.specs.Auction.{passedOut}
 use Rattle.laws.specs.Record.{Parts}
 use Rattle.laws.specs.Reading.{Reading, Reading.refused as stopped, Reading.found}
-use Rattle.laws.specs.Judge.{readRecord, Outcome, Outcome.refused, Outcome.accepted, outcome, judgeOf}
+use Rattle.laws.specs.Judge.{readRecord, Outcome, Outcome.refused, Outcome.accepted, outcome, leastRooms, judgeOf}
 use Rattle.laws.specs.Judgement.{callsOf, declarerOf, stakeOf, afterOf, scoreOf}
 use Rattle.laws.specs.Decimal.{lastDigits, decimal, signedDecimal}
 use Rattle.laws.specs.Lawful.{Lawful}
 use Rattle.laws.specs.Refusals.{refusesRecord}
 use Rattle.laws.specs.Slip.{Name, isNothing, itemsAmong, itemsOf, wordOf, sumWord, line, lines, refusalLine, slipOf, slip, mostSlipBytes}
-use Rattle.laws.proofs.Accepts.{judged, lent-is}
+use Rattle.laws.proofs.Accepts.{least-enough, judged, lent-is}
 use Rattle.laws.proofs.Numbered.{Ruled, ruled}
 use Rattle.laws.proofs.Tests.{by-test, not-both}
 use Rattle.judge.specs.declared.slip.Items.{Items}
@@ -65,8 +65,8 @@ granted-slip (refused m at) e q = absurd (let z : _≡_ {A = ℕ} 0 1 = cc in om
 granted-slip (accepted p) e q = (p, refl, cc)
 
 -- parts that the judge accepts are lawful
-accepted-lawful : (bytes : List ℕ) (p : Parts) → judgeOf bytes 7 36 ≡ accepted p → Lawful p
-accepted-lawful bytes p q = go (readRecord bytes 0) refl (sym (lent-is 7 36 (lit≤ tt) (lit≤ tt) bytes) ∙ q)
+accepted-lawful : (bytes : List ℕ) (p : Parts) → judgeOf bytes leastRooms ≡ accepted p → Lawful p
+accepted-lawful bytes p q = go (readRecord bytes 0) refl (sym (lent-is leastRooms least-enough bytes) ∙ q)
   where
     go : (r : Reading Parts) → readRecord bytes 0 ≡ r → outcome r ≡ accepted p → Lawful p
     go (stopped n place) e o = absurd (let z : _≡_ {A = ℕ} 0 1 = cc in omega arith)
@@ -79,20 +79,20 @@ parts-short p ok =
     (λ (q : passedOut (callsOf p) ≡ true). rw (← out-parts p q) out-short)
     (λ (q : passedOut (callsOf p) ≡ false). rw (← bid-parts p q) (contract-le (declarerOf p) (stakeOf p) (afterOf p) (parts-possible p ok q)))
 
-module _ (bytes : List ℕ) {x : Explained} (ex : x ≡ explainedOf (judgeOf bytes 7 36)) where
+module _ (bytes : List ℕ) {x : Explained} (ex : x ≡ explainedOf (judgeOf bytes leastRooms)) where
   pub slip-refused : {n place : ℕ} → x ≡ Refused n place → slip bytes ≡ refusalLine n place
   unfolding slip
-  slip-refused q = refused-slip (judgeOf bytes 7 36) ex q
+  slip-refused q = refused-slip (judgeOf bytes leastRooms) ex q
 
   pub slip-granted : {i : Items} → x ≡ Granted i → slip bytes ≡ itemsText i
   unfolding slip slipOf
   slip-granted q =
-      let g = granted-slip (judgeOf bytes 7 36) ex q in
+      let g = granted-slip (judgeOf bytes leastRooms) ex q in
       ap slipOf (g .1) ∙ sym (items-text (g .0)) ∙ ap itemsText (sym (g .2))
 
   pub granted-short : {i : Items} → x ≡ Granted i → length (itemsText i) ≤ mostSlipBytes
   granted-short q =
-      let g = granted-slip (judgeOf bytes 7 36) ex q in
+      let g = granted-slip (judgeOf bytes leastRooms) ex q in
       rw (g .2) (parts-short (g .0) (accepted-lawful bytes (g .0) (g .1)))
 
 -- ---- every slip has at most 72 bytes, whatever the bytes that it is of
@@ -112,8 +112,8 @@ refused-short n place e h =
 -- the theorem
 pub enough : (bytes : List ℕ) → length (slip bytes) ≤ mostSlipBytes
 unfolding slip slipOf
-enough bytes = go (judgeOf bytes 7 36) refl (ruled bytes 7 36)
+enough bytes = go (judgeOf bytes leastRooms) refl (ruled bytes leastRooms)
   where
-    go : (o : Outcome) → judgeOf bytes 7 36 ≡ o → Ruled o → length (slipOf o) ≤ mostSlipBytes
+    go : (o : Outcome) → judgeOf bytes leastRooms ≡ o → Ruled o → length (slipOf o) ≤ mostSlipBytes
     go (refused n place) e f = refused-short n place (f .number) (f .place-lt)
     go (accepted p) e f = rw (← items-text p) (parts-short p (accepted-lawful bytes p e))
