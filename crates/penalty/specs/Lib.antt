@@ -2,3 +2,4 @@ pub mod Words
 pub mod Position
 pub mod Found
 pub mod Table
+pub mod History

@@ -171,7 +171,7 @@ impl Penalty {
     }
 
     // Whether a choice is open, where a defender is to lead whose partner was dealt these cards.
-    pub fn open(self, partner: u64, kind: u8, suit: u8) -> bool
+    pub fn is_open(self, partner: u64, kind: u8, suit: u8) -> bool
         ensures { λ r. ⌜ r ≡ openIn self partner kind suit ⌝ }
     {
         if 1 < kind {
