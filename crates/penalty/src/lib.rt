@@ -130,9 +130,10 @@ impl Penalty {
         ensures { λ r. ⌜ r ≡ against50D1 self t card ⌝ }
     {
         let obeying = self.obeying(t);
+        let played = card_word(card);
         let major = self.major;
         if meets(obeying, major) {
-            return !meets(obeying & major, card_word(card));
+            return !meets(obeying & major, played);
         }
         false
     }
