@@ -79,7 +79,7 @@ module _ (deal : List ℕ) (trump opening : ℕ) (all : length deal ≡ 52) (dea
   unfolding disobeys
   revoke-early = early (λ e c. disobeys trump opening deal e c) (λ c e w one. rw (one-obeys trump opening deal e c one))
 
-  failure-early : (c : ℕ) (e : List Event) → NoneRefused trump opening deal (played c ∷ e) → isFailure trump opening deal e c ≡ true
+  pub failure-early : (c : ℕ) (e : List Event) → NoneRefused trump opening deal (played c ∷ e) → isFailure trump opening deal e c ≡ true
       → tricksComplete (cardsOf e) < 12
   failure-early = early (λ e c. isFailure trump opening deal e c) (λ c e w one. one-no-failure trump opening deal e c one w)
 

@@ -8,3 +8,4 @@ pub mod FoundWords
 pub mod FoundStands
 pub mod TableStands
 pub mod Refusing
+pub mod FailureBytes

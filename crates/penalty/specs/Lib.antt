@@ -3,3 +3,4 @@ pub mod Position
 pub mod Found
 pub mod Table
 pub mod History
+pub mod Told

@@ -2,6 +2,7 @@
 // Cards, hands and suits are sets of cards: a word with a bit for each of the 52 cards.
 mod found;
 mod table;
+mod told;
 mod words;
 
 pub use crate::found::Found;
