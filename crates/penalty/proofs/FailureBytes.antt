@@ -180,7 +180,8 @@ module _ (deal : List ℕ) (trump opening : ℕ) (all : length deal ≡ 52) (dea
   word-low [] w = omega arith
   word-low (played c ∷ e) w =
       by-test (isFailure trump opening deal e c)
-      (λ (q : isFailure trump opening deal e c ≡ true). rw (count-more c e q, word-more c e q) (low-more (length (listed e)) (word-low e (w .1)) (entry-low c e w q)))
+      (λ (q : isFailure trump opening deal e c ≡ true). rw (count-more c e q, word-more c e q)
+      (low-more (length (listed e)) (word-low e (w .1)) (entry-low c e w q)))
       (λ (q : isFailure trump opening deal e c ≡ false). rw (list-same c e q, word-same c e q) (word-low e (w .1)))
   word-low (exposed c deliberate ∷ e) w = word-low e (w .1)
   word-low (choice kind suit ∷ e) w = word-low e (w .1)
