@@ -1,9 +1,10 @@
 -- A play without codes: no card is faced, nothing is required or forbidden, no play is against Law 50, and what is listed is what Law 61 lists of the cards.
 -- Assumes nothing.
 use Prim.Native.Nat.{ℕ}
-use mathlib.Core.Path.{_≡_, refl, sym}
+use mathlib.Core.Path.{_≡_, refl, sym, ap}
 use mathlib.Core.Bool.{Bool, true, false, not, _&&_, _||_}
 use mathlib.Core.List.{List, [], _∷_, map, map-append, append-nil}
+use native.Mathlib.Omega.{arith}
 use borrow.Author.Tests.{not-true}
 use lib.Dec.{eqb}
 use Rattle.laws.specs.Choice.{someBelow}
@@ -11,7 +12,7 @@ use Rattle.laws.specs.Cards.{suitOf}
 use Rattle.laws.specs.Law44.{cardsInTrick, trickUnderWay, suitLed, isOf}
 use Rattle.laws.specs.Law61.{holdsSuit, isRevoke, revokeAt, revokes}
 use Rattle.laws.specs.CardRefusal.{cardRefusal}
-use Rattle.laws.specs.Events.{played, cardsOf, codesOf, listPlays, asEvents}
+use Rattle.laws.specs.Events.{Event, played, exposed, choice, cardsOf, codesOf, listPlays, asEvents}
 use Rattle.laws.specs.Law50.{isHonour, isFaced, isFacedOf, isMajor, isMajorOf, isMinor}
 use Rattle.laws.specs.Law51.{noSuit, required, isForbidden}
 use Rattle.laws.specs.LeadRevoke.{isAsked, isAble, obeys, disobeys, isExcused, listedSuit, revokeBy, countedBy, countedRevokes, allRevokes}
@@ -29,6 +30,14 @@ pub no-codes : (g : List ℕ) → codesOf (asEvents g) ≡ 0
 unfolding codesOf asEvents
 no-codes [] = refl
 no-codes (c ∷ g) = no-codes g
+
+-- a history without codes is its cards alone
+pub without-codes : (e : List Event) → codesOf e ≡ 0 → e ≡ asEvents (cardsOf e)
+unfolding codesOf cardsOf asEvents
+without-codes [] n = refl
+without-codes (played c ∷ e) n = ap (λ (l : List Event). played c ∷ l) (without-codes e n)
+without-codes (exposed c deliberate ∷ e) n = absurd (omega arith)
+without-codes (choice kind suit ∷ e) n = absurd (omega arith)
 
 pub none-required : (g : List ℕ) → required (asEvents g) ≡ noSuit
 unfolding required asEvents
@@ -82,7 +91,7 @@ module _ (trump opening : ℕ) (deal : List ℕ) where
       none true = refl
       none false = refl
 
-  no-failure : (g : List ℕ) (c : ℕ) → isFailure trump opening deal (asEvents g) c ≡ false
+  pub no-failure : (g : List ℕ) (c : ℕ) → isFailure trump opening deal (asEvents g) c ≡ false
   unfolding isFailure isAgainst50D1
   no-failure g c = rw (none-50C g c, none-due g)
 

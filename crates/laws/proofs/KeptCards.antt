@@ -61,20 +61,20 @@ module _ (trump opening : ℕ) (deal : List ℕ) where
 
   -- ---- what a card that can be exposed is
   module _ (e : List Event) (k : ℕ) (x : isExposable trump opening deal e k ≡ true) where
-    exposed-defender : isDefender opening (dealtTo deal k) ≡ true
+    pub exposed-defender : isDefender opening (dealtTo deal k) ≡ true
     unfolding isExposable
     exposed-defender =
         and-left (isDefender opening (dealtTo deal k)) (not (isPlayed (cardsOf e) k))
         (and-left (isDefender opening (dealtTo deal k) && not (isPlayed (cardsOf e) k)) (not (faced e k)) x)
 
-    exposed-unplayed : isPlayed (cardsOf e) k ≡ false
+    pub exposed-unplayed : isPlayed (cardsOf e) k ≡ false
     unfolding isExposable
     exposed-unplayed =
         not-true (isPlayed (cardsOf e) k)
         (and-right (isDefender opening (dealtTo deal k)) (not (isPlayed (cardsOf e) k))
         (and-left (isDefender opening (dealtTo deal k) && not (isPlayed (cardsOf e) k)) (not (faced e k)) x))
 
-    exposed-unfaced : faced e k ≡ false
+    pub exposed-unfaced : faced e k ≡ false
     unfolding isExposable
     exposed-unfaced = not-true (faced e k) (and-right (isDefender opening (dealtTo deal k) && not (isPlayed (cardsOf e) k)) (not (faced e k)) x)
 

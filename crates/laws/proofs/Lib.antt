@@ -46,3 +46,4 @@ pub mod PlaysListed
 pub mod LeadRevokes
 pub mod FailuresInFull
 pub mod OneCard
+pub mod FlatPlay

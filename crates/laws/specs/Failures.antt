@@ -1,9 +1,9 @@
 -- Plays against Law 50C or 50D1, on the events of the play, latest first. Such a play stands, and is in itself no revoke.
 -- Assumes nothing.
-use Prim.Native.Nat.{ℕ, _+_, _<_}
+use Prim.Native.Nat.{ℕ, _+_, _*_, _/_, _%_, _<_}
 use mathlib.Core.Path.{_≡_}
 use mathlib.Core.Bool.{Bool, true, false, not, _&&_, _||_}
-use mathlib.Core.List.{List}
+use mathlib.Core.List.{List, [], _∷_, _++_}
 use lib.Dec.{eqb}
 use Rattle.laws.specs.Choice.{someBelow}
 use Rattle.laws.specs.Cards.{suitOf, dealtTo}
@@ -48,6 +48,15 @@ module _ (trump opening : ℕ) (deal : List ℕ) where
   -- the plays against 50C or 50D1, in order of play
   unfoldable pub failures : List Event → List Failure
   failures e = listPlays (isFailure trump opening deal) (failureBy trump opening) e
+
+-- a play against 50C or 50D1 as two bytes, the most significant first: trick 4 bits, seat 2, card 6, four zeros
+unfoldable pub failurePair : Failure → List ℕ
+failurePair f = (f .trick * 4096 + f .seat * 1024 + f .card * 16) / 256 ∷ (f .trick * 4096 + f .seat * 1024 + f .card * 16) % 256 ∷ []
+
+-- the bytes of a list of them
+unfoldable pub failureBytes : List Failure → List ℕ
+failureBytes [] = []
+failureBytes (f ∷ fs) = failurePair f ++ failureBytes fs
 
 -- ---- the same in full
 -- the seat at turn has a minor penalty card, and plays another card of its suit that is no honour

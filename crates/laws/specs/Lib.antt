@@ -21,6 +21,7 @@ pub mod Law78
 pub mod CardRefusal
 pub mod CodeRefusal
 pub mod Kept
+pub mod FlatPlay
 pub mod Bytes
 pub mod Record
 pub mod Reading

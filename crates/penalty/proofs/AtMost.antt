@@ -34,16 +34,16 @@ cards-allowed deal trump opening (choice kind suit ∷ e) w = cards-allowed deal
 
 -- a play makes one entry where it passes the test, and none where it does not
 module _ {A : Type 0} (test : List Event → ℕ → Bool) (entry : List Event → ℕ → A) (c : ℕ) (e : List Event) where
-  entry-more : test e c ≡ true → length (listPlays test entry (played c ∷ e)) ≡ length (listPlays test entry e) + 1
+  pub entry-more : test e c ≡ true → length (listPlays test entry (played c ∷ e)) ≡ length (listPlays test entry e) + 1
   unfolding listPlays
   entry-more q = rw q (length-append (listPlays test entry e) (entry e c ∷ []))
 
-  entry-none : test e c ≡ false → length (listPlays test entry (played c ∷ e)) ≡ length (listPlays test entry e)
+  pub entry-none : test e c ≡ false → length (listPlays test entry (played c ∷ e)) ≡ length (listPlays test entry e)
   unfolding listPlays
   entry-none q = rw q (length-append (listPlays test entry e) [] ∙ omega arith)
 
 -- the card that is played from a hand
-card-held : (deal : List ℕ) (trump opening c : ℕ) (e : List Event) → NoneRefused trump opening deal (played c ∷ e)
+pub card-held : (deal : List ℕ) (trump opening c : ℕ) (e : List Event) → NoneRefused trump opening deal (played c ∷ e)
     → (c < 52) × (holds deal (cardsOf e) (seatAfter trump opening e) c ≡ true)
 unfolding NoneRefused eventRefusal holds
 card-held deal trump opening c e w =
@@ -79,7 +79,7 @@ module _ (deal : List ℕ) (trump opening : ℕ) (all : length deal ≡ 52) (dea
   unfolding disobeys
   revoke-early = early (λ e c. disobeys trump opening deal e c) (λ c e w one. rw (one-obeys trump opening deal e c one))
 
-  failure-early : (c : ℕ) (e : List Event) → NoneRefused trump opening deal (played c ∷ e) → isFailure trump opening deal e c ≡ true
+  pub failure-early : (c : ℕ) (e : List Event) → NoneRefused trump opening deal (played c ∷ e) → isFailure trump opening deal e c ≡ true
       → tricksComplete (cardsOf e) < 12
   failure-early = early (λ e c. isFailure trump opening deal e c) (λ c e w one. one-no-failure trump opening deal e c one w)
 

@@ -1,7 +1,11 @@
 -- What the code marks of a card is what its definition says: a law over variables. Assumes nothing.
-use Prim.Native.Nat.{ℕ, _*_}
-use mathlib.Core.Path.{_≡_, sym, _∙_}
+use Prim.Native.Nat.{ℕ, _+_, _*_, _%_}
+use mathlib.Core.Path.{_≡_}
 use mathlib.Core.Bool.{Bool, true, false, not}
+use mathlib.Core.List.{List}
+use native.Mathlib.Omega.{arith}
+use lib.ListN.{getD}
+use Rattle.laws.specs.Cards.{clockwise, partnerOf}
 use Rattle.play.specs.Words.{bitOf, withBit}
 use Rattle.play.proofs.Steps.{both-bits}
 use Rattle.penalty.specs.declared.found.Found.{Found}
@@ -35,3 +39,8 @@ module _ (t : Table) (card : ℕ) {turn : Turn} {obeys excused fails : Bool} {re
   pub found-none : fails ≡ false → led ≡ foundAfter t card
   unfolding foundAfter
   found-none f = rw (found-so-far, ← et, ← ef, f)
+
+-- the partner of a seat that is told by a remainder
+pub partner-at : (dealt : List ℕ) (seat : ℕ) → getD dealt ((seat % 4 + 2) % 4) 0 ≡ getD dealt (partnerOf seat) 0
+unfolding clockwise
+partner-at dealt seat = let same : (seat % 4 + 2) % 4 ≡ (seat + 2) % 4 = omega arith in rw same

@@ -6,13 +6,11 @@ use mathlib.Core.List.{List}
 use lib.Dec.{eqb, leb}
 use lib.ListN.{getD}
 use Rattle.laws.specs.Choice.{if_then_else_}
-use Rattle.laws.specs.Cards.{partnerOf, dealtTo}
+use Rattle.laws.specs.Cards.{partnerOf}
 use Rattle.laws.specs.Refusals.{accepted, notExposable, choiceNotOpen}
 use Rattle.laws.specs.CodeRefusal.{mostCodes}
-use Rattle.play.specs.declared.Play.{Play}
 use Rattle.play.specs.Position as Position
 use Rattle.play.specs.Position.{turnOf, handOf, leads, step}
-use Rattle.penalty.specs.declared.Penalty.{Penalty}
 use Rattle.penalty.specs.declared.Turn.{Turn}
 use Rattle.penalty.specs.declared.found.Found.{Found}
 use Rattle.penalty.specs.declared.table.Table.{Table}
@@ -56,3 +54,40 @@ afterPlay t card =
     if eqb (t .penalty .codes) 0 then record { play = step (t .play) card; side = t .side; penalty = t .penalty; found = t .found }
     else if leb 52 card then t
     else record { play = step (t .play) card; side = t .side; penalty = afterCard (t .penalty) card (keepsLead t card); found = foundAfter t card }
+
+-- ---- codes
+-- there is no room for a code
+unfoldable pub fullIn : Table → Bool
+fullIn t = leb mostCodes (t .penalty .codes)
+
+-- the cards that the owner of a card was dealt, and those that the leader's partner was dealt
+unfoldable pub ownerWord : Table → ℕ → ℕ
+ownerWord t card = if leb 52 card then 0 else getD (t .play .dealt) (getD (t .play .holders) card 0 % 4) 0
+
+unfoldable pub partnerWord : Table → ℕ
+partnerWord t = getD (t .play .dealt) (partnerOf (t .play .leader)) 0
+
+-- the number that the exposure of a card is refused with
+unfoldable pub exposureIn : Table → ℕ → ℕ
+exposureIn t card =
+    if leb 52 card then notExposable
+    else if exposableIn (t .penalty) (t .side) (getD (t .play .holders) card 0) card then accepted
+    else notExposable
+
+-- a defender is to lead
+unfoldable pub defenderLeads : Table → Bool
+defenderLeads t = leads (t .play) && eqb (t .play .leader % 2) (t .side % 2)
+
+-- the number that a choice is refused with
+unfoldable pub choiceIn : Table → ℕ → ℕ → ℕ
+choiceIn t kind suit = if defenderLeads t && openIn (t .penalty) (partnerWord t) kind suit then accepted else choiceNotOpen
+
+-- with a card exposed
+unfoldable pub afterExposed : Table → ℕ → Bool → Table
+afterExposed t card deliberate =
+    record { play = t .play; side = t .side; penalty = withExposed (t .penalty) (ownerWord t card) card deliberate; found = t .found }
+
+-- with a choice made
+unfoldable pub afterChoice : Table → ℕ → ℕ → Table
+afterChoice t kind suit =
+    record { play = t .play; side = t .side; penalty = withChoice (t .penalty) (partnerWord t) kind suit; found = t .found }

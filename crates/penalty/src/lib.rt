@@ -2,6 +2,7 @@
 // Cards, hands and suits are sets of cards: a word with a bit for each of the 52 cards.
 mod found;
 mod table;
+mod told;
 mod words;
 
 pub use crate::found::Found;
@@ -130,9 +131,10 @@ impl Penalty {
         ensures { λ r. ⌜ r ≡ against50D1 self t card ⌝ }
     {
         let obeying = self.obeying(t);
+        let played = card_word(card);
         let major = self.major;
         if meets(obeying, major) {
-            return !meets(obeying & major, card_word(card));
+            return !meets(obeying & major, played);
         }
         false
     }
@@ -171,7 +173,7 @@ impl Penalty {
     }
 
     // Whether a choice is open, where a defender is to lead whose partner was dealt these cards.
-    pub fn open(self, partner: u64, kind: u8, suit: u8) -> bool
+    pub fn is_open(self, partner: u64, kind: u8, suit: u8) -> bool
         ensures { λ r. ⌜ r ≡ openIn self partner kind suit ⌝ }
     {
         if 1 < kind {

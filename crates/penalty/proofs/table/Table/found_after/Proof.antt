@@ -33,14 +33,16 @@ returns c =
     let f = c .before .before .before in
     let l = f .before in
     let o = l .before .before .before .before in
-    found-failure _ _ (o .before .before .turn-now .ensures) (o .obeys .ensures) (l .before .before .before .excused .ensures) (l .before .with-revoke .ensures) (l .with-lead .ensures)
+    found-failure _ _ (o .before .before .turn-now .ensures) (o .obeys .ensures) (l .before .before .before .excused .ensures) (l .before .with-revoke .ensures)
+    (l .with-lead .ensures)
     (f .fails .ensures) (c .before .before .if1 .taken) (c .before .entry .ensures) (c .with-failure .ensures)
 
 returns-2 : tie.Need-returns-2
 returns-2 c =
     let l = c .before .before in
     let o = l .before .before .before .before in
-    found-none _ _ (o .before .before .turn-now .ensures) (o .obeys .ensures) (l .before .before .before .excused .ensures) (l .before .with-revoke .ensures) (l .with-lead .ensures)
+    found-none _ _ (o .before .before .turn-now .ensures) (o .obeys .ensures) (l .before .before .before .excused .ensures) (l .before .with-revoke .ensures)
+    (l .with-lead .ensures)
     (c .before .fails .ensures) (c .if1 .left)
 
 pub found-after-spec : {M : Type 1} → statement M

@@ -26,7 +26,8 @@ returns-3 : tie.Need-returns-3
 unfolding afterPlay keepsLead
 returns-3 c =
     let i = c .before .before .before .before in
-    rw (ne-eqb _ _ (i .before .if1 .left), lt-leb 52 _ (i .if2 .left), c .after-card .ensures, c .before .before .before .found-after .ensures, i .before .before .before .before .play .ensures)
+    let f = c .before .before .before .found-after .ensures in
+    rw (ne-eqb _ _ (i .before .if1 .left), lt-leb 52 _ (i .if2 .left), c .after-card .ensures, f, i .before .before .before .before .play .ensures)
 
 pub play-spec : {M : Type 1} → statement M
 play-spec =

@@ -1,9 +1,9 @@
--- `penalty::Penalty::open` meets its contract. Assumes nothing.
+-- `penalty::Penalty::is_open` meets its contract. Assumes nothing.
 use borrow.Author.Tests.{lt-leb, le-leb, eq-eqb, ne-eqb}
 use Rattle.penalty.specs.Position.{openIn}
 use borrow.Author.Needs.{needs}
-use Rattle.penalty.proofs.Penalty.open.Statement.{statement}
-use Rattle.penalty.proofs.Penalty.open.Tie as tie
+use Rattle.penalty.proofs.Penalty.is_open.Statement.{statement}
+use Rattle.penalty.proofs.Penalty.is_open.Tie as tie
 
 returns : tie.Need-returns
 unfolding openIn
@@ -36,8 +36,8 @@ returns-4 c =
     let k = c .before .before in
     rw (le-leb _ 1 (k .before .before .if1 .left), eq-eqb _ _ (k .if2 .left), ← c .before .unbarred .ensures, c .if3 .left)
 
-pub open-spec : {M : Type 1} → statement M
-open-spec =
+pub is-open-spec : {M : Type 1} → statement M
+is-open-spec =
     tie.close
     (tie.spec
     returns
