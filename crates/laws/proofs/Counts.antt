@@ -74,6 +74,18 @@ module _ (test : ℕ → Bool) where
       (λ (q : test n ≡ true). rw q)
       (λ (q : test n ≡ false). rw q (some-below n k (under test n k h q e) e))
 
+-- two tests that agree below n find the same
+pub some-same : (n : ℕ) (p q : ℕ → Bool) → ((k : ℕ) → k < n → p k ≡ q k) → someBelow n p ≡ someBelow n q
+unfolding someBelow
+some-same zero p q e = refl
+some-same (suc n) p q e = rw (e n (omega arith), some-same n p q (λ k h. e k (omega arith)))
+
+-- a test that fails below n finds nothing
+pub some-none : (n : ℕ) (test : ℕ → Bool) → ((k : ℕ) → k < n → test k ≡ false) → someBelow n test ≡ false
+unfolding someBelow
+some-none zero test e = refl
+some-none (suc n) test e = rw (e n (omega arith)) (some-none n test (λ k h. e k (omega arith)))
+
 -- whether every number below n passes a test: computed over a whole table, it gives the rule at each entry
 abbrev pub everyBelow : ℕ → (ℕ → Bool) → Bool
 everyBelow zero test = true

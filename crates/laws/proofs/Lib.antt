@@ -18,6 +18,7 @@ pub mod Readings
 pub mod Histories
 pub mod Exact
 pub mod CardRefusals
+pub mod Plays
 pub mod Sections
 pub mod Claims
 pub mod LawfulParts
@@ -39,3 +40,12 @@ pub mod FirstBytes
 pub mod Slip
 pub mod BestPlay
 pub mod PlayedOut
+pub mod CardsAlone
+pub mod CodeRefusals
+pub mod KeptCards
+pub mod KeptChoices
+pub mod PlaysListed
+pub mod LeadRevokes
+pub mod FailuresInFull
+pub mod OneCard
+pub mod FlatPlay

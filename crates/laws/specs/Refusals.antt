@@ -113,6 +113,18 @@ cardAlreadyPlayed = 23
 abbrev pub wrongMark : ℕ
 wrongMark = 24
 
+-- Laws 48 and 49: an exposed code that is no card in a defender's hand, or is faced already
+abbrev pub notExposable : ℕ
+notExposable = 25
+
+-- Laws 50D2 and 51B: a lead choice that is not open
+abbrev pub choiceNotOpen : ℕ
+choiceNotOpen = 26
+
+-- a 41st code of an exposure or a choice
+abbrev pub tooManyCodes : ℕ
+tooManyCodes = 27
+
 -- a board of a team match that is outside 1 to 127, or was used already
 abbrev pub boardNotFree : ℕ
 boardNotFree = 29

@@ -77,6 +77,15 @@ pub const CARD_ALREADY_PLAYED: u8 = 23;
 // Law 27A: a mark that is not followed by a bid at or below a last bid.
 pub const WRONG_MARK: u8 = 24;
 
+// Laws 48 and 49: an exposed code that is no card in a defender's hand, or is faced already.
+pub const NOT_EXPOSABLE: u8 = 25;
+
+// Laws 50D2 and 51B: a lead choice that is not open.
+pub const CHOICE_NOT_OPEN: u8 = 26;
+
+// A 41st code of an exposure or a choice.
+pub const TOO_MANY_CODES: u8 = 27;
+
 // A board of a team match that is outside 1 to 127, or was used already.
 pub const BOARD_NOT_FREE: u8 = 29;
 

@@ -9,7 +9,7 @@ use native.Mathlib.Omega.{arith}
 use borrow.Author.Tests.{eqb-true, eqb-false, eq-eqb, ne-eqb, lt-ltb, le-ltb}
 use lib.Count.{ones, onesIn, ones-step, trailingZeros}
 use lib.Dec.{eqb}
-use lib.ListN.{length, set, drop, replicate, length-append, length-set}
+use lib.ListN.{length, set, drop, replicate, length-append, length-replicate, length-set}
 use lib.Pow.{shr-shr}
 use lib.Seq.{getD-set-same, drop-set-lt, drop-cons}
 use Rattle.laws.specs.Choice.{if_then_else_, howMany}
@@ -125,29 +125,29 @@ fill-ends {count} {entries} {winners} {rest} {east} {i} r h =
 
 -- ---- the revokes
 -- as many revokes as bits are set
-pub bytes-many : (entries played n bits later : ℕ) → bits < 2 ^ n → length (bytesIn entries played n bits later) ≡ ones bits
+pub bytes-many : (byte : ℕ → ℕ) (n bits later : ℕ) → bits < 2 ^ n → length (bytesIn byte n bits later) ≡ ones bits
 unfolding bytesIn ones onesIn
-bytes-many entries played zero bits later h = let none : bits ≡ 0 = omega arith in rw none
-bytes-many entries played (suc n) bits later h =
+bytes-many byte zero bits later h = let none : bits ≡ 0 = omega arith in rw none
+bytes-many byte (suc n) bits later h =
     let less : bits / 2 < 2 ^ n = omega (arith, rw pow-suc at h) in
-    let rest = bytesIn entries played n (bits / 2) (suc later) in
-    let many = bytes-many entries played n (bits / 2) (suc later) less in
+    let rest = bytesIn byte n (bits / 2) (suc later) in
+    let many = bytes-many byte n (bits / 2) (suc later) less in
     by-test (eqb (bits % 2) 1)
     (λ (q : eqb (bits % 2) 1 ≡ true). rw q (length-append rest _ ∙ omega (arith, many, ones-step bits, eqb-true (bits % 2) 1 q)))
     (λ (q : eqb (bits % 2) 1 ≡ false). rw q (length-append rest [] ∙ omega (arith, many, ones-step bits, eqb-false (bits % 2) 1 q)))
 
 -- the lowest set bit is the last revoke; t cards after it are none
-pub record Lowest (entries played n bits later t : ℕ) : Type 0 where
+pub record Lowest (byte : ℕ → ℕ) (n bits later t : ℕ) : Type 0 where
   pub below : t < n
   pub rest : bits / 2 ^ t / 2 < 2 ^ (n - suc t)
   pub split :
-      bytesIn entries played n bits later
-      ≡ bytesIn entries played (n - suc t) (bits / 2 ^ t / 2) (later + t + 1) ++ (byteAfter entries played (later + t) ∷ [])
+      bytesIn byte n bits later
+      ≡ bytesIn byte (n - suc t) (bits / 2 ^ t / 2) (later + t + 1) ++ (byte (later + t) ∷ [])
 
 -- the bit is set
-lowest-set : (entries played n bits later : ℕ) → bits % 2 ≡ 1 → bits < 2 ^ suc n → Lowest entries played (suc n) bits later 0
+lowest-set : (byte : ℕ → ℕ) (n bits later : ℕ) → bits % 2 ≡ 1 → bits < 2 ^ suc n → Lowest byte (suc n) bits later 0
 unfolding bytesIn
-lowest-set entries played n bits later e b =
+lowest-set byte n bits later e b =
     let less : suc n - 1 ≡ n = omega arith in
     let whole = div-one bits in
     let next : later + 0 + 1 ≡ suc later = omega arith in
@@ -159,10 +159,10 @@ lowest-set entries played n bits later e b =
     }
 
 -- the bit is clear
-lowest-clear : (entries played n bits later t : ℕ) → bits % 2 ≡ 0 → Lowest entries played n (bits / 2) (suc later) t
-    → Lowest entries played (suc n) bits later (suc t)
+lowest-clear : (byte : ℕ → ℕ) (n bits later t : ℕ) → bits % 2 ≡ 0 → Lowest byte n (bits / 2) (suc later) t
+    → Lowest byte (suc n) bits later (suc t)
 unfolding bytesIn
-lowest-clear entries played n bits later t e l =
+lowest-clear byte n bits later t e l =
     let less : suc n - suc (suc t) ≡ n - suc t = omega arith in
     let one : 1 + t ≡ suc t = omega arith in
     let half : bits / 2 ^ suc t ≡ bits / 2 / 2 ^ t = sym (shr-shr bits 1 t ∙ ap (λ (x : ℕ). bits / 2 ^ x) one) in
@@ -174,80 +174,80 @@ lowest-clear entries played n bits later t e l =
       split = rw (less, half, next, here, ne-eqb (bits % 2) 1 (λ q. omega arith)) (append-nil _ ∙ l .split);
     }
 
-pub lowest : (entries played n k bits later : ℕ) → n ≤ k → 0 < bits → bits < 2 ^ n → Lowest entries played n bits later (trailingZeros k bits)
+pub lowest : (byte : ℕ → ℕ) (n k bits later : ℕ) → n ≤ k → 0 < bits → bits < 2 ^ n → Lowest byte n bits later (trailingZeros k bits)
 unfolding bytesIn trailingZeros
-lowest entries played zero k bits later hk h b = absurd (omega arith)
-lowest entries played (suc n) zero bits later hk h b = absurd (omega arith)
-lowest entries played (suc n) (suc k) bits later hk h b =
+lowest byte zero k bits later hk h b = absurd (omega arith)
+lowest byte (suc n) zero bits later hk h b = absurd (omega arith)
+lowest byte (suc n) (suc k) bits later hk h b =
     by-test (eqb (bits % 2) 1)
-    (λ (q : eqb (bits % 2) 1 ≡ true). rw (eqb-true (bits % 2) 1 q) (lowest-set entries played n bits later (eqb-true (bits % 2) 1 q) b))
+    (λ (q : eqb (bits % 2) 1 ≡ true). rw (eqb-true (bits % 2) 1 q) (lowest-set byte n bits later (eqb-true (bits % 2) 1 q) b))
     (λ (q : eqb (bits % 2) 1 ≡ false).
     let even : bits % 2 ≡ 0 = omega (arith, eqb-false (bits % 2) 1 q) in
-    rw even (lowest-clear entries played n bits later (trailingZeros k (bits / 2)) even
-    (lowest entries played n k (bits / 2) (suc later) (omega arith) (omega arith) (omega (arith, rw pow-suc at b)))))
+    rw even (lowest-clear byte n bits later (trailingZeros k (bits / 2)) even
+    (lowest byte n k (bits / 2) (suc later) (omega arith) (omega arith) (omega (arith, rw pow-suc at b)))))
 
 -- the revokes of the cards before `later` ones are still to be listed, by the bits `rest`; n of them
-pub record Listing (entries played bits : ℕ) (list : List ℕ) (rest n later : ℕ) : Type 0 where
+pub record Listing (byte : ℕ → ℕ) (size bits : ℕ) (list : List ℕ) (rest n later : ℕ) : Type 0 where
   pub few : later ≤ 64
   pub below : rest < 2 ^ (64 - later)
-  pub many : n ≡ length (bytesIn entries played (64 - later) rest later)
-  pub room : n ≤ 36
-  pub places : length list ≡ 36
-  pub same : bytesIn entries played (64 - later) rest later ++ drop n list ≡ padded 0 36 (bytesIn entries played 64 bits 0)
+  pub many : n ≡ length (bytesIn byte (64 - later) rest later)
+  pub room : n ≤ size
+  pub places : length list ≡ size
+  pub same : bytesIn byte (64 - later) rest later ++ drop n list ≡ padded 0 size (bytesIn byte 64 bits 0)
 
-pub list-begins : {entries played bits n : ℕ} → bits < 2 ^ 64 → n ≡ ones bits → n ≤ 36 → Listing entries played bits (replicate 36 0) bits n 0
-list-begins {entries} {played} {bits} {n} b e h =
-    let m : length (bytesIn entries played 64 bits 0) ≡ n = bytes-many entries played 64 bits 0 b ∙ sym e in
+pub list-begins : {byte : ℕ → ℕ} {size bits n : ℕ} → bits < 2 ^ 64 → n ≡ ones bits → n ≤ size → Listing byte size bits (replicate size 0) bits n 0
+list-begins {byte} {size} {bits} {n} b e h =
+    let m : length (bytesIn byte 64 bits 0) ≡ n = bytes-many byte 64 bits 0 b ∙ sym e in
     record {
       few = omega arith;
       below = b;
       many = sym m;
       room = h;
-      places = refl;
-      same = rw m at (padded-rest 0 36 (bytesIn entries played 64 bits 0) (omega arith));
+      places = length-replicate size 0;
+      same = rw m at (padded-rest 0 size (bytesIn byte 64 bits 0) (omega arith));
     }
 
-module _ {entries played bits : ℕ} {list : List ℕ} {rest n later : ℕ} (r : Listing entries played bits list rest n later) (some : rest ≡ 0 → ⊥) where
+module _ {byte : ℕ → ℕ} {size bits : ℕ} {list : List ℕ} {rest n later : ℕ} (r : Listing byte size bits list rest n later) (some : rest ≡ 0 → ⊥) where
   abbrev low : ℕ
   low = trailingZeros 64 rest
 
-  pub list-low : Lowest entries played (64 - later) rest later low
-  list-low = lowest entries played (64 - later) 64 rest later (omega arith) (omega (arith, some)) (r .below)
+  pub list-low : Lowest byte (64 - later) rest later low
+  list-low = lowest byte (64 - later) 64 rest later (omega arith) (omega (arith, some)) (r .below)
 
-  split-many : n ≡ suc (length (bytesIn entries played (64 - later - suc low) (rest / 2 ^ low / 2) (later + low + 1)))
+  split-many : n ≡ suc (length (bytesIn byte (64 - later - suc low) (rest / 2 ^ low / 2) (later + low + 1)))
   split-many =
-      let before = bytesIn entries played (64 - later - suc low) (rest / 2 ^ low / 2) (later + low + 1) in
-      omega (arith, r .many, ap length (list-low .split), length-append before (byteAfter entries played (later + low) ∷ []))
+      let before = bytesIn byte (64 - later - suc low) (rest / 2 ^ low / 2) (later + low + 1) in
+      omega (arith, r .many, ap length (list-low .split), length-append before (byte (later + low) ∷ []))
 
   pub list-one : 1 ≤ n
   list-one = omega (arith, split-many)
 
-  pub list-goes : {byte : ℕ} → byte ≡ byteAfter entries played (later + low)
-      → Listing entries played bits (set list (n - 1) byte) (rest / 2 ^ low / 2) (n - 1) (later + low + 1)
-  list-goes {byte} e =
+  pub list-goes : {told : ℕ} → told ≡ byte (later + low)
+      → Listing byte size bits (set list (n - 1) told) (rest / 2 ^ low / 2) (n - 1) (later + low + 1)
+  list-goes {told} e =
       let l = list-low in
       let fuel : 64 - (later + low + 1) ≡ 64 - later - suc low = omega arith in
-      let before = bytesIn entries played (64 - later - suc low) (rest / 2 ^ low / 2) (later + low + 1) in
+      let before = bytesIn byte (64 - later - suc low) (rest / 2 ^ low / 2) (later + low + 1) in
       let back : suc (n - 1) ≡ n = omega (arith, list-one) in
-      let whole : (before ++ (byte ∷ [])) ++ drop (suc (n - 1)) list ≡ padded 0 36 (bytesIn entries played 64 bits 0) = rw (e, back, ← l .split) (r .same) in
+      let whole : (before ++ (told ∷ [])) ++ drop (suc (n - 1)) list ≡ padded 0 size (bytesIn byte 64 bits 0) = rw (e, back, ← l .split) (r .same) in
       record {
         few = omega (arith, l .below);
         below = rw fuel (l .rest);
         many = rw fuel (omega (arith, split-many));
         room = omega (arith, r .room);
-        places = length-set list (n - 1) byte ∙ r .places;
-        same = rw fuel (sym (fill-one before byte list (n - 1) (omega (arith, r .places, r .room, list-one))) ∙ whole);
+        places = length-set list (n - 1) told ∙ r .places;
+        same = rw fuel (sym (fill-one before told list (n - 1) (omega (arith, r .places, r .room, list-one))) ∙ whole);
       }
 
-pub none-in : (entries played n later : ℕ) → bytesIn entries played n 0 later ≡ []
+pub none-in : (byte : ℕ → ℕ) (n later : ℕ) → bytesIn byte n 0 later ≡ []
 unfolding bytesIn
-none-in entries played zero later = refl
-none-in entries played (suc n) later = rw (none-in entries played n (suc later))
+none-in byte zero later = refl
+none-in byte (suc n) later = rw (none-in byte n (suc later))
 
-pub list-ends : {entries played bits : ℕ} {list : List ℕ} {rest n later : ℕ} → Listing entries played bits list rest n later → rest ≡ 0
-    → list ≡ padded 0 36 (bytesIn entries played 64 bits 0)
-list-ends {entries} {played} {bits} {list} {rest} {n} {later} r e =
-    let none : bytesIn entries played (64 - later) rest later ≡ [] = rw e (none-in entries played (64 - later) later) in
+pub list-ends : {byte : ℕ → ℕ} {size bits : ℕ} {list : List ℕ} {rest n later : ℕ} → Listing byte size bits list rest n later → rest ≡ 0
+    → list ≡ padded 0 size (bytesIn byte 64 bits 0)
+list-ends {byte} {size} {bits} {list} {rest} {n} {later} r e =
+    let none : bytesIn byte (64 - later) rest later ≡ [] = rw e (none-in byte (64 - later) later) in
     let zero : n ≡ 0 = r .many ∙ rw none in
     rw (zero, none) at (r .same)
 
@@ -255,13 +255,13 @@ list-ends {entries} {played} {bits} {list} {rest} {n} {later} r e =
 pub too-many : (p : Play) → p .revoked < 2 ^ 64 → 36 < ones (p .revoked) → _≡_ {A = Revokes} (record { count = 0; list = replicate 36 0 }) (revokesIn p)
 unfolding revokesIn revokedIn padded
 too-many p b h =
-    let many = bytes-many (entriesIn p) (p .played) 64 (p .revoked) 0 b in
+    let many = bytes-many (byteAfter (entriesIn p) (p .played)) 64 (p .revoked) 0 b in
     rw (many, lt-ltb 36 (ones (p .revoked)) h)
 
 pub as-listed : (p : Play) {entries n : ℕ} {list : List ℕ} → p .revoked < 2 ^ 64 → n ≤ 36 → n ≡ ones (p .revoked) → entries ≡ entriesIn p
-    → list ≡ padded 0 36 (bytesIn entries (p .played) 64 (p .revoked) 0)
+    → list ≡ padded 0 36 (bytesIn (byteAfter entries (p .played)) 64 (p .revoked) 0)
     → _≡_ {A = Revokes} (record { count = n; list = list }) (revokesIn p)
 unfolding revokesIn revokedIn
 as-listed p {entries} {n} {list} b h e q l =
-    let many = bytes-many (entriesIn p) (p .played) 64 (p .revoked) 0 b in
+    let many = bytes-many (byteAfter (entriesIn p) (p .played)) 64 (p .revoked) 0 b in
     rw (many, ← e, le-ltb 36 n h, l, q)

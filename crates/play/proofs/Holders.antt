@@ -1,5 +1,5 @@
 -- The places of the cards after a history that the verdicts allow: who holds what, by the history alone. Assumes nothing.
-use Prim.Native.Nat.{ℕ, zero, suc, _<_, _+_}
+use Prim.Native.Nat.{ℕ, _<_, _+_}
 use mathlib.Core.Path.{_≡_, refl, sym, _∙_}
 use mathlib.Core.Bool.{Bool, true, false, _&&_}
 use mathlib.Core.List.{List, [], _∷_}
@@ -8,20 +8,15 @@ use borrow.Author.Tests.{eqb-true, eqb-false, ne-eqb, eq-eqb}
 use lib.Dec.{eqb}
 use lib.ListN.{length, length-set}
 use lib.Seq.{getD-set-same, getD-set-other}
-use Rattle.laws.specs.Choice.{some, someBelow}
+use Rattle.laws.specs.Choice.{some}
 use Rattle.laws.specs.Cards.{noSeat, clockwise, dealtTo}
 use Rattle.laws.specs.Law44.{isOf, toPlay, isPlayed, holds}
 use Rattle.laws.specs.Law61.{holdsSuit}
 use Rattle.laws.proofs.Tests.{by-test}
+use Rattle.laws.proofs.Counts.{some-same}
 use Rattle.deal.specs.Hands.{holdsOne}
 use Rattle.play.specs.History.{AllPlayed, holdersOf}
 use Rattle.play.proofs.Cards.{Fair, fair}
-
--- two tests that agree below n find the same
-some-same : (n : ℕ) (p q : ℕ → Bool) → ((k : ℕ) → k < n → p k ≡ q k) → someBelow n p ≡ someBelow n q
-unfolding someBelow
-some-same zero p q e = refl
-some-same (suc n) p q e = rw (e n (omega arith), some-same n p q (λ k h. e k (omega arith)))
 
 pub turn-seat : (trump opening : ℕ) (g : List ℕ) → toPlay trump opening g < 4
 unfolding toPlay clockwise

@@ -13,7 +13,7 @@ use Rattle.laws.specs.Law61.{Revoke, isRevoke, revokeAt, revokes}
 use Rattle.laws.proofs.Tests.{by-test, and-left}
 use Rattle.play.specs.Words.{bitOf}
 use Rattle.play.specs.Told as Told
-use Rattle.play.specs.Told.{bytesIn, revokedIn, revokesIn}
+use Rattle.play.specs.Told.{byteAfter, bytesIn, revokedIn, revokesIn}
 use Rattle.play.specs.History.{positionOf, AllPlayed, revokedOf, revokesOf, byteOf}
 use Rattle.play.proofs.Cards.{fewer-than-four, tricks-same, tricks-more, in-trick-more, in-trick-last}
 use Rattle.play.proofs.Thirteen.{at-most-52, none-on-thirteen}
@@ -108,9 +108,9 @@ drop-next (suc k) (d ∷ full) g c e = drop-next k full g c e
 
 module _ (deal : List ℕ) (trump opening : ℕ) (full : List ℕ) (most : cardsPlayed full ≤ 52) where
   bytes-law : (k : ℕ) (g : List ℕ) → g ≡ drop k full → k + cardsPlayed g ≤ 52
-      → bytesIn (allEntries trump opening full) (cardsPlayed full) (64 - k) (revokedOf deal trump opening g) k ≡ map byteOf (revokes trump opening deal g)
+      → bytesIn (byteAfter (allEntries trump opening full) (cardsPlayed full)) (64 - k) (revokedOf deal trump opening g) k ≡ map byteOf (revokes trump opening deal g)
   unfolding bytesIn revokedOf revokes cardsPlayed
-  bytes-law k [] e h = none-in (allEntries trump opening full) (cardsPlayed full) (64 - k) k
+  bytes-law k [] e h = none-in (byteAfter (allEntries trump opening full) (cardsPlayed full)) (64 - k) k
   bytes-law k (c ∷ g) e h =
       let fuel : 64 - k ≡ suc (64 - suc k) = omega arith in
       let b = isRevoke trump opening deal g c in

@@ -24,10 +24,10 @@ bit-low true = omega arith
 bit-low false = omega arith
 
 -- the lowest bit, and the others
-half : (w : ℕ) (b : Bool) → (w * 2 + bitOf b) / 2 ≡ w
+pub half : (w : ℕ) (b : Bool) → (w * 2 + bitOf b) / 2 ≡ w
 half w b = omega (arith, bit-low b)
 
-lowest : (w : ℕ) (b : Bool) → (w * 2 + bitOf b) % 2 ≡ bitOf b
+pub lowest : (w : ℕ) (b : Bool) → (w * 2 + bitOf b) % 2 ≡ bitOf b
 lowest w b = omega (arith, bit-low b)
 
 both : (a b : Bool) → min (bitOf a) (bitOf b) ≡ bitOf (a && b)
@@ -56,7 +56,7 @@ differ-none : (b : Bool) → differ (bitOf b) 0 ≡ bitOf b
 differ-none true = refl
 differ-none false = refl
 
-suc-eqb : (a b : ℕ) → eqb (suc a) (suc b) ≡ eqb a b
+pub suc-eqb : (a b : ℕ) → eqb (suc a) (suc b) ≡ eqb a b
 suc-eqb a b =
     by-test (eqb a b)
     (λ (q : eqb a b ≡ true). rw q (eq-eqb (suc a) (suc b) (ap suc (eqb-true a b q))))

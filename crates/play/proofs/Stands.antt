@@ -82,7 +82,7 @@ module _ (deal : List ℕ) (trump opening : ℕ) (all : length deal ≡ 52) wher
         rw q (s .led n ∙ sym (led-on c (trickUnderWay g) (λ e. n (sym (trick-size g) ∙ e))))))
 
     -- the hand of the seat at turn
-    hand-is : AllPlayed deal trump opening g → handOf p ≡ wordOf (toPlay trump opening g) (holdersOf deal trump opening g)
+    pub hand-is : AllPlayed deal trump opening g → handOf p ≡ wordOf (toPlay trump opening g) (holdersOf deal trump opening g)
     unfolding handOf holds
     hand-is w =
         let seat = toPlay trump opening g in

@@ -7,9 +7,9 @@ use mathlib.Core.List.{List, [], _∷_}
 use native.Mathlib.Omega.{arith}
 use borrow.Author.Tests.{eqb-true, eqb-false, eq-eqb, ne-eqb, ltb-true, ltb-false, lt-ltb, le-ltb, not-true}
 use lib.Dec.{eqb, ltb}
-use lib.ListN.{length, getD}
+use lib.ListN.{length}
 use Rattle.laws.specs.Choice.{if_then_else_, howMany, someBelow}
-use Rattle.laws.specs.Cards.{noSeat, clockwise, cardsDealt}
+use Rattle.laws.specs.Cards.{noSeat, clockwise, dealtTo, cardsDealt}
 use Rattle.laws.specs.Law44.{cardsPlayed, tricksComplete, cardsInTrick, leader, trickUnderWay, suitLed, isOf, toPlay, holds}
 use Rattle.laws.specs.Law61.{holdsSuit, isRevoke}
 use Rattle.laws.proofs.Tests.{by-test, not-both, and-left, and-right}
@@ -96,7 +96,7 @@ module _ (deal : List ℕ) (trump opening : ℕ) (all : length deal ≡ 52) wher
   -- ---- a seat that revokes holds two cards, so it has played to fewer than twelve tricks
   module _ (dealt : (seat : ℕ) → seat < 4 → cardsDealt seat deal ≡ 13) where
     -- the seat at turn has played to each complete trick
-    turn-plays : (g : List ℕ) → playsOf trump opening (toPlay trump opening g) g ≡ tricksComplete g
+    pub turn-plays : (g : List ℕ) → playsOf trump opening (toPlay trump opening g) g ≡ tricksComplete g
     unfolding toPlay clockwise
     turn-plays g =
         let seat = toPlay trump opening g in
@@ -106,8 +106,21 @@ module _ (deal : List ℕ) (trump opening : ℕ) (all : length deal ≡ 52) wher
         let all = rw past at (plays-law trump opening seat g (turn-seat trump opening g)) in
         omega arith
 
+    -- a seat at turn with two cards has played to fewer than twelve tricks
+    pub two-held : (c d : ℕ) (g : List ℕ) → AllPlayed deal trump opening g → c < 52 → d < 52 → (d ≡ c → ⊥)
+        → holds deal g (toPlay trump opening g) c ≡ true → holds deal g (toPlay trump opening g) d ≡ true → tricksComplete g < 12
+    unfolding cardsDealt
+    two-held c d g w hc hd differ at-c at-d =
+        let seat = toPlay trump opening g in
+        let low = turn-seat trump opening g in
+        let n = holders-52 deal trump opening all g in
+        let mine : ℕ → Bool = λ (holder : ℕ). eqb holder seat in
+        let two = two-places mine noSeat 4 (ne-eqb 4 seat (λ e. omega arith)) (holders g) c d (omega arith) (omega arith) differ
+        (holds-law deal trump opening all g w seat c low ∙ at-c) (holds-law deal trump opening all g w seat d low ∙ at-d) in
+        omega (arith, two, thirteen-less seat g low w, turn-plays g, dealt seat low)
+
     pub none-on-thirteen : (c : ℕ) (g : List ℕ) → AllPlayed deal trump opening (c ∷ g) → isRevoke trump opening deal g c ≡ true → tricksComplete g < 12
-    unfolding AllPlayed isRevoke holdsSuit cardsDealt
+    unfolding AllPlayed isRevoke holdsSuit holds
     none-on-thirteen c g w r =
         let seat = toPlay trump opening g in
         let suit = suitLed (trickUnderWay g) in
@@ -115,14 +128,8 @@ module _ (deal : List ℕ) (trump opening : ℕ) (all : length deal ≡ 52) wher
         let rest = and-right (not (eqb (cardsInTrick g) 0)) (not (isOf suit c) && someBelow 52 has) r in
         let other = not-true (isOf suit c) (and-left (not (isOf suit c)) (someBelow 52 has) rest) in
         let d = below-some has 52 (and-right (not (isOf suit c)) (someBelow 52 has) rest) in
-        let n = holders-52 deal trump opening all g in
         let f = fair trump opening deal g c (w .0) in
-        let mine : ℕ → Bool = λ (holder : ℕ). eqb holder seat in
-        let at-c : mine (getD (holders g) c noSeat) ≡ true = eq-eqb (getD (holders g) c noSeat) seat (stood deal trump opening all c g f (w .1)) in
-        let at-d : mine (getD (holders g) (d .0) noSeat) ≡ true =
-        holds-law deal trump opening all g (w .1) seat (d .0) (turn-seat trump opening g) ∙ and-right (isOf suit (d .0)) (holds deal g seat (d .0)) (d .2) in
         let differ : d .0 ≡ c → ⊥ =
         λ e. not-both (isOf suit c) (rw e at (and-left (isOf suit (d .0)) (holds deal g seat (d .0)) (d .2))) other in
-        let two = two-places mine noSeat 4 (ne-eqb 4 seat (λ e. omega (arith, turn-seat trump opening g))) (holders g) c (d .0) (omega (arith, f .code))
-        (omega (arith, d .1)) differ at-c at-d in
-        omega (arith, two, thirteen-less seat g (turn-seat trump opening g) (w .1), turn-plays g, dealt seat (turn-seat trump opening g))
+        two-held c (d .0) g (w .1) (f .code) (d .1) differ (rw (eq-eqb (dealtTo deal c) seat (f .held), f .unplayed))
+        (and-right (isOf suit (d .0)) (holds deal g seat (d .0)) (d .2))

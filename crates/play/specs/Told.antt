@@ -53,15 +53,15 @@ byteAfter entries played later =
     let here = entriesFrom entries played card in
     revokeByte (card / 4 + 1) (here / 64 % 4 + card % 4) here
 
--- the bytes of the revokes among so many cards, in order of play, by the bits of the word; `later` cards were played after them
-unfoldable pub bytesIn : ℕ → ℕ → ℕ → ℕ → ℕ → List ℕ
-bytesIn entries played zero bits later = []
-bytesIn entries played (suc n) bits later =
-    bytesIn entries played n (bits / 2) (suc later) ++ (if eqb (bits % 2) 1 then (byteAfter entries played later ∷ []) else [])
+-- the bytes of those of so many cards whose bit is set, in order of play; `byte` tells that of the card with so many cards after it, and `later` cards were
+-- played after them
+unfoldable pub bytesIn : (ℕ → ℕ) → ℕ → ℕ → ℕ → List ℕ
+bytesIn byte zero bits later = []
+bytesIn byte (suc n) bits later = bytesIn byte n (bits / 2) (suc later) ++ (if eqb (bits % 2) 1 then (byte later ∷ []) else [])
 
 -- the revokes' bytes of a position
 unfoldable pub revokedIn : Play → List ℕ
-revokedIn p = bytesIn (entriesIn p) (p .played) 64 (p .revoked) 0
+revokedIn p = bytesIn (byteAfter (entriesIn p) (p .played)) 64 (p .revoked) 0
 
 -- revokes with these bytes, in 36 places
 abbrev pub revokesOf : List ℕ → Revokes

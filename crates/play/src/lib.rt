@@ -7,12 +7,12 @@ mod words;
 pub use crate::claims::may_claim;
 pub use crate::claims::tricks_left;
 use crate::words::CARDS;
-use crate::words::bit;
+pub use crate::words::bit;
 use crate::words::card_bit;
 use crate::words::choose;
 use crate::words::entered;
 use crate::words::greater;
-use crate::words::with_bit;
+pub use crate::words::with_bit;
 use laws::ACCEPTED;
 use laws::CARD_ALREADY_PLAYED;
 use laws::CARD_NOT_HELD;
@@ -133,7 +133,7 @@ impl Play {
     }
 
     // The hand of the seat at turn.
-    fn hand(self) -> u64
+    pub fn hand(self) -> u64
         ensures { λ r. ⌜ r ≡ handOf self ⌝ }
     {
         let dealt = self.dealt;

@@ -67,7 +67,7 @@ pub(crate) fn choose(test: bool, a: u8, b: u8) -> u8
 }
 
 // 1 where the test holds, else 0.
-pub(crate) fn bit(test: bool) -> u64
+pub fn bit(test: bool) -> u64
     ensures { λ r. ⌜ (r ≡ bitOf test) × (r < 2) ⌝ }
 {
     if test { 1 } else { 0 }
@@ -88,7 +88,7 @@ pub(crate) fn card_bit(card: u8) -> u64
 }
 
 // The word with one bit more, lowest.
-pub(crate) fn with_bit(word: u64, bit: u64) -> u64
+pub fn with_bit(word: u64, bit: u64) -> u64
     ensures { λ r. ⌜ r ≡ withBit word bit ⌝ }
 {
     word % 9223372036854775808 * 2 + bit % 2

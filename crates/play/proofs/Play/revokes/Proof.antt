@@ -4,12 +4,13 @@ use mathlib.Core.Path.{_≡_, refl, sym, _∙_}
 use native.Mathlib.Omega.{arith}
 use borrow.Author.Needs.{needs}
 use lib.Count.{ones, ones-le, trailing-le}
+use Rattle.play.specs.Told.{byteAfter}
 use Rattle.play.proofs.Filling.{Listing, list-begins, list-low, list-one, list-goes, list-ends, too-many, as-listed}
 use Rattle.play.proofs.Play.revokes.Statement.{statement}
 use Rattle.play.proofs.Play.revokes.Tie as tie
 
 abbrev Inv-loop : tie.InvT-loop
-Inv-loop list₀ entries played rest₀ n₀ count later₀ list rest n later = Listing entries played rest₀ list rest n later
+Inv-loop list₀ entries played rest₀ n₀ count later₀ list rest n later = Listing (byteAfter entries played) 36 rest₀ list rest n later
 
 abbrev μ-loop : tie.MeasureT-loop
 μ-loop list₀ entries played rest₀ n₀ count later₀ list rest n later = 64 - later

@@ -1,0 +1,108 @@
+-- The plays of a record: the fields that each event of the play has, and how they are read, each event checked on those before it. Before each card may stand
+-- codes: an exposed card, and declarer's choice before a lead.
+-- Histories have the latest event first; the plays of a record stand in their order.
+-- Assumes nothing.
+use Prim.Native.Nat.{ℕ, zero, suc, _≤_}
+use mathlib.Core.Path.{_≡_}
+use mathlib.Core.Bool.{Bool, true, not, _||_}
+use mathlib.Core.List.{List, [], _∷_, _++_}
+use lib.Dec.{eqb}
+use lib.ListN.{length}
+use Rattle.laws.specs.Choice.{if_then_else_}
+use Rattle.laws.specs.Refusals.{accepted, tooManyCodes}
+use Rattle.laws.specs.Law44.{cardsPlayed, playable}
+use Rattle.laws.specs.CardRefusal.{cardRefusal}
+use Rattle.laws.specs.Record.{Field, field}
+use Rattle.laws.specs.Reading.{Reader, _>>=_, _>>_, give, read, refuse}
+use Rattle.laws.specs.Events.{Event, played, exposed, choice, cardsOf}
+use Rattle.laws.specs.Law50.{isExposable}
+use Rattle.laws.specs.Law51.{isOpen}
+use Rattle.laws.specs.CodeRefusal.{exposureRefusal, choiceRefusal}
+
+-- what stands in a card's place before an exposed card, and before a choice
+abbrev pub exposureCode : ℕ
+exposureCode = 52
+
+abbrev pub choiceCode : ℕ
+choiceCode = 53
+
+-- a code stands in the card's place
+abbrev pub isCode : ℕ → Bool
+isCode n = eqb n exposureCode || eqb n choiceCode
+
+-- the fields of an event: a card; a code, the exposed card, and 1 for deliberately; a code, the kind of the choice, and its suit
+unfoldable pub eventFields : Event → List Field
+eventFields (played c) = field 6 c ∷ []
+eventFields (exposed c deliberate) = field 6 exposureCode ∷ field 6 c ∷ field 1 (if deliberate then 1 else 0) ∷ []
+eventFields (choice kind suit) = field 6 choiceCode ∷ field 2 kind ∷ field 2 suit ∷ []
+
+-- the fields of plays in their order
+unfoldable pub playFields : List Event → List Field
+playFields [] = []
+playFields (v ∷ plays) = eventFields v ++ playFields plays
+
+-- the place of whatever stands before the next card: how many cards were played before it
+abbrev pub playPlace : List Event → ℕ
+playPlace e = cardsPlayed (cardsOf e)
+
+-- a refusal by its number, where it is one
+abbrev pub refuseBy : ℕ → List Event → Reader (Unit {0})
+refuseBy n e = refuse n (playPlace e) (not (eqb n accepted))
+
+module _ (trump opening : ℕ) (deal : List ℕ) where
+  -- an exposed card and its bit, after their code
+  unfoldable pub readExposed : List Event → Reader (List Event)
+  readExposed e = do
+    card ← read 6
+    deliberate ← read 1
+    refuseBy (exposureRefusal trump opening deal e card) e
+    give (exposed card (eqb deliberate 1) ∷ e)
+
+  -- the kind and the suit of a choice, after their code
+  unfoldable pub readChoice : List Event → Reader (List Event)
+  readChoice e = do
+    kind ← read 2
+    suit ← read 2
+    refuseBy (choiceRefusal trump opening deal e kind suit) e
+    give (choice kind suit ∷ e)
+
+  -- what follows a code that stands in a card's place
+  abbrev pub readCode : ℕ → List Event → Reader (List Event)
+  readCode code e = if eqb code exposureCode then readExposed e else readChoice e
+
+  -- so many cards with the codes before them, of which so many more may be given
+  unfoldable pub readPlays : ℕ → ℕ → List Event → Reader (List Event)
+  readPlays zero left e = give e
+  readPlays (suc n) zero e = do
+    code ← read 6
+    refuse tooManyCodes (playPlace e) (isCode code)
+    refuseBy (cardRefusal trump opening deal (cardsOf e) code) e
+    readPlays n zero (played code ∷ e)
+  readPlays (suc n) (suc left) e = do
+    code ← read 6
+    if isCode code then (readCode code e >>= readPlays (suc n) left)
+      else (refuseBy (cardRefusal trump opening deal (cardsOf e) code) e >> readPlays n (suc left) (played code ∷ e))
+
+-- ---- lawful plays
+module _ (trump opening : ℕ) (deal : List ℕ) where
+  -- the event may stand after the events e: the card may be played, the card can be exposed, the choice is open
+  unfoldable pub MayStand : List Event → Event → Type 0
+  MayStand e (played c) = playable trump opening deal (cardsOf e) c ≡ true
+  MayStand e (exposed c deliberate) = isExposable trump opening deal e c ≡ true
+  MayStand e (choice kind suit) = isOpen trump opening deal e kind suit ≡ true
+
+  -- each of the plays, in their order, may stand after the events e and the plays before it
+  unfoldable pub EachStands : List Event → List Event → Type 0
+  EachStands e [] = Unit {0}
+  EachStands e (v ∷ plays) = MayStand e v × EachStands (v ∷ e) plays
+
+-- how many cards there are among the plays
+unfoldable pub cardsAmong : List Event → ℕ
+cardsAmong plays = length (cardsOf plays)
+
+-- codes stand before cards: each has a card after it
+unfoldable pub CardsFollow : List Event → Type 0
+CardsFollow [] = Unit {0}
+CardsFollow (played c ∷ plays) = CardsFollow plays
+CardsFollow (exposed c deliberate ∷ plays) = (1 ≤ cardsAmong plays) × CardsFollow plays
+CardsFollow (choice kind suit ∷ plays) = (1 ≤ cardsAmong plays) × CardsFollow plays
