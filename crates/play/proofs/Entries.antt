@@ -164,7 +164,8 @@ byte-is trump opening full most k c g e ne =
     let whole = under-way trump opening g ne in
     let here = allEntries trump opening full / 16 ^ (begun full - begun (c ∷ g)) in
     rw (at, back, sixteen (begun full - begun (c ∷ g)))
-    (by-entries trump opening g here (suitLed (trickUnderWay g)) (s .alike .suit ∙ r .suit ∙ rw whole (omega arith)) (s .alike .before ∙ r .before ∙ rw whole (omega arith)))
+    (by-entries trump opening g here (suitLed (trickUnderWay g)) (s .alike .suit ∙ r .suit ∙ rw whole (omega arith))
+    (s .alike .before ∙ r .before ∙ rw whole (omega arith)))
 
 -- between tricks, and after a lead
 between : (trump opening : ℕ) (g : List ℕ) → cardsInTrick g ≡ 0 → allEntries trump opening g ≡ entriesOf trump opening g
@@ -186,7 +187,8 @@ lead-byte-is trump opening full most k c g e z =
     let back = place-back full k c g (s .count) most (s .order) in
     let here = allEntries trump opening full / 16 ^ (begun full - begun (c ∷ g)) in
     rw (at, back, sixteen (begun full - begun (c ∷ g)))
-    (by-entries trump opening g here (suitOf c) (s .alike .suit ∙ lead-suit trump opening c g z) (s .alike .before ∙ leads-on trump opening c g z ∙ between trump opening g z))
+    (by-entries trump opening g here (suitOf c) (s .alike .suit ∙ lead-suit trump opening c g z)
+    (s .alike .before ∙ leads-on trump opening c g z ∙ between trump opening g z))
 
 few-entries : (deal : List ℕ) (trump opening : ℕ) (all : length deal ≡ 52) (g : List ℕ) → cardsPlayed g ≤ 52 → entriesOf trump opening g < 2 ^ 60
 unfolding tricksComplete
