@@ -9,3 +9,4 @@ pub mod FoundStands
 pub mod TableStands
 pub mod Refusing
 pub mod FailureBytes
+pub mod Listing

@@ -4,14 +4,17 @@ use mathlib.Core.Path.{_≡_}
 use mathlib.Core.Bool.{Bool, true, false, not}
 use mathlib.Core.List.{List}
 use native.Mathlib.Omega.{arith}
+use lib.Bits.{bitAnd, bitOr}
 use lib.ListN.{getD}
 use Rattle.laws.specs.Cards.{clockwise, partnerOf}
 use Rattle.play.specs.Words.{bitOf, withBit}
 use Rattle.play.proofs.Steps.{both-bits}
+use Rattle.penalty.specs.declared.Penalty.{Penalty}
 use Rattle.penalty.specs.declared.found.Found.{Found}
 use Rattle.penalty.specs.declared.Turn.{Turn}
 use Rattle.penalty.specs.declared.table.Table.{Table}
-use Rattle.penalty.specs.Position.{obeysIn, excusedIn, failsIn}
+use Rattle.penalty.specs.Position.{obeyingIn, obeysIn, excusedIn, against50D1, failsIn, majorWith}
+use Rattle.penalty.specs.Words.{cardWord, meets}
 use Rattle.penalty.specs.Found.{withRevoke, withLead, withFailure}
 use Rattle.penalty.specs.Table.{turnIn, entryIn, revokesIn, foundOf, foundAfter}
 
@@ -44,3 +47,15 @@ module _ (t : Table) (card : ℕ) {turn : Turn} {obeys excused fails : Bool} {re
 pub partner-at : (dealt : List ℕ) (seat : ℕ) → getD dealt ((seat % 4 + 2) % 4) 0 ≡ getD dealt (partnerOf seat) 0
 unfolding clockwise
 partner-at dealt seat = let same : (seat % 4 + 2) % 4 ≡ (seat + 2) % 4 = omega arith in rw same
+
+-- a card exposed beside another of its owner
+pub all-shown : (p : Penalty) (own card : ℕ) (deliberate : Bool) {shown : ℕ} {others : Bool} → shown ≡ cardWord card → others ≡ meets (p .faced) own
+    → others ≡ true → bitOr (bitOr (p .major) (bitAnd (p .faced) own)) shown ≡ majorWith p own card deliberate
+unfolding majorWith
+all-shown p own card deliberate es eo o = rw (← eo, o, es)
+
+-- a major penalty card was due
+pub due-other : (p : Penalty) (t : Turn) (card : ℕ) {obeying played : ℕ} {due this : Bool} → obeying ≡ obeyingIn p t → played ≡ cardWord card
+    → due ≡ meets obeying (p .major) → due ≡ true → this ≡ meets (bitAnd obeying (p .major)) played → not this ≡ against50D1 p t card
+unfolding against50D1
+due-other p t card eo ep ed d et = rw (et, ep, ← eo, ← ed, d)

@@ -22,7 +22,7 @@ use Rattle.play.proofs.Masks.{wordBy, word-same, word-and}
 use Rattle.penalty.specs.declared.Penalty.{Penalty}
 use Rattle.penalty.specs.declared.Turn.{Turn}
 use Rattle.penalty.specs.Position.{startOf, askedOfLead, askedIn, obeyingIn, obeysIn, excusedIn, against50C, against50D1, failsIn}
-use Rattle.penalty.proofs.Tests.{eqb-sym, in-hand, own-minor}
+use Rattle.penalty.proofs.Tests.{eqb-sym, in-hand, own-faced, own-minor}
 use Rattle.penalty.proofs.Sets.{word-without, word-free, word-card, word-suit, word-meets, word-has}
 
 module _ (deal : List ℕ) (trump opening : ℕ) where
@@ -100,8 +100,14 @@ module _ (deal : List ℕ) (trump opening : ℕ) where
       pub excused-is : excusedIn p t ≡ isExcused trump opening deal e
       unfolding excusedIn isExcused isFacedOf holds
       excused-is =
-          rw (obeying-is, s .faced, word-meets (λ k. held e k && obeys trump opening deal e k) (isFaced trump opening deal e))
-          (some-same 52 _ _ (λ k h. in-hand _ _ _ _ (faced-left k)))
+          rw (
+            obeying-is,
+            s .faced,
+            a .hand,
+            word-and 52 (isFaced trump opening deal e) (held e),
+            word-meets (λ k. held e k && obeys trump opening deal e k) (λ k. isFaced trump opening deal e k && held e k),
+          )
+          (some-same 52 _ _ (λ k h. own-faced _ _ _ _ (faced-left k)))
 
       -- ---- plays against 50C and 50D1
       against-50C-is : (card : ℕ) → card < 52 → against50C p t card ≡ isAgainst50C trump opening deal e card

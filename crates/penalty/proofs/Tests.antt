@@ -36,6 +36,13 @@ in-hand own left obeys false h = none (own && left) obeys
 in-hand true left obeys true h = rw (h refl) (and-comm obeys true)
 in-hand false left obeys true h = refl
 
+-- the same where it is said twice that the card is in the hand
+pub own-faced : (own left obeys faced : Bool) → (faced ≡ true → left ≡ true)
+    → (((own && left) && obeys) && (faced && (own && left))) ≡ ((faced && own) && obeys)
+own-faced own left obeys false h = and-comm ((own && left) && obeys) false
+own-faced true left obeys true h = rw (h refl) (and-comm obeys true)
+own-faced false left obeys true h = refl
+
 -- faced, not major, in the hand, another card and of its suit: a minor card of its own, and another one of its suit
 pub own-minor : (faced major own left other suit : Bool) → (faced ≡ true → left ≡ true)
     → ((((faced && not major) && (own && left)) && other) && suit) ≡ (((faced && not major) && own) && (other && suit))

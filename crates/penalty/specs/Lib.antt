@@ -4,3 +4,4 @@ pub mod Found
 pub mod Table
 pub mod History
 pub mod Told
+pub mod Listed

@@ -35,7 +35,7 @@ obeysIn p t card = meets (obeyingIn p t) (cardWord card)
 
 -- 64B3: a penalty card of the seat at turn is no revoke
 unfoldable pub excusedIn : Penalty → Turn → Bool
-excusedIn p t = meets (obeyingIn p t) (p .faced)
+excusedIn p t = meets (obeyingIn p t) (bitAnd (p .faced) (t .hand))
 
 -- 50C: the card is no honour, and another one of its suit is a minor penalty card of the seat
 unfoldable pub against50C : Penalty → Turn → ℕ → Bool

@@ -1,11 +1,13 @@
 // Penalty cards and lead choices, an event of the play at a time: by value, stepping and returning itself.
 // Cards, hands and suits are sets of cards: a word with a bit for each of the 52 cards.
 mod found;
+mod listed;
 mod table;
 mod told;
 mod words;
 
 pub use crate::found::Found;
+pub use crate::listed::Listed;
 pub use crate::table::Table;
 use crate::words::card_word;
 use crate::words::meets;
@@ -111,7 +113,9 @@ impl Penalty {
     pub fn excused(self, t: Turn) -> bool
         ensures { λ r. ⌜ r ≡ excusedIn self t ⌝ }
     {
-        meets(self.obeying(t), self.faced)
+        let obeying = self.obeying(t);
+        let own = self.faced & t.hand;
+        meets(obeying, own)
     }
 
     // Law 50C: whether the card is below an honour and another one of its suit is a minor penalty card of the seat.

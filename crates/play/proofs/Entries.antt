@@ -10,7 +10,7 @@ use lib.Dec.{eqb, leb}
 use lib.ListN.{length, drop}
 use lib.Pow.{pow-add}
 use Rattle.laws.specs.Choice.{if_then_else_}
-use Rattle.laws.specs.Cards.{clockwise}
+use Rattle.laws.specs.Cards.{suitOf, clockwise}
 use Rattle.laws.specs.Law44.{cardsPlayed, tricksComplete, cardsInTrick, trickUnderWay, suitLed, leader, toPlay}
 use Rattle.laws.specs.Law61.{revokeAt}
 use Rattle.laws.proofs.Tests.{by-test}
@@ -19,7 +19,7 @@ use Rattle.play.specs.Words.{withEntry}
 use Rattle.play.specs.Told.{entriesIn, revokeByte, cardBefore, byteAfter}
 use Rattle.play.specs.History.{entriesOf, byteOf}
 use Rattle.play.proofs.Cards.{in-trick-more, in-trick-last, trick-more, trick-size}
-use Rattle.play.proofs.UnderWay.{led-on}
+use Rattle.play.proofs.UnderWay.{led-on, none-under-way}
 use Rattle.play.proofs.Stands.{Stands, lead-test, entries-low}
 
 -- the entries of the complete tricks, and one for the trick under way where there is one
@@ -139,10 +139,10 @@ module _ (full : List ℕ) (k c : ℕ) (g : List ℕ) (count : cardsPlayed full 
 turn-sum : (a b : ℕ) → (a % 4 + b % 4) % 4 ≡ (a + b % 4) % 4 % 4
 turn-sum a b = omega arith
 
-by-entries : (trump opening : ℕ) (g : List ℕ) (here : ℕ) → here % 4 ≡ suitLed (trickUnderWay g) % 4 → here / 16 ≡ entriesOf trump opening g
-    → revokeByte (cardsPlayed g / 4 + 1) (here / 64 % 4 + cardsPlayed g % 4) here ≡ byteOf (revokeAt trump opening g)
-unfolding revokeByte revokeAt toPlay clockwise cardsInTrick tricksComplete
-by-entries trump opening g here es eb =
+by-entries : (trump opening : ℕ) (g : List ℕ) (here suit : ℕ) → here % 4 ≡ suit % 4 → here / 16 ≡ entriesOf trump opening g
+    → revokeByte (cardsPlayed g / 4 + 1) (here / 64 % 4 + cardsPlayed g % 4) here ≡ revokeByte (tricksComplete g + 1) (toPlay trump opening g) suit
+unfolding revokeByte toPlay clockwise cardsInTrick tricksComplete
+by-entries trump opening g here suit es eb =
     let before : here / 64 % 4 ≡ leader trump opening g % 4 = rw (← div-div-eq-div-mul here 16 4, eb) (last-winner trump opening g) in
     let seat : (here / 64 % 4 + cardsPlayed g % 4) % 4 ≡ toPlay trump opening g % 4 = rw before (turn-sum (leader trump opening g) (cardsPlayed g)) in
     rw (seat, es)
@@ -155,7 +155,7 @@ under-way trump opening g ne = rw (ne-eqb (cardsInTrick g) 0 ne)
 
 pub byte-is : (trump opening : ℕ) (full : List ℕ) → cardsPlayed full ≤ 52 → (k c : ℕ) (g : List ℕ) → c ∷ g ≡ drop k full → (cardsInTrick g ≡ 0 → ⊥)
     → byteAfter (allEntries trump opening full) (cardsPlayed full) k ≡ byteOf (revokeAt trump opening g)
-unfolding byteAfter
+unfolding byteAfter revokeAt
 byte-is trump opening full most k c g e ne =
     let s = seen trump opening full k c g e in
     let at = card-place full k c g (s .count) most in
@@ -164,7 +164,31 @@ byte-is trump opening full most k c g e ne =
     let whole = under-way trump opening g ne in
     let here = allEntries trump opening full / 16 ^ (begun full - begun (c ∷ g)) in
     rw (at, back, sixteen (begun full - begun (c ∷ g)))
-    (by-entries trump opening g here (s .alike .suit ∙ r .suit ∙ rw whole (omega arith)) (s .alike .before ∙ r .before ∙ rw whole (omega arith)))
+    (by-entries trump opening g here (suitLed (trickUnderWay g)) (s .alike .suit ∙ r .suit ∙ rw whole (omega arith))
+    (s .alike .before ∙ r .before ∙ rw whole (omega arith)))
+
+-- between tricks, and after a lead
+between : (trump opening : ℕ) (g : List ℕ) → cardsInTrick g ≡ 0 → allEntries trump opening g ≡ entriesOf trump opening g
+unfolding allEntries
+between trump opening g z = rw z
+
+lead-suit : (trump opening c : ℕ) (g : List ℕ) → cardsInTrick g ≡ 0 → allEntries trump opening (c ∷ g) % 4 ≡ suitOf c % 4
+unfolding allEntries suitLed
+lead-suit trump opening c g z =
+    rw (in-trick-more c g (omega arith), ne-eqb (suc (cardsInTrick g)) 0 (λ q. omega arith), trick-more c g (omega arith), none-under-way g z) (omega arith)
+
+-- the byte of a lead: its trick, its seat and its own suit
+pub lead-byte-is : (trump opening : ℕ) (full : List ℕ) → cardsPlayed full ≤ 52 → (k c : ℕ) (g : List ℕ) → c ∷ g ≡ drop k full → cardsInTrick g ≡ 0
+    → byteAfter (allEntries trump opening full) (cardsPlayed full) k ≡ revokeByte (tricksComplete g + 1) (toPlay trump opening g) (suitOf c)
+unfolding byteAfter
+lead-byte-is trump opening full most k c g e z =
+    let s = seen trump opening full k c g e in
+    let at = card-place full k c g (s .count) most in
+    let back = place-back full k c g (s .count) most (s .order) in
+    let here = allEntries trump opening full / 16 ^ (begun full - begun (c ∷ g)) in
+    rw (at, back, sixteen (begun full - begun (c ∷ g)))
+    (by-entries trump opening g here (suitOf c) (s .alike .suit ∙ lead-suit trump opening c g z)
+    (s .alike .before ∙ leads-on trump opening c g z ∙ between trump opening g z))
 
 few-entries : (deal : List ℕ) (trump opening : ℕ) (all : length deal ≡ 52) (g : List ℕ) → cardsPlayed g ≤ 52 → entriesOf trump opening g < 2 ^ 60
 unfolding tricksComplete

@@ -108,7 +108,8 @@ drop-next (suc k) (d ∷ full) g c e = drop-next k full g c e
 
 module _ (deal : List ℕ) (trump opening : ℕ) (full : List ℕ) (most : cardsPlayed full ≤ 52) where
   bytes-law : (k : ℕ) (g : List ℕ) → g ≡ drop k full → k + cardsPlayed g ≤ 52
-      → bytesIn (byteAfter (allEntries trump opening full) (cardsPlayed full)) (64 - k) (revokedOf deal trump opening g) k ≡ map byteOf (revokes trump opening deal g)
+      → bytesIn (byteAfter (allEntries trump opening full) (cardsPlayed full)) (64 - k) (revokedOf deal trump opening g) k
+      ≡ map byteOf (revokes trump opening deal g)
   unfolding bytesIn revokedOf revokes cardsPlayed
   bytes-law k [] e h = none-in (byteAfter (allEntries trump opening full) (cardsPlayed full)) (64 - k) k
   bytes-law k (c ∷ g) e h =

@@ -40,7 +40,7 @@ revokeByte trick seat suit = trick % 16 * 16 + seat % 4 * 4 + suit % 4
 
 -- the place among the cards, from 0, of the card with so many cards after it
 abbrev pub cardBefore : ℕ → ℕ → ℕ
-cardBefore played later = (played % 64 + 63 - later) % 64
+cardBefore played later = (played % 64 + 63 - later % 64) % 64
 
 -- the entries from the trick of a card on, that trick lowest: as many tricks are taken away as were begun after it
 abbrev pub entriesFrom : ℕ → ℕ → ℕ → ℕ

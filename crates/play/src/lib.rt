@@ -6,6 +6,7 @@ mod words;
 
 pub use crate::claims::may_claim;
 pub use crate::claims::tricks_left;
+pub use crate::told::byte_after;
 use crate::words::CARDS;
 pub use crate::words::bit;
 use crate::words::card_bit;

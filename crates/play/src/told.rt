@@ -50,7 +50,7 @@ impl Play {
     }
 
     // The entries of the tricks, with the trick under way where there is one; its winner is not told.
-    fn entries(self) -> u64
+    pub fn entries(self) -> u64
         ensures { λ r. ⌜ r ≡ entriesIn self ⌝ }
     {
         if self.played % 4 == 0 {
@@ -61,11 +61,10 @@ impl Play {
 }
 
 // The byte of a revoke at a card with so many cards after it, by the entries and the number of cards played.
-fn byte_after(entries: u64, played: u64, later: u64) -> u8
-    requires { ⌜ later < 64 ⌝ }
+pub fn byte_after(entries: u64, played: u64, later: u64) -> u8
     ensures { λ r. ⌜ r ≡ byteAfter entries played later ⌝ }
 {
-    let card = (played % 64 + 63 - later) % 64;
+    let card = (played % 64 + 63 - later % 64) % 64;
     let from = ((played % 64 + 3) / 4 + 15 - card / 4) % 16;
     let here = entries >> (4 * from);
     narrow((card / 4 + 1) % 16 * 16 + (here / 64 % 4 + card % 4) % 4 * 4 + here % 4)

@@ -1,5 +1,6 @@
 -- `penalty::Penalty::against_50d1` meets its contract. Assumes nothing.
 use Rattle.penalty.specs.Position.{against50D1}
+use Rattle.penalty.proofs.Marking.{due-other}
 use borrow.Author.Needs.{needs}
 use Rattle.penalty.proofs.Penalty.against_50d1.Statement.{statement}
 use Rattle.penalty.proofs.Penalty.against_50d1.Tie as tie
@@ -17,10 +18,9 @@ meets-requires-2 : tie.Need-meets-requires-2
 meets-requires-2 c κs = search needs
 
 returns : tie.Need-returns
-unfolding against50D1
 returns c =
     let w = c .before .before .before in
-    rw (← w .before .obeying .ensures, ← w .card-word .ensures, ← c .before .before .meets .ensures, c .before .if1 .taken, c .meets2 .ensures)
+    due-other _ _ _ (w .before .obeying .ensures) (w .card-word .ensures) (c .before .before .meets .ensures) (c .before .if1 .taken) (c .meets2 .ensures)
 
 returns-2 : tie.Need-returns-2
 unfolding against50D1

@@ -12,7 +12,7 @@ meets-requires c κs = search needs
 
 returns : tie.Need-returns
 unfolding excusedIn
-returns c = rw (c .meets .ensures, c .before .obeying .ensures)
+returns c = rw (c .meets .ensures, c .before .before .before .obeying .ensures)
 
 pub excused-spec : {M : Type 1} → statement M
 excused-spec = tie.close (tie.spec obeying-requires meets-requires returns)

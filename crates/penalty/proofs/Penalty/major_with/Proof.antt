@@ -1,6 +1,7 @@
 -- `penalty::Penalty::major_with` meets its contract. Assumes nothing.
 use borrow.Author.Tests.{le-leb, lt-leb}
 use Rattle.penalty.specs.Position.{majorWith}
+use Rattle.penalty.proofs.Marking.{all-shown}
 use borrow.Author.Needs.{needs}
 use Rattle.penalty.proofs.Penalty.major_with.Statement.{statement}
 use Rattle.penalty.proofs.Penalty.major_with.Tie as tie
@@ -12,8 +13,7 @@ meets-requires : tie.Need-meets-requires
 meets-requires c κs = search needs
 
 returns : tie.Need-returns
-unfolding majorWith
-returns c = rw (← c .before .before .before .card-word .ensures, ← c .before .before .meets .ensures, c .before .if1 .taken)
+returns c = all-shown _ _ _ _ (c .before .before .before .card-word .ensures) (c .before .before .meets .ensures) (c .before .if1 .taken)
 
 returns-2 : tie.Need-returns-2
 unfolding majorWith
