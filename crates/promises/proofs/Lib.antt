@@ -19,3 +19,4 @@ pub mod TeamMatchOrder
 pub mod TeamMatchReached
 pub mod TeamMatch
 pub mod Slip
+pub mod BestPlay

@@ -14,3 +14,4 @@ pub mod Writing
 pub mod UnfinishedTrick
 pub mod TeamMatch
 pub mod Slip
+pub mod BestPlay
