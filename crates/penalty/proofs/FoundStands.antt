@@ -28,7 +28,7 @@ use Rattle.penalty.proofs.AtMost.{entry-more, entry-none}
 use Rattle.penalty.proofs.FoundWords.{pushed-words}
 
 -- what is told of a lead takes three bits
-named-bits : (revoke : Bool) (required : ℕ) → namedBy revoke required < 8
+pub named-bits : (revoke : Bool) (required : ℕ) → namedBy revoke required < 8
 unfolding namedBy
 named-bits true required =
     by-test (ltb required 4)
@@ -37,10 +37,10 @@ named-bits true required =
 named-bits false required = omega arith
 
 -- the tricks begun, with a lead more and with another card more
-begun-leads : (n : ℕ) → n % 4 ≡ 0 → (suc n + 3) / 4 ≡ suc ((n + 3) / 4)
+pub begun-leads : (n : ℕ) → n % 4 ≡ 0 → (suc n + 3) / 4 ≡ suc ((n + 3) / 4)
 begun-leads n e = omega arith
 
-begun-follows : (n : ℕ) → (n % 4 ≡ 0 → ⊥) → (suc n + 3) / 4 ≡ (n + 3) / 4
+pub begun-follows : (n : ℕ) → (n % 4 ≡ 0 → ⊥) → (suc n + 3) / 4 ≡ (n + 3) / 4
 begun-follows n e = omega arith
 
 module _ (deal : List ℕ) (trump opening : ℕ) where
@@ -155,7 +155,7 @@ module _ (deal : List ℕ) (trump opening : ℕ) where
     found-by few lead revokes free fails suit entry el er ex ef es ee low = rw (el, er, ex, ef, es) (found-card few entry ee low)
 
   -- ---- cards alone
-  lead-no-revoke : (g : List ℕ) (c : ℕ) → eqb (cardsInTrick g) 0 ≡ true → isRevoke trump opening deal g c ≡ false
+  pub lead-no-revoke : (g : List ℕ) (c : ℕ) → eqb (cardsInTrick g) 0 ≡ true → isRevoke trump opening deal g c ≡ false
   unfolding isRevoke
   lead-no-revoke g c q = rw q
 

@@ -10,3 +10,4 @@ pub mod TableStands
 pub mod Refusing
 pub mod FailureBytes
 pub mod Listing
+pub mod ListedBytes

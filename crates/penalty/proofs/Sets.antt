@@ -26,7 +26,7 @@ suit-fits (suc (suc (suc (suc s)))) h = absurd (omega arith)
 
 -- ---- two words
 -- one step of two words
-either-bit : (a b : Bool) → max (bitOf a) (bitOf b) ≡ bitOf (a || b)
+pub either-bit : (a b : Bool) → max (bitOf a) (bitOf b) ≡ bitOf (a || b)
 either-bit true true = refl
 either-bit true false = refl
 either-bit false true = refl

@@ -30,6 +30,13 @@ module _ (deal : List ℕ) (trump opening : ℕ) where
   leadsOf (exposed c deliberate ∷ e) = leadsOf e
   leadsOf (choice kind suit ∷ e) = leadsOf e
 
+  -- a bit for each card, the last lowest: 1 for a revoke
+  unfoldable pub bitsOf : List Event → ℕ
+  bitsOf [] = 0
+  bitsOf (played c ∷ e) = bitsOf e * 2 + bitOf (disobeys trump opening deal e c)
+  bitsOf (exposed c deliberate ∷ e) = bitsOf e
+  bitsOf (choice kind suit ∷ e) = bitsOf e
+
   -- a bit for each card, the last lowest: 1 for a revoke that is excused
   unfoldable pub excusedOf : List Event → ℕ
   excusedOf [] = 0

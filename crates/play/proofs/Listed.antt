@@ -100,7 +100,7 @@ bits-low w true = omega arith
 bits-low w false = omega arith
 
 -- what is left of a history without its k latest cards
-drop-next : (k : ℕ) (full g : List ℕ) (c : ℕ) → c ∷ g ≡ drop k full → g ≡ drop (suc k) full
+pub drop-next : (k : ℕ) (full g : List ℕ) (c : ℕ) → c ∷ g ≡ drop k full → g ≡ drop (suc k) full
 drop-next zero [] g c e = absurd (let z : _≡_ {A = ℕ} 0 1 = cc in omega arith)
 drop-next zero (d ∷ full) g c e = cc
 drop-next (suc k) [] g c e = absurd (let z : _≡_ {A = ℕ} 0 1 = cc in omega arith)
