@@ -1,12 +1,12 @@
 -- Which card may be played from a position, case by case. Assumes nothing.
 use Prim.Native.Nat.{ℕ, _/_, _%_, _<_}
-use mathlib.Core.Path.{_≡_, sym, ap, _∙_}
+use mathlib.Core.Path.{_≡_, _∙_}
 use mathlib.Core.Bool.{Bool, true, false, not}
 use borrow.Author.Tests.{lt-leb, eq-eqb, ne-eqb}
 use lib.Dec.{eqb}
 use lib.ListN.{length, getD}
 use native.Mathlib.Omega.{arith}
-use Rattle.laws.specs.Cards.{noSeat, suitOf, dealtTo}
+use Rattle.laws.specs.Cards.{noSeat, dealtTo}
 use Rattle.laws.proofs.Counts.{any-default}
 use Rattle.deal.specs.Hands.{hasSuit}
 use Rattle.play.specs.declared.Play.{Play}

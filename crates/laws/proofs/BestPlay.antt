@@ -1,8 +1,8 @@
 -- By best play each side holds the other to the value: the card that attains it is a plan and a defence at once. Assumes nothing.
-use Prim.Native.Nat.{ℕ, zero, suc, _+_, _-_, _/_, _%_, _≤_, _<_, max, min}
+use Prim.Native.Nat.{ℕ, zero, suc, _+_, _-_, _/_, _≤_, _<_, max, min}
 use native.Mathlib.Omega.{arith}
-use mathlib.Core.Path.{_≡_, refl, sym, ap, _∙_}
-use mathlib.Core.Bool.{Bool, true, false, not, _&&_, _||_}
+use mathlib.Core.Path.{_≡_, refl, ap, _∙_}
+use mathlib.Core.Bool.{Bool, true, false, _&&_}
 use mathlib.Core.List.{List, [], _∷_, _++_}
 use borrow.Author.Tests.{leb-true, leb-false, eqb-true, eqb-false, eq-eqb}
 use lib.Dec.{eqb, leb}
@@ -10,11 +10,10 @@ use lib.ListN.{length}
 use Rattle.laws.specs.Choice.{if_then_else_, howMany, someBelow}
 use Rattle.laws.specs.Cards.{sideOf}
 use Rattle.laws.specs.Law44.{cardsPlayed, cardsInTrick, trickUnderWay, leader, winner, winners, tricksWon, playable}
-use Rattle.laws.specs.Law61.{isRevoke}
 use Rattle.laws.specs.BestPlay.{greatest, smallest, mayPlay, ourTurn, gain, most, least, bestPlay}
 use Rattle.laws.specs.Lines.{Legal, Done, ours, Keeps, Plays}
 use Rattle.laws.proofs.Tests.{by-test, not-both, and-left, and-right, and-both, or-left, or-right}
-use Rattle.laws.proofs.Counts.{many-append, below-some, some-below}
+use Rattle.laws.proofs.Counts.{many-append, below-some}
 use Rattle.laws.proofs.CardRefusals.{playable-dealt}
 
 -- ---- the greatest and the smallest
@@ -206,7 +205,7 @@ module _ (trump opening : ℕ) (deal : List ℕ) (side : ℕ) (g : List ℕ) (al
   bounded (suc left) u ok n =
       let h = u ++ g in
       let each : (c : ℕ) → may h c ≡ true → worthIn left h c ≤ (suc left + cardsInTrick h) / 4 =
-          λ c m. worth-le left h c (bounded left (c ∷ u) (m, ok) (omega arith)) in
+      λ c m. worth-le left h c (bounded left (c ∷ u) (m, ok) (omega arith)) in
       by-test (ourTurn trump opening side h)
       (λ (q : ourTurn trump opening side h ≡ true).
       rw (our-value trump opening deal side left h q) (below-all (may h) (worthIn left h) _ 52 (λ c l m. each c m)))
@@ -230,7 +229,7 @@ module _ (trump opening : ℕ) (deal : List ℕ) (side : ℕ) (g : List ℕ) (al
       let h = u ++ g in
       let some = can u ok (omega arith) in
       let few : (c : ℕ) → may h c ≡ true → worthIn left h c ≤ 13 =
-          λ c m. omega (arith, worth-le left h c (bounded left (c ∷ u) (m, ok) (omega arith))) in
+      λ c m. omega (arith, worth-le left h c (bounded left (c ∷ u) (m, ok) (omega arith))) in
       by-test (ourTurn trump opening side h)
       (λ (q : ourTurn trump opening side h ≡ true). rw (our-value trump opening deal side left h q) (greatest-attained (may h) (worthIn left h) 52 some))
       (λ (q : ourTurn trump opening side h ≡ false). rw (their-value trump opening deal side left h q) (smallest-attained (may h) (worthIn left h) few 52 some))

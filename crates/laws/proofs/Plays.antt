@@ -3,25 +3,24 @@ use Prim.Native.Nat.{ℕ, zero, suc, _+_, _*_, _≤_, _<_}
 use native.Mathlib.Omega.{arith}
 use mathlib.Core.Path.{_≡_, refl, sym, ap, _∙_}
 use mathlib.Core.Bool.{Bool, true, false, not}
-use mathlib.Core.List.{List, [], _∷_, _++_, reverseAux}
+use mathlib.Core.List.{List, [], _∷_, reverseAux}
 use borrow.Author.Tests.{eqb-true, eqb-false, eq-eqb, ne-eqb, not-false}
 use lib.Dec.{eqb}
 use lib.ListN.{length}
 use Rattle.laws.specs.Choice.{if_then_else_}
-use Rattle.laws.specs.Refusals.{accepted, notExposable, choiceNotOpen, tooManyCodes}
+use Rattle.laws.specs.Refusals.{accepted, tooManyCodes}
 use Rattle.laws.specs.CardRefusal.{cardRefusal}
 use Rattle.laws.specs.Law50.{isExposable}
 use Rattle.laws.specs.Law51.{isOpen}
 use Rattle.laws.specs.CodeRefusal.{exposureRefusal, choiceRefusal}
 use Rattle.laws.specs.Events.{Event, played, exposed, choice, cardsOf, codesOf}
-use Rattle.laws.specs.Record.{Field}
-use Rattle.laws.specs.Reading.{numberAt, Reading, Reading.found, read, refuse}
-use Rattle.laws.specs.Plays.{exposureCode, choiceCode, isCode, eventFields, playFields, playPlace, readExposed, readChoice, readCode, readPlays}
+use Rattle.laws.specs.Reading.{numberAt, Reading, Reading.found, read}
+use Rattle.laws.specs.Plays.{isCode, eventFields, playFields, playPlace, readExposed, readChoice, readCode, readPlays}
 use Rattle.laws.specs.Plays.{MayStand, EachStands, cardsAmong, CardsFollow}
-use Rattle.laws.proofs.Tests.{by-test, not-both, or-left, or-right}
+use Rattle.laws.proofs.Tests.{by-test}
 use Rattle.laws.proofs.Bits.{number-lt}
 use Rattle.laws.proofs.Spelled.{Stands}
-use Rattle.laws.proofs.Readings.{refused-found, first-of, first-read, first-test, read-is, test-is}
+use Rattle.laws.proofs.Readings.{first-of, first-read, first-test, read-is, test-is}
 use Rattle.laws.proofs.Exact.{stands-cons, stands-nil, stands-here, stands-fits, stands-rest, stands-end}
 use Rattle.laws.proofs.CardRefusals.{accepted-is, playable-dealt}
 
@@ -274,7 +273,7 @@ module _ (trump opening : ℕ) (deal : List ℕ) (all : length deal ≡ 52) wher
       let k₂ = stands-rest k in
       let k₃ = stands-rest k₂ in
       let is = exposed-goes e c d bytes (at + 6) (each .0)
-          (read-is 6 bytes (at + 6) (stands-here k₂) (stands-fits k₂)) (read-is 1 bytes (at + 6 + 6) (stands-here k₃) (stands-fits k₃)) in
+      (read-is 6 bytes (at + 6) (stands-here k₂) (stands-fits k₂)) (read-is 1 bytes (at + 6 + 6) (stands-here k₃) (stands-fits k₃)) in
       code-goes (cardsAmong plays) left 52 e _ bytes at _ (follow .0) refl (read-is 6 bytes at (stands-here k) (stands-fits k)) is
       ∙ plays-go plays (exposed c d ∷ e) left bytes (at + 6 + 6 + 1) (each .1) (follow .1) (omega arith) (stands-rest k₃)
   plays-go (choice kind suit ∷ plays) e zero bytes at each follow few k = absurd (omega arith)
@@ -282,6 +281,6 @@ module _ (trump opening : ℕ) (deal : List ℕ) (all : length deal ≡ 52) wher
       let k₂ = stands-rest k in
       let k₃ = stands-rest k₂ in
       let is = choice-goes e kind suit bytes (at + 6) (each .0)
-          (read-is 2 bytes (at + 6) (stands-here k₂) (stands-fits k₂)) (read-is 2 bytes (at + 6 + 2) (stands-here k₃) (stands-fits k₃)) in
+      (read-is 2 bytes (at + 6) (stands-here k₂) (stands-fits k₂)) (read-is 2 bytes (at + 6 + 2) (stands-here k₃) (stands-fits k₃)) in
       code-goes (cardsAmong plays) left 53 e _ bytes at _ (follow .0) refl (read-is 6 bytes at (stands-here k) (stands-fits k)) is
       ∙ plays-go plays (choice kind suit ∷ e) left bytes (at + 6 + 2 + 2) (each .1) (follow .1) (omega arith) (stands-rest k₃)

@@ -1,5 +1,5 @@
--- Lines of cards that go on from an ending, plans of declarer's side and defences of the other, by Laws 44 and 61 alone. The ending is the play after the cards g;
--- a line is the cards played after them, and like every history it has the latest card first.
+-- Lines of cards that go on from an ending, plans of declarer's side and defences of the other, by Laws 44 and 61 alone. The ending is the play after the
+-- cards g; a line is the cards played after them, and like every history it has the latest card first.
 -- `trump` is the contract's strain, `opening` the seat that led first, `side` declarer's side.
 -- Assumes nothing.
 use Prim.Native.Nat.{ℕ, zero, suc, _-_, _<_}

@@ -81,7 +81,7 @@ module _ (trump opening : ℕ) (deal : List ℕ) where
   readPlays (suc n) (suc left) e = do
     code ← read 6
     if isCode code then (readCode code e >>= readPlays (suc n) left)
-      else (refuseBy (cardRefusal trump opening deal (cardsOf e) code) e >> readPlays n (suc left) (played code ∷ e))
+        else (refuseBy (cardRefusal trump opening deal (cardsOf e) code) e >> readPlays n (suc left) (played code ∷ e))
 
 -- ---- lawful plays
 module _ (trump opening : ℕ) (deal : List ℕ) where

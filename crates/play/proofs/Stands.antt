@@ -97,7 +97,7 @@ module _ (deal : List ℕ) (trump opening : ℕ) (all : length deal ≡ 52) wher
         ∙ sym now)
 
     -- whether it has a card of the suit led
-    could-is : AllPlayed deal trump opening g → couldFollow p ≡ holdsSuit deal g (toPlay trump opening g) (p .led % 4)
+    pub could-is : AllPlayed deal trump opening g → couldFollow p ≡ holdsSuit deal g (toPlay trump opening g) (p .led % 4)
     unfolding couldFollow
     could-is w =
         let seat = toPlay trump opening g in
@@ -113,7 +113,7 @@ module _ (deal : List ℕ) (trump opening : ℕ) (all : length deal ≡ 52) wher
   led-low (suc (suc n)) (c ∷ []) w = omega (arith, fair trump opening deal [] c (w .0) .code)
   led-low (suc (suc n)) (c ∷ d ∷ g) w = led-low (suc n) (d ∷ g) (w .1)
 
-  under-way-low : (g : List ℕ) → AllPlayed deal trump opening g → suitLed (trickUnderWay g) < 4
+  pub under-way-low : (g : List ℕ) → AllPlayed deal trump opening g → suitLed (trickUnderWay g) < 4
   unfolding trickUnderWay
   under-way-low g w = led-low (cardsInTrick g) g w
 

@@ -4,19 +4,17 @@ use native.Mathlib.Omega.{arith}
 use mathlib.Core.Path.{_≡_, refl, sym, _∙_}
 use mathlib.Core.Bool.{Bool, true, false, not, _&&_}
 use mathlib.Core.List.{List, [], _∷_, _++_}
-use borrow.Author.Tests.{eqb-true, not-true}
 use lib.Dec.{eqb}
-use lib.ListN.{length, getD}
+use lib.ListN.{length}
 use Rattle.laws.specs.Choice.{someBelow, howMany}
-use Rattle.laws.specs.Refusals.{accepted}
-use Rattle.laws.specs.Cards.{noSeat, cardsDealt, dealtTo}
+use Rattle.laws.specs.Cards.{noSeat, cardsDealt}
 use Rattle.laws.specs.Law44.{cardsPlayed, tricksComplete, cardsInTrick, trickUnderWay, suitLed, isOf, toPlay, holds, playable}
 use Rattle.laws.specs.Law61.{holdsSuit, isRevoke}
 use Rattle.laws.specs.BestPlay.{mayPlay, bestPlay}
 use Rattle.laws.specs.Lines.{Legal, Done, Keeps, Plan, Defence, playedBy}
-use Rattle.laws.proofs.Tests.{by-test, and-left, and-right, and-both}
+use Rattle.laws.proofs.Tests.{by-test, and-left, and-right}
 use Rattle.laws.proofs.Counts.{many-place, below-some, some-below}
-use Rattle.laws.proofs.CardRefusals.{accepted-is, playable-dealt}
+use Rattle.laws.proofs.CardRefusals.{accepted-is}
 use Rattle.laws.proofs.BestPlay.{bestCard, plays-best, reaches, holds-to}
 use Rattle.laws.proofs.PlayedOut.{keeps-plan, keeps-defence, legal-done}
 use Rattle.play.specs.History.{AllPlayed, holdersOf}
@@ -34,7 +32,7 @@ module _ (trump opening : ℕ) (deal : List ℕ) (all : length deal ≡ 52) (dea
       let seat = toPlay trump opening h in
       let low = turn-seat trump opening h in
       let some : 0 < howMany (λ holder. eqb holder seat) (holdersOf deal trump opening h) =
-          omega (arith, thirteen-less deal trump opening all seat h low w, turn-plays deal trump opening all dealt h, dealt seat low) in
+      omega (arith, thirteen-less deal trump opening all seat h low w, turn-plays deal trump opening all dealt h, dealt seat low) in
       let p = many-place (λ holder. eqb holder seat) noSeat (holdersOf deal trump opening h) some in
       (p .0, omega (arith, p .1, holders-52 deal trump opening all h), sym (holds-law deal trump opening all h w seat (p .0) low) ∙ p .2)
 

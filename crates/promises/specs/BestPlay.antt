@@ -1,5 +1,5 @@
--- What best play would give (request 113): some plan of declarer's side reaches the number against every defence, and some defence holds every plan to it. Lines,
--- plans and defences are those of `laws/specs/Lines`, by Laws 44 and 61 alone; the number is `laws/specs/BestPlay`'s.
+-- What best play would give: some plan of declarer's side reaches the number against every defence, and some defence holds every plan to it. Lines, plans
+-- and defences are those of `laws/specs/Lines`, by Laws 44 and 61 alone; the number is `laws/specs/BestPlay`'s.
 -- Assumes nothing.
 use Prim.Native.Nat.{ℕ, _≤_, _<_}
 use mathlib.Core.Path.{_≡_}

@@ -1,6 +1,6 @@
 -- `most` and `least` meet their contracts, by the cards left. Assumes nothing.
 use Prim.Native.Nat.{ℕ, _+_, _-_, _<_, _≤_}
-use mathlib.Core.Path.{_≡_, sym, ap, _∙_}
+use mathlib.Core.Path.{_≡_, ap, _∙_}
 use native.Mathlib.Omega.{arith}
 use borrow.Author.Needs.{needs}
 use Rattle.laws.specs.BestPlay.{greatest, smallest}
@@ -289,8 +289,8 @@ least-loop-again t c =
     let a = l .before .before .args in (
       omega arith,
       less-with (a .side) (a .left - 1) (a .p) (l .loop .card) (l .loop .best) (l .loop .inv .1) (q .may-play .ensures) (o .before .before .before .if2 .taken)
-      (o .before .before .play .ensures) (o .before .gain .ensures .0) (our-turn (a .side) (a .left - 1) _ (o .is-ours .ensures) (m .before .if3 .taken) (m .most .ensures .0))
-      (c .less .ensures),
+          (o .before .before .play .ensures) (o .before .gain .ensures .0) (our-turn (a .side) (a .left - 1) _ (o .is-ours .ensures) (m .before .if3 .taken) (m .most .ensures .0))
+          (c .less .ensures),
       omega (arith, c .less .ensures, m .most .ensures .1, o .before .gain .ensures .1, l .loop .inv .2),
     )
 
@@ -408,8 +408,8 @@ least-loop-again-2 t c =
     let a = l .before .before .args in (
       omega arith,
       less-with (a .side) (a .left - 1) (a .p) (l .loop .card) (l .loop .best) (l .loop .inv .1) (q .may-play .ensures) (o .before .before .before .if2 .taken)
-      (o .before .before .play .ensures) (o .before .gain .ensures .0) (their-turn (a .side) (a .left - 1) _ (o .is-ours .ensures) (m .before .if3 .left) (m .least .ensures .0))
-      (c .less2 .ensures),
+          (o .before .before .play .ensures) (o .before .gain .ensures .0) (their-turn (a .side) (a .left - 1) _ (o .is-ours .ensures) (m .before .if3 .left) (m .least .ensures .0))
+          (c .less2 .ensures),
       omega (arith, c .less2 .ensures, m .least .ensures .1, o .before .gain .ensures .1, l .loop .inv .2),
     )
 
@@ -451,7 +451,8 @@ least-loop-again-3 t c =
     let q = c .before in
     let l = q .before .before in
     let a = l .before .before .args in
-    (omega arith, less-without (a .side) (a .left - 1) (a .p) (l .loop .card) (l .loop .best) (l .loop .inv .1) (q .may-play .ensures) (c .if2 .left), l .loop .inv .2)
+    let same = less-without (a .side) (a .left - 1) (a .p) (l .loop .card) (l .loop .best) (l .loop .inv .1) (q .may-play .ensures) (c .if2 .left) in
+    (omega arith, same, l .loop .inv .2)
 
 least-returns-2 : (t : ℕ) → least-lts.Need-returns-2 (
   may-play-reads.Asked,
@@ -473,7 +474,8 @@ least-returns-2 t c =
     let l = c .before in
     let a = l .before .before .args in
     let e : l .loop .card ≡ 52 = omega arith in
-    (l .loop .inv .1 ∙ ap (smallest (mayIn (a .p)) (worthIn (a .side) (a .left - 1) (a .p))) e ∙ least-all (a .side) (a .left) (a .p) (l .before .if1 .left), l .loop .inv .2)
+    let all = l .loop .inv .1 ∙ ap (smallest (mayIn (a .p)) (worthIn (a .side) (a .left - 1) (a .p))) e in
+    (all ∙ least-all (a .side) (a .left) (a .p) (l .before .if1 .left), l .loop .inv .2)
 
 abbrev most-Inv-loop : most-lts.InvT-loop
 most-Inv-loop p side left best₀ card₀ best card =
@@ -722,8 +724,8 @@ most-loop-again t c =
     let a = l .before .before .args in (
       omega arith,
       more-with (a .side) (a .left - 1) (a .p) (l .loop .card) (l .loop .best) (l .loop .inv .1) (q .may-play .ensures) (o .before .before .before .if2 .taken)
-      (o .before .before .play .ensures) (o .before .gain .ensures .0) (our-turn (a .side) (a .left - 1) _ (o .is-ours .ensures) (m .before .if3 .taken) (m .most .ensures .0))
-      (c .more .ensures),
+          (o .before .before .play .ensures) (o .before .gain .ensures .0) (our-turn (a .side) (a .left - 1) _ (o .is-ours .ensures) (m .before .if3 .taken) (m .most .ensures .0))
+          (c .more .ensures),
       omega (arith, c .more .ensures, m .most .ensures .1, o .before .gain .ensures .1, l .loop .inv .2),
     )
 
@@ -841,8 +843,8 @@ most-loop-again-2 t c =
     let a = l .before .before .args in (
       omega arith,
       more-with (a .side) (a .left - 1) (a .p) (l .loop .card) (l .loop .best) (l .loop .inv .1) (q .may-play .ensures) (o .before .before .before .if2 .taken)
-      (o .before .before .play .ensures) (o .before .gain .ensures .0) (their-turn (a .side) (a .left - 1) _ (o .is-ours .ensures) (m .before .if3 .left) (m .least .ensures .0))
-      (c .more2 .ensures),
+          (o .before .before .play .ensures) (o .before .gain .ensures .0) (their-turn (a .side) (a .left - 1) _ (o .is-ours .ensures) (m .before .if3 .left) (m .least .ensures .0))
+          (c .more2 .ensures),
       omega (arith, c .more2 .ensures, m .least .ensures .1, o .before .gain .ensures .1, l .loop .inv .2),
     )
 
@@ -884,7 +886,8 @@ most-loop-again-3 t c =
     let q = c .before in
     let l = q .before .before in
     let a = l .before .before .args in
-    (omega arith, more-without (a .side) (a .left - 1) (a .p) (l .loop .card) (l .loop .best) (l .loop .inv .1) (q .may-play .ensures) (c .if2 .left), l .loop .inv .2)
+    let same = more-without (a .side) (a .left - 1) (a .p) (l .loop .card) (l .loop .best) (l .loop .inv .1) (q .may-play .ensures) (c .if2 .left) in
+    (omega arith, same, l .loop .inv .2)
 
 most-returns-2 : (t : ℕ) → most-lts.Need-returns-2 (
   may-play-reads.Asked,
@@ -906,7 +909,8 @@ most-returns-2 t c =
     let l = c .before in
     let a = l .before .before .args in
     let e : l .loop .card ≡ 52 = omega arith in
-    (l .loop .inv .1 ∙ ap (greatest (mayIn (a .p)) (worthIn (a .side) (a .left - 1) (a .p))) e ∙ most-all (a .side) (a .left) (a .p) (l .before .if1 .left), l .loop .inv .2)
+    let all = l .loop .inv .1 ∙ ap (greatest (mayIn (a .p)) (worthIn (a .side) (a .left - 1) (a .p))) e in
+    (all ∙ most-all (a .side) (a .left) (a .p) (l .before .if1 .left), l .loop .inv .2)
 
 pub +least+most-spec : {M : Type 1} → statement M
 +least+most-spec = close μ-least μ-most (λ t. least-lts.spec (
