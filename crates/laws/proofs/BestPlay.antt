@@ -154,7 +154,8 @@ module _ (trump opening : ℕ) (deal : List ℕ) (side : ℕ) where
   unfolding most
   our-value left h q = rw q
 
-  their-value : (left : ℕ) (h : List ℕ) → ourTurn trump opening side h ≡ false → valueOf (suc left) h ≡ smallest (mayPlay trump opening deal h) (worth left h) 52
+  their-value : (left : ℕ) (h : List ℕ) → ourTurn trump opening side h ≡ false
+      → valueOf (suc left) h ≡ smallest (mayPlay trump opening deal h) (worth left h) 52
   unfolding least
   their-value left h q = rw q
 
@@ -293,7 +294,8 @@ module _ (trump opening : ℕ) (deal : List ℕ) (side : ℕ) (g : List ℕ) (al
         no-more
         (λ (q : ourTurn trump opening side (u ++ g) ≡ false). omega (arith, as-best (k q)))
 
-  -- along a line that keeps the plan the tricks won and the value never fall below the ending's value; along one that keeps the defence they never rise above it
+  -- along a line that keeps the plan the tricks won and the value never fall below the ending's value; along one that keeps the defence they never rise
+  -- above it
   up-to : (u : List ℕ) → Legal trump opening deal g u → Keeps trump opening side g true bestCard u → cardsPlayed (u ++ g) ≤ 52
       → start ≤ ours trump opening side g u + hence u
   unfolding Legal Keeps cardsPlayed

@@ -31,8 +31,8 @@ module _ (trump opening side : ℕ) (g : List ℕ) where
   Keeps ourside f (c ∷ u) = (ourTurn trump opening side (u ++ g) ≡ ourside → c ≡ f u) × Keeps ourside f u
 
 module _ (trump opening : ℕ) (deal : List ℕ) (side : ℕ) (g : List ℕ) where
-  -- a plan of declarer's side (true), or a defence of the other (false): for each legal line that is not done and after which that side is at turn, the card that
-  -- is named may be played
+  -- a plan of declarer's side (true), or a defence of the other (false): for each legal line that is not done and after which that side is at turn, the card
+  -- that is named may be played
   unfoldable pub Plays : Bool → (List ℕ → ℕ) → Type 0
   Plays ourside f =
       (u : List ℕ) → Legal trump opening deal g u → cardsPlayed (u ++ g) < 52 → ourTurn trump opening side (u ++ g) ≡ ourside

@@ -289,7 +289,8 @@ least-loop-again t c =
     let a = l .before .before .args in (
       omega arith,
       less-with (a .side) (a .left - 1) (a .p) (l .loop .card) (l .loop .best) (l .loop .inv .1) (q .may-play .ensures) (o .before .before .before .if2 .taken)
-          (o .before .before .play .ensures) (o .before .gain .ensures .0) (our-turn (a .side) (a .left - 1) _ (o .is-ours .ensures) (m .before .if3 .taken) (m .most .ensures .0))
+          (o .before .before .play .ensures) (o .before .gain .ensures .0)
+      (our-turn (a .side) (a .left - 1) _ (o .is-ours .ensures) (m .before .if3 .taken) (m .most .ensures .0))
           (c .less .ensures),
       omega (arith, c .less .ensures, m .most .ensures .1, o .before .gain .ensures .1, l .loop .inv .2),
     )
@@ -408,7 +409,8 @@ least-loop-again-2 t c =
     let a = l .before .before .args in (
       omega arith,
       less-with (a .side) (a .left - 1) (a .p) (l .loop .card) (l .loop .best) (l .loop .inv .1) (q .may-play .ensures) (o .before .before .before .if2 .taken)
-          (o .before .before .play .ensures) (o .before .gain .ensures .0) (their-turn (a .side) (a .left - 1) _ (o .is-ours .ensures) (m .before .if3 .left) (m .least .ensures .0))
+          (o .before .before .play .ensures) (o .before .gain .ensures .0)
+      (their-turn (a .side) (a .left - 1) _ (o .is-ours .ensures) (m .before .if3 .left) (m .least .ensures .0))
           (c .less2 .ensures),
       omega (arith, c .less2 .ensures, m .least .ensures .1, o .before .gain .ensures .1, l .loop .inv .2),
     )
@@ -724,7 +726,8 @@ most-loop-again t c =
     let a = l .before .before .args in (
       omega arith,
       more-with (a .side) (a .left - 1) (a .p) (l .loop .card) (l .loop .best) (l .loop .inv .1) (q .may-play .ensures) (o .before .before .before .if2 .taken)
-          (o .before .before .play .ensures) (o .before .gain .ensures .0) (our-turn (a .side) (a .left - 1) _ (o .is-ours .ensures) (m .before .if3 .taken) (m .most .ensures .0))
+          (o .before .before .play .ensures) (o .before .gain .ensures .0)
+      (our-turn (a .side) (a .left - 1) _ (o .is-ours .ensures) (m .before .if3 .taken) (m .most .ensures .0))
           (c .more .ensures),
       omega (arith, c .more .ensures, m .most .ensures .1, o .before .gain .ensures .1, l .loop .inv .2),
     )
@@ -843,7 +846,8 @@ most-loop-again-2 t c =
     let a = l .before .before .args in (
       omega arith,
       more-with (a .side) (a .left - 1) (a .p) (l .loop .card) (l .loop .best) (l .loop .inv .1) (q .may-play .ensures) (o .before .before .before .if2 .taken)
-          (o .before .before .play .ensures) (o .before .gain .ensures .0) (their-turn (a .side) (a .left - 1) _ (o .is-ours .ensures) (m .before .if3 .left) (m .least .ensures .0))
+          (o .before .before .play .ensures) (o .before .gain .ensures .0)
+      (their-turn (a .side) (a .left - 1) _ (o .is-ours .ensures) (m .before .if3 .left) (m .least .ensures .0))
           (c .more2 .ensures),
       omega (arith, c .more2 .ensures, m .least .ensures .1, o .before .gain .ensures .1, l .loop .inv .2),
     )
