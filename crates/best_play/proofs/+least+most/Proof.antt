@@ -290,7 +290,7 @@ least-loop-again t c =
       omega arith,
       less-with (a .side) (a .left - 1) (a .p) (l .loop .card) (l .loop .best) (l .loop .inv .1) (q .may-play .ensures) (o .before .before .before .if2 .taken)
           (o .before .before .play .ensures) (o .before .gain .ensures .0)
-      (our-turn (a .side) (a .left - 1) _ (o .is-ours .ensures) (m .before .if3 .taken) (m .most .ensures .0))
+          (our-turn (a .side) (a .left - 1) _ (o .is-ours .ensures) (m .before .if3 .taken) (m .most .ensures .0))
           (c .less .ensures),
       omega (arith, c .less .ensures, m .most .ensures .1, o .before .gain .ensures .1, l .loop .inv .2),
     )
@@ -410,7 +410,7 @@ least-loop-again-2 t c =
       omega arith,
       less-with (a .side) (a .left - 1) (a .p) (l .loop .card) (l .loop .best) (l .loop .inv .1) (q .may-play .ensures) (o .before .before .before .if2 .taken)
           (o .before .before .play .ensures) (o .before .gain .ensures .0)
-      (their-turn (a .side) (a .left - 1) _ (o .is-ours .ensures) (m .before .if3 .left) (m .least .ensures .0))
+          (their-turn (a .side) (a .left - 1) _ (o .is-ours .ensures) (m .before .if3 .left) (m .least .ensures .0))
           (c .less2 .ensures),
       omega (arith, c .less2 .ensures, m .least .ensures .1, o .before .gain .ensures .1, l .loop .inv .2),
     )
@@ -727,7 +727,7 @@ most-loop-again t c =
       omega arith,
       more-with (a .side) (a .left - 1) (a .p) (l .loop .card) (l .loop .best) (l .loop .inv .1) (q .may-play .ensures) (o .before .before .before .if2 .taken)
           (o .before .before .play .ensures) (o .before .gain .ensures .0)
-      (our-turn (a .side) (a .left - 1) _ (o .is-ours .ensures) (m .before .if3 .taken) (m .most .ensures .0))
+          (our-turn (a .side) (a .left - 1) _ (o .is-ours .ensures) (m .before .if3 .taken) (m .most .ensures .0))
           (c .more .ensures),
       omega (arith, c .more .ensures, m .most .ensures .1, o .before .gain .ensures .1, l .loop .inv .2),
     )
@@ -847,7 +847,7 @@ most-loop-again-2 t c =
       omega arith,
       more-with (a .side) (a .left - 1) (a .p) (l .loop .card) (l .loop .best) (l .loop .inv .1) (q .may-play .ensures) (o .before .before .before .if2 .taken)
           (o .before .before .play .ensures) (o .before .gain .ensures .0)
-      (their-turn (a .side) (a .left - 1) _ (o .is-ours .ensures) (m .before .if3 .left) (m .least .ensures .0))
+          (their-turn (a .side) (a .left - 1) _ (o .is-ours .ensures) (m .before .if3 .left) (m .least .ensures .0))
           (c .more2 .ensures),
       omega (arith, c .more2 .ensures, m .least .ensures .1, o .before .gain .ensures .1, l .loop .inv .2),
     )
