@@ -59,3 +59,9 @@ pub due-other : (p : Penalty) (t : Turn) (card : ℕ) {obeying played : ℕ} {du
     → due ≡ meets obeying (p .major) → due ≡ true → this ≡ meets (bitAnd obeying (p .major)) played → not this ≡ against50D1 p t card
 unfolding against50D1
 due-other p t card eo ep ed d et = rw (et, ep, ← eo, ← ed, d)
+
+-- a penalty card of the seat that obeys
+pub excused-by : (p : Penalty) (t : Turn) {obeying : ℕ} {free : Bool} → obeying ≡ obeyingIn p t → free ≡ meets obeying (bitAnd (p .faced) (t .hand))
+    → free ≡ excusedIn p t
+unfolding excusedIn
+excused-by p t eo ef = rw (ef, eo)
