@@ -37,3 +37,4 @@ pub mod BestTotal
 pub mod Lengths
 pub mod FirstBytes
 pub mod Slip
+pub mod TallyRules

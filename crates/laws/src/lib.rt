@@ -74,6 +74,9 @@ pub const SHORT_RECORD_BUFFER: u8 = 22;
 // Law 44: a card that the seat at turn has played already.
 pub const CARD_ALREADY_PLAYED: u8 = 23;
 
+// Law 87: a fouled board, results of two deals under one number.
+pub const FOULED_BOARD: u8 = 28;
+
 // A board of a team match that is outside 1 to 127, or was used already.
 pub const BOARD_NOT_FREE: u8 = 29;
 
