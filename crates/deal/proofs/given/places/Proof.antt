@@ -5,10 +5,10 @@ use native.Mathlib.Numerals.{add-one}
 use native.Mathlib.Omega.{arith}
 use lib.ListN.{length, take, length-set}
 use lib.Seq.{take-suc-set, take-suc}
-use Rattle.writer.proofs.Checks.{same-52}
+use Rattle.deal.proofs.Taking.{same-52}
 use borrow.Author.Needs.{needs}
-use Rattle.writer.proofs.sections.places.Statement.{statement}
-use Rattle.writer.proofs.sections.places.Tie as tie
+use Rattle.deal.proofs.given.places.Statement.{statement}
+use Rattle.deal.proofs.given.places.Tie as tie
 
 abbrev Inv-loop : tie.InvT-loop
 Inv-loop holders row₀ i₀ row i = (i ≤ 52) × (length row ≡ 52) × (take i row ≡ take i holders)
