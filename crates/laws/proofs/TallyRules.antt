@@ -134,6 +134,9 @@ module _ (d : List ℕ) where
   unfolding dealRefusal
   thirteen-deal t = rw (deal-passes d 0 (t .holders) (t .holder) (t .cards))
 
+  pub deal-read : dealRefusal d .number ≡ 0 → takeDeal d [] 0 ≡ found tt 0
+  deal-read z = let t = deal-thirteen z in deal-passes d 0 (t .holders) (t .holder) (t .cards)
+
   pub deal-clear : Clear (dealRefusal d)
   deal-clear z = ap (λ (r : Refusal). r .place) (thirteen-deal (deal-thirteen z))
 
@@ -172,10 +175,7 @@ unfolding OneDeal
 on-deal d [] o = refl
 on-deal d (r ∷ l) o = ap₂ (λ (e : List ℕ) (k : List Result). record { score = r .score; deal = e } ∷ k) (o .0) (on-deal d l (o .1))
 
--- two lists of results, so many each, on two deals: both have one, and the deals differ
-abbrev pub apart : ℕ → ℕ → List ℕ → List ℕ → Bool
-apart n m d e = not (eqb n 0) && (not (eqb m 0) && not (sameDeal d e))
-
+-- two lists of results on two deals: both have one, and the deals differ
 some-on : (test : Result → Bool) (b : Bool) (d : List ℕ) (l : List ℤ) → ((s : ℤ) → test (record { score = s; deal = d }) ≡ b)
     → some test (onDeal d l) ≡ (not (eqb (length l) 0) && b)
 unfolding some
@@ -187,7 +187,8 @@ some-on test b d (s ∷ l) h = rw (h s, some-on test b d l h, ne-eqb (suc (lengt
     absorbed false true = refl
     absorbed false false = refl
 
-pub fouled-on : (d : List ℕ) (l : List ℤ) (e : List ℕ) (m : List ℤ) → fouled (onDeal d l) (onDeal e m) ≡ apart (length l) (length m) d e
+pub fouled-on : (d : List ℕ) (l : List ℤ) (e : List ℕ) (m : List ℤ) → fouled (onDeal d l) (onDeal e m)
+    ≡ (not (eqb (length l) 0) && (not (eqb (length m) 0) && not (sameDeal d e)))
 unfolding fouled
 fouled-on d l e m =
     some-on (λ (r : Result). some (λ (q : Result). not (sameDeal (r .deal) (q .deal))) (onDeal e m)) (not (eqb (length m) 0) && not (sameDeal d e)) d l
