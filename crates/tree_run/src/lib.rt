@@ -78,7 +78,7 @@ fn call_in(line: Line) -> Call
     ensures { λ r. ⌜ r ≡ callIn line ⌝ }
 {
     let n = line.length;
-    if 19 < n {
+    if 20 < n {
         return Call::Unreadable;
     }
     let bytes = line.bytes;
