@@ -194,6 +194,15 @@ fouled-on d l e m =
     some-on (λ (r : Result). some (λ (q : Result). not (sameDeal (r .deal) (q .deal))) (onDeal e m)) (not (eqb (length m) 0) && not (sameDeal d e)) d l
     (λ s. some-on (λ (q : Result). not (sameDeal d (q .deal))) (not (sameDeal d e)) e m (λ z. refl))
 
+-- results of one deal do not foul the board
+pub none-fouled : (d : List ℕ) (l m : List ℤ) → fouled (onDeal d l) (onDeal d m) ≡ false
+none-fouled d l m = fouled-on d l d m ∙ rw (deal-self d) (either (not (eqb (length l) 0)) (not (eqb (length m) 0)))
+  where
+    either : (a b : Bool) → (a && (b && false)) ≡ false
+    either true true = refl
+    either true false = refl
+    either false b = refl
+
 -- ---- none refused
 module _ (l : List Result) (r : Result) where
   pub given-allowed : givenRefusal l r .number ≡ 0 → (validScore (r .score) ≡ true) × (dealRefusal (r .deal) .number ≡ 0) × (fouled l (r ∷ []) ≡ false)
@@ -229,6 +238,11 @@ module _ (l : List Result) (r : Result) where
   pub add-clear : Clear (addRefusal l r)
   unfolding addRefusal roomRefusal
   add-clear = clear-or (givenRefusal l r) (roomRefusal (length l) 1) given-clear (λ z. refl)
+
+-- a valid score on the list's deal
+pub given-on : (d : List ℕ) (l : List ℤ) (s : ℤ) → validScore s ≡ true → dealRefusal d .number ≡ 0
+    → givenRefusal (onDeal d l) (record { score = s; deal = d }) ≡ refusal 0
+given-on d l s v z = allowed-given (onDeal d l) (record { score = s; deal = d }) v z (none-fouled d l (s ∷ []))
 
 module _ (b : ℕ) (l : List Result) (d : ℕ) (m : List Result) where
   pub merge-allowed : mergeRefusal b l d m .number ≡ 0 → (b ≡ d) × (fouled l m ≡ false) × (length l + length m ≤ 128)

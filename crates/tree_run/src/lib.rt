@@ -64,7 +64,7 @@ fn is_stopped(said: Said) -> bool
 {
     match said {
         Said::Done => false,
-        Said::Refused(_) => false,
+        Said::Refused(_, _) => false,
         Said::Points(_, _) => false,
         Said::Played(_) => false,
         Said::Awarded(_) => false,

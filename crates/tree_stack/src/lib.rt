@@ -39,7 +39,7 @@ pub struct Step {
 }
 
 // The deal in which North has the clubs, East the diamonds, South the hearts and West the spades.
-const SUITS: [u8; 52] = [
+pub const SUITS: [u8; 52] = [
     0, 0, 0, 0, 0, 0, 0, 0, 0, 0, 0, 0, 0,
     1, 1, 1, 1, 1, 1, 1, 1, 1, 1, 1, 1, 1,
     2, 2, 2, 2, 2, 2, 2, 2, 2, 2, 2, 2, 2,
