@@ -38,3 +38,4 @@ pub mod Lengths
 pub mod FirstBytes
 pub mod Slip
 pub mod TallyRules
+pub mod OneDeal

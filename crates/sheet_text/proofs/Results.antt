@@ -26,11 +26,11 @@ use Rattle.laws.proofs.Tests.{by-test, and-right}
 use Rattle.tally.specs.declared.Tally.{Tally}
 use Rattle.tally.specs.declared.Tallied.{Tallied}
 use Rattle.tally.specs.Entries.{entriesOf}
-use Rattle.tally.specs.Tallies.{entriesIn, tallyFor, tallyOf, scoresIn, carries, wellFormed, refusedWith, accepting, freshOf, addOf, answerOf}
+use Rattle.tally.specs.Tallies.{entriesIn, tallyFor, tallyOf, scoresIn, carries, wellFormed, freshOf, addOf, answerOf}
 use Rattle.tally.proofs.Dealing.{carried-deal, carried-none}
 use Rattle.tally.proofs.Formed.{formed, entries-scores}
 use Rattle.tally.proofs.Lists.{valid-append}
-use Rattle.tally.proofs.OfLists.{Sound, is-well, add-list}
+use Rattle.tally.proofs.OfLists.{Sound, is-well, answer-number, answer-made, add-list}
 use Rattle.tally.proofs.Tables.{table-tally, cell-table-tally}
 use Rattle.tree_stack.specs.Deals.{suits}
 use Rattle.sheet_text.specs.declared.Said.{Said}
@@ -106,18 +106,6 @@ said-nothing line e =
     (λ (q : isScore line ≡ true). absurd (let z : _≡_ {A = ℕ} 0 1 = cc (rw q at e) in omega arith))
     (λ (q : isScore line ≡ false). q)
 
-its-refusal : (r : Refusal) (made : Tally) → answerOf r made .refusal ≡ r .number
-unfolding answerOf leaves
-its-refusal r made = go (r .number) (refusedWith r) refl
-  where
-    go : (n : ℕ) (other : Tallied) → other .refusal ≡ n → leaves n (accepting made) other .refusal ≡ n
-    go zero other e = refl
-    go (suc n) other e = e
-
-its-tally : (r : Refusal) (made : Tally) → r .number ≡ 0 → answerOf r made .tally ≡ made
-unfolding answerOf leaves
-its-tally r made z = rw z
-
 module _ (bytes : List ℕ) (t : Tally) (k at : ℕ) (w : Read bytes t k at) where
   pub few : k ≤ 128
   few = omega (arith, w .count, w .sound .room)
@@ -177,7 +165,7 @@ module _ (bytes : List ℕ) (t : Tally) (k at : ℕ) (w : Read bytes t k at) whe
       answer = rw (w .is) (add-list 1 (carried (w .so-far)) (w .so-far) (w .sound) result ∙ rw (on-carried (w .so-far)))
 
       number : addOf t result .refusal ≡ its-number .number
-      number = rw answer (its-refusal its-number (tallyFor 1 suits (w .so-far ++ (s ∷ []))))
+      number = rw answer (answer-number its-number (tallyFor 1 suits (w .so-far ++ (s ∷ []))))
 
       few-lines : length (onDeal suits (w .so-far)) ≡ k
       few-lines = length-on suits (w .so-far) ∙ sym (w .count)
@@ -208,7 +196,7 @@ module _ (bytes : List ℕ) (t : Tally) (k at : ℕ) (w : Read bytes t k at) whe
             rw (add-one k)
             (record {
               so-far = l;
-              is = rw (added, answer, last) (its-tally its-number (tallyFor 1 suits l) fine);
+              is = rw (added, answer, last) (answer-made its-number (tallyFor 1 suits l) fine);
               sound =
                   record {
                     board = w .sound .board;

@@ -13,3 +13,4 @@ pub mod Tables
 pub mod Told
 pub mod Checking
 pub mod Dealing
+pub mod Kept

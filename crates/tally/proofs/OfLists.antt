@@ -1,7 +1,7 @@
 -- The calls at the tallies of scores on one deal: each does to the tally what the rules of docs/RULES.md for trees do to the list. Assumes nothing.
 use Prim.Native.Nat.{ℕ, zero, suc, _≤_}
 use native.Mathlib.Omega.{arith}
-use mathlib.Core.Path.{_≡_, refl, ap, _∙_}
+use mathlib.Core.Path.{_≡_, refl, sym, ap, _∙_}
 use mathlib.Core.Bool.{Bool, true}
 use mathlib.Core.List.{List, [], _∷_, _++_}
 use lib.IntN.{ℤ}
@@ -14,6 +14,7 @@ use Rattle.laws.proofs.Counts.{many-append}
 use Rattle.laws.proofs.TallyRules.{scores-on, length-on, fouled-on, given-allowed, add-allowed}
 use Rattle.laws.proofs.Comparisons.{same-points}
 use Rattle.tally.specs.declared.Tally.{Tally}
+use Rattle.tally.specs.declared.Tallied.{Tallied}
 use Rattle.tally.specs.Tallies.{tallyWith, tallyFor, tallyOf, entriesIn, scoresIn, carries, wellFormed}
 use Rattle.tally.specs.Tallies.{refusedWith, accepting, answerOf, addOf, mergeOf}
 use Rattle.tally.specs.Points.{matchpointsOf}
@@ -55,6 +56,45 @@ answer-by r x y h = left-by (r .number) h
     left-by : (n : ℕ) → (n ≡ 0 → x ≡ y) → leaves n (accepting x) (refusedWith r) ≡ leaves n (accepting y) (refusedWith r)
     left-by zero h = ap accepting (h refl)
     left-by (suc n) h = refl
+
+-- an answer's number, its place and its tally; and what a call leaves by its answer
+module _ (f : Refusal) (made : Tally) where
+  pub answer-number : answerOf f made .refusal ≡ f .number
+  unfolding answerOf leaves
+  answer-number = go (f .number) (refusedWith f) refl
+    where
+      go : (n : ℕ) (other : Tallied) → other .refusal ≡ n → leaves n (accepting made) other .refusal ≡ n
+      go zero other e = refl
+      go (suc n) other e = e
+
+  pub answer-place : (f .number ≡ 0 → f .place ≡ 0) → answerOf f made .place ≡ f .place
+  unfolding answerOf leaves
+  answer-place clear = go (f .number) clear
+    where
+      go : (n : ℕ) → (n ≡ 0 → f .place ≡ 0) → leaves n (accepting made) (refusedWith f) .place ≡ f .place
+      go zero c = sym (c refl)
+      go (suc n) c = refl
+
+  pub answer-made : f .number ≡ 0 → answerOf f made .tally ≡ made
+  unfolding answerOf leaves
+  answer-made z = rw z
+
+  pub left-answer : (given : Tally) → leaves (answerOf f made .refusal) (answerOf f made .tally) given ≡ leaves (f .number) made given
+  unfolding answerOf leaves
+  left-answer given = go (f .number) (f .number) refl refl
+    where
+      go : (n k : ℕ) → f .number ≡ k → n ≡ k
+          → leaves (leaves n (accepting made) (refusedWith f) .refusal) (leaves n (accepting made) (refusedWith f) .tally) given ≡ leaves n made given
+      go zero k p q = refl
+      go (suc n) k p q = rw (p ∙ sym q)
+
+  pub answer-left : (given : Tally) → answerOf f made ≡ answerOf f (leaves (f .number) made given)
+  unfolding answerOf leaves
+  answer-left given = go (f .number)
+    where
+      go : (n : ℕ) → leaves n (accepting made) (refusedWith f) ≡ leaves n (accepting (leaves n made given)) (refusedWith f)
+      go zero = refl
+      go (suc n) = refl
 
 -- on one deal the refusals go by lengths
 module _ (d : List ℕ) (l m : List ℤ) (e : length l ≡ length m) where
