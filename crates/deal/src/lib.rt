@@ -3,6 +3,7 @@
 mod given;
 
 pub use given::Dealt;
+pub use given::SUITS;
 pub use given::take;
 pub use given::take_places;
 ghost use mathlib.Core.Path.{_≡_};

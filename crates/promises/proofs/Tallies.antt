@@ -39,16 +39,19 @@ holds t e =
     let d = t .deal in
     let l = scoresIn t in
     let r = board-range (t .board) (w .board) in
-    let f = deal-on d l (w .deal) in
-    (t .board, resultsIn t, record {
-      from = r .0;
-      to = r .1;
-      valid = rw (scores-on d l) (w .valid);
-      room = omega (arith, length-on d l, w .room);
-      one-deal = rw f (all-on d l);
-      thirteen = λ h. rw f (deal-thirteen d (deal-carried d (length l) (λ z. omega (arith, length-on d l)) (w .deal)));
-      is = sym (tally-on (t .board) d l (w .deal) ∙ own t e);
-    })
+    let f = deal-on d l (w .deal) in (
+      t .board,
+      resultsIn t,
+      record {
+        from = r .0;
+        to = r .1;
+        valid = rw (scores-on d l) (w .valid);
+        room = omega (arith, length-on d l, w .room);
+        one-deal = rw f (all-on d l);
+        thirteen = λ h. rw f (deal-thirteen d (deal-carried d (length l) (λ z. omega (arith, length-on d l)) (w .deal)));
+        is = sym (tally-on (t .board) d l (w .deal) ∙ own t e);
+      },
+    )
 
 -- what a list of one deal carries
 carries-list : (results : List Result) → OneDeal (dealOf results) results → (1 ≤ length results → Thirteen (dealOf results))

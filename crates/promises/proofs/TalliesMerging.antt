@@ -260,6 +260,7 @@ three-fit a b c f g =
     kept-first : (d : List ℕ) (l : List ℤ) (e : List ℕ) → 1 ≤ length l → d ≡ keptDeal (length l) d e
     kept-first d [] e h = absurd (omega arith)
     kept-first d (s ∷ l) e h = sym (kept-some (length l) d e)
+
     kept-second : (d : List ℕ) (l : List ℤ) (e : List ℕ) (m : List ℤ) → (1 ≤ length l → 1 ≤ length m → d ≡ e) → 1 ≤ length m → e ≡ keptDeal (length l) d e
     kept-second d [] e m p h = sym (kept-none d e)
     kept-second d (s ∷ l) e m p h = sym (p (omega arith) h) ∙ sym (kept-some (length l) d e)

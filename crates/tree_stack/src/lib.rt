@@ -1,4 +1,5 @@
 // A stack of at most 16 tallies, and the calls on it.
+use deal::SUITS;
 use laws::ACCEPTED;
 use percentages::Cell;
 use percentages::CellAnswer;
@@ -37,14 +38,6 @@ pub struct Step {
     pub stack: Stack,
     pub said: Said,
 }
-
-// The deal in which North has the clubs, East the diamonds, South the hearts and West the spades.
-pub const SUITS: [u8; 52] = [
-    0, 0, 0, 0, 0, 0, 0, 0, 0, 0, 0, 0, 0,
-    1, 1, 1, 1, 1, 1, 1, 1, 1, 1, 1, 1, 1,
-    2, 2, 2, 2, 2, 2, 2, 2, 2, 2, 2, 2, 2,
-    3, 3, 3, 3, 3, 3, 3, 3, 3, 3, 3, 3, 3,
-];
 
 // Deal 0 with new holders of two cards.
 fn with_two(card: usize, holder: u8, card2: usize, holder2: u8) -> [u8; 52]

@@ -44,8 +44,13 @@ returns-5 c = c .with-two5 .ensures ∙ rw (ne-eqb _ 1 (c .before .before .befor
 returns-6 : tie.Need-returns-6
 unfolding dealNumbered
 returns-6 c =
-    rw (ne-eqb _ 1 (c .before .before .before .before .if1 .left), ne-eqb _ 2 (c .before .before .before .if2 .left), ne-eqb _ 3 (c .before .before .if3 .left),
-    ne-eqb _ 4 (c .before .if4 .left), ne-eqb _ 5 (c .if5 .left))
+    rw (
+      ne-eqb _ 1 (c .before .before .before .before .if1 .left),
+      ne-eqb _ 2 (c .before .before .before .if2 .left),
+      ne-eqb _ 3 (c .before .before .if3 .left),
+      ne-eqb _ 4 (c .before .if4 .left),
+      ne-eqb _ 5 (c .if5 .left),
+    )
 
 pub holders-of-spec : {M : Type 1} → statement M
 holders-of-spec =
