@@ -29,8 +29,8 @@ fn put_placed(out: &mut [u8], n: u8, place: u8) -> usize
     requires { ⌜ length (placedText n place) ≤ length (now out) ⌝ }
     ensures { λ r. ⌜ Put (now (out .entry)) 0 (placedText n place) (now (out .exit)) r ⌝ }
 {
-    let number = put_bytes(out, 0, b"refused ");
-    let word = put_decimal(out, number, n as u64);
+    let start = put_bytes(out, 0, b"refused ");
+    let word = put_decimal(out, start, n as u64);
     let at = put_bytes(out, word, b" place ");
     let end = put_decimal(out, at, place as u64);
     put_byte(out, end, 10)
