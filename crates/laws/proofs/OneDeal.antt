@@ -12,7 +12,8 @@ use Rattle.laws.specs.Choice.{if_then_else_, howMany}
 use Rattle.laws.specs.Refusals.{Answer, refused, placed, accepted, twoBoards, tooManyResults, invalidScore}
 use Rattle.laws.specs.Law77.{validScore}
 use Rattle.laws.specs.Law78.{sameScore, occurrences}
-use Rattle.laws.specs.Tally.{Result, scoresOf, onDeal, dealOf, Refusal, refusal, _orElse_, dealRefusal, scoreRefusal, fouledRefusal, boardsRefusal, roomRefusal}
+use Rattle.laws.specs.Tally.{Result, scoresOf, onDeal, dealOf, Refusal, refusal, _orElse_, dealRefusal}
+use Rattle.laws.specs.Tally.{scoreRefusal, fouledRefusal, boardsRefusal, roomRefusal}
 use Rattle.laws.specs.Tally.{givenRefusal, addRefusal, mergeRefusal, asked, leaves, Tree, fresh, add, merge, CallOf, last, in-add, in-first, in-second}
 use Rattle.laws.specs.Tally.{boardOf, listOf, added, OneDeal, SameScores}
 use Rattle.laws.proofs.Scores.{is-self}

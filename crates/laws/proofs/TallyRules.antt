@@ -14,7 +14,8 @@ use Rattle.laws.specs.Law77.{validScore}
 use Rattle.laws.specs.Reading.{Reading, Reading.refused, Reading.found, refuse}
 use Rattle.laws.specs.Refusals.{Answer, refused, answered, Placed, refusedAt, given, placed}
 use Rattle.laws.specs.Contents.{areSeats, takeDeal}
-use Rattle.laws.specs.Tally.{Result, scoresOf, onDeal, sameDeal, fouled, noDeal, dealOf, Thirteen, Refusal, refusal, refusalIf, _orElse_, refusalIn, dealRefusal}
+use Rattle.laws.specs.Tally.{Result, scoresOf, onDeal, sameDeal, fouled, noDeal, dealOf, Thirteen}
+use Rattle.laws.specs.Tally.{Refusal, refusal, refusalIf, _orElse_, refusalIn, dealRefusal}
 use Rattle.laws.specs.Tally.{scoreRefusal, boardsRefusal, fouledRefusal, roomRefusal, givenRefusal, addRefusal, mergeRefusal, unlessRefused, asked}
 use Rattle.laws.specs.Tally.{OneDeal, AllValid}
 use Rattle.laws.proofs.Tests.{by-test, and-left, and-right, not-both}

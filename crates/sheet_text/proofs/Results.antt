@@ -115,7 +115,8 @@ module _ (bytes : List ℕ) (t : Tally) (k at : ℕ) (w : Read bytes t k at) whe
   ends h =
       let none : drop at bytes ≡ [] = drop-of-length-le bytes h in
       let all : map scoreOf (linesOf bytes) ≡ w .so-far = w .scores ∙ rw none (append-nil (w .so-far)) in
-      record { refused = sym (w .refused ∙ rw none); tally = λ q. w .is ∙ sym (lines-tally (w .so-far)) ∙ ap (λ (l : List ℤ). tallyOf 1 (onDeal suits l)) (sym all) }
+      let same = ap (λ (l : List ℤ). tallyOf 1 (onDeal suits l)) (sym all) in
+      record { refused = sym (w .refused ∙ rw none); tally = λ q. w .is ∙ sym (lines-tally (w .so-far)) ∙ same }
 
   module _ (h : at < length bytes) (end : ℕ) (is-end : end ≡ at + lineLength (drop at bytes)) where
     abbrev line : List ℕ

@@ -12,7 +12,8 @@ use tree_stack::Said;
 ghost use mathlib.Core.Path.{_≡_};
 ghost use Prim.Native.Nat.{_+_, _≤_, _<_};
 ghost use lib.ListN.{length};
-ghost use Rattle.sheet_text.specs.Answers.{refusedText, placedText, refusedAtText, pointsText, hexDigit, hexDigits, bitsText, saidText, entryText, tallyText};
+ghost use Rattle.sheet_text.specs.Answers.{refusedText, placedText, refusedAtText, pointsText, hexDigit, hexDigits, bitsText};
+ghost use Rattle.sheet_text.specs.Answers.{saidText, entryText, tallyText};
 ghost use Rattle.sheet_text.specs.Putting.{Put, written, lengthWithin, leftIn};
 
 pub(crate) fn put_refused(out: &mut [u8], n: u8) -> usize

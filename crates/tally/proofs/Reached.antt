@@ -111,7 +111,9 @@ all-written none a b u k e d f g h =
 
 module _ (none a : Tally) (n : ℕ) (b : Tally) (m : ℕ) (u : Tally) (i j k : ℕ) (w : Reached none a n b m u i j k) where
   pub full : 128 ≤ k → u ≡ tallyFor (none .board) (none .deal) (scoresIn a ++ scoresIn b)
-  full h = all-written none a b u k (w .board) (w .deal) (w .scores) (w .counts) (take-all k (wholeOf a b) (omega (arith, whole-length none a n b m (w .given))))
+  full h =
+      all-written none a b u k (w .board) (w .deal) (w .scores) (w .counts)
+      (take-all k (wholeOf a b) (omega (arith, whole-length none a n b m (w .given))))
 
   pub first-end : n ≤ 128
   first-end = let f = formed-places a (w .given .first) in omega (arith, length-sum ceiling (entriesIn a) (f .ordered), f .room, w .given .first-used)
@@ -144,8 +146,9 @@ module _ (none a : Tally) (n : ℕ) (b : Tally) (m : ℕ) (u : Tally) (i j k : �
       ends z = all-written none a b u k (w .board) (w .deal) (w .scores) (w .counts) (all-taken k (wholeOf a b) (the-turn .ends z))
 
       pub goes : (e .count ≡ 0 → ⊥) → k < 128
-          → Reached none a n b m (record { board = u .board; deal = u .deal; scores = set (u .scores) k (e .score); counts = set (u .counts) k (e .count) }) (i + e .first)
-          (j + e .second) (k + 1)
+          → Reached none a n b m
+          (record { board = u .board; deal = u .deal; scores = set (u .scores) k (e .score); counts = set (u .counts) k (e .count) })
+          (i + e .first) (j + e .second) (k + 1)
       goes z h =
           let t = the-turn .goes z in
           let r = t .rest in

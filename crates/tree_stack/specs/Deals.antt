@@ -14,9 +14,9 @@ suits = replicate 13 north ++ (replicate 13 east ++ (replicate 13 south ++ repli
 abbrev pub exchanged : ℕ → ℕ → List ℕ → List ℕ
 exchanged card card2 deal = set (set deal card (getD deal card2 0)) card2 (getD deal card 0)
 
--- 0 is that deal. 1 to 3 are one exchange away from it: among the first 26 cards, the two of clubs for the two of diamonds; among the last 26, the two of hearts
--- for the two of spades; between them, the ace of clubs for the ace of spades. In 4 the holder of the ace of spades is no seat, and in 5 South has the two of
--- diamonds, so that East is the first seat without thirteen. Every other number is deal 0.
+-- 0 is that deal. 1 to 3 are one exchange away from it: among the first 26 cards, the two of clubs for the two of diamonds; among the last 26, the two of
+-- hearts for the two of spades; between them, the ace of clubs for the ace of spades. In 4 the holder of the ace of spades is no seat, and in 5 South has the
+-- two of diamonds, so that East is the first seat without thirteen. Every other number is deal 0.
 unfoldable pub dealNumbered : ℕ → List ℕ
 dealNumbered n =
     if eqb n 1 then exchanged 0 13 suits

@@ -22,7 +22,8 @@ pub struct Stack {
     pub used: usize,
 }
 
-// What a call answers: that it is done, a refusal and its place, the matchpoints of both sides, a cell with the 64 bits of its float; or that the run ends there.
+// What a call answers: that it is done, a refusal and its place, the matchpoints of both sides, a cell with the 64 bits of its float; or that the run ends
+// there.
 pub enum Said {
     Done,
     Refused(u8, u8),

@@ -25,21 +25,38 @@ with-two-requires-3 c κs = search needs
 
 returns-3 : tie.Need-returns-3
 unfolding dealNumbered
-returns-3 c = c .with-two3 .ensures ∙ rw (ne-eqb _ 1 (c .before .before .before .if1 .left), ne-eqb _ 2 (c .before .before .if2 .left), eq-eqb _ 3 (c .before .if3 .taken))
+returns-3 c =
+    let two = c .before .before in
+    c .with-two3 .ensures ∙ rw (ne-eqb _ 1 (two .before .if1 .left), ne-eqb _ 2 (two .if2 .left), eq-eqb _ 3 (c .before .if3 .taken))
 
 with-two-requires-4 : tie.Need-with-two-requires-4
 with-two-requires-4 c κs = search needs
 
 returns-4 : tie.Need-returns-4
 unfolding dealNumbered
-returns-4 c = c .with-two4 .ensures ∙ rw (ne-eqb _ 1 (c .before .before .before .before .if1 .left), ne-eqb _ 2 (c .before .before .before .if2 .left), ne-eqb _ 3 (c .before .before .if3 .left), eq-eqb _ 4 (c .before .if4 .taken))
+returns-4 c =
+    let three = c .before .before in
+    let two = three .before in
+    c .with-two4 .ensures
+    ∙ rw (ne-eqb _ 1 (two .before .if1 .left), ne-eqb _ 2 (two .if2 .left), ne-eqb _ 3 (three .if3 .left), eq-eqb _ 4 (c .before .if4 .taken))
 
 with-two-requires-5 : tie.Need-with-two-requires-5
 with-two-requires-5 c κs = search needs
 
 returns-5 : tie.Need-returns-5
 unfolding dealNumbered
-returns-5 c = c .with-two5 .ensures ∙ rw (ne-eqb _ 1 (c .before .before .before .before .before .if1 .left), ne-eqb _ 2 (c .before .before .before .before .if2 .left), ne-eqb _ 3 (c .before .before .before .if3 .left), ne-eqb _ 4 (c .before .before .if4 .left), eq-eqb _ 5 (c .before .if5 .taken))
+returns-5 c =
+    let four = c .before .before in
+    let three = four .before in
+    let two = three .before in
+    c .with-two5 .ensures
+    ∙ rw (
+      ne-eqb _ 1 (two .before .if1 .left),
+      ne-eqb _ 2 (two .if2 .left),
+      ne-eqb _ 3 (three .if3 .left),
+      ne-eqb _ 4 (four .if4 .left),
+      eq-eqb _ 5 (c .before .if5 .taken),
+    )
 
 returns-6 : tie.Need-returns-6
 unfolding dealNumbered

@@ -45,8 +45,8 @@ number c =
     let f = fouled c in
     let w = second f in
     let v = first w in
-    merge-number _ _ (first-well v) (second-well w) _ _ (first-size v) (second-size w) _ _ _ _ _ (f .before .boards-refusal .ensures) (f .fouled-refusal .ensures)
-    (c .before .before .room-refusal .ensures) (c .before .first .ensures) (c .first2 .ensures)
+    merge-number _ _ (first-well v) (second-well w) _ _ (first-size v) (second-size w) _ _ _ _ _ (f .before .boards-refusal .ensures)
+    (f .fouled-refusal .ensures) (c .before .before .room-refusal .ensures) (c .before .first .ensures) (c .first2 .ensures)
 
 -- past the third test there is none
 none : (c : tie.Else3) → let s = first (second (fouled (c .before .before))) .before .before .before .args in

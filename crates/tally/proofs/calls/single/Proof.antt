@@ -19,7 +19,8 @@ element-write-u : tie.Need-element-write-u
 element-write-u c = search needs
 
 wrote-one : (none : Tally) (s : ℤ) → none ≡ tallyFor (none .board) (none .deal) []
-    → record { board = none .board; deal = none .deal; scores = set (none .scores) 0 s; counts = set (none .counts) 0 1 } ≡ tallyFor (none .board) (none .deal) (s ∷ [])
+    → record { board = none .board; deal = none .deal; scores = set (none .scores) 0 s; counts = set (none .counts) 0 1 }
+    ≡ tallyFor (none .board) (none .deal) (s ∷ [])
 unfolding tallyFor tallyWith entriesOf enter padded
 wrote-one none s e = ap (λ (t : Tally). record { board = none .board; deal = none .deal; scores = set (t .scores) 0 s; counts = set (t .counts) 0 1 }) e
 

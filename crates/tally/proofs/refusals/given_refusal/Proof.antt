@@ -23,8 +23,8 @@ returns c = λ holders scores ed n.
     let k = f .before in
     let s = k .before in
     let st = s .before .before in
-    given-number _ _ (st .args .score) _ holders scores ed n _ _ _ _ (rw (toZ-ofZ (st .fits .score)) at (s .score-refusal .ensures)) (k .fouled-refusal .ensures)
-    (f .first .ensures) (c .first2 .ensures)
+    given-number _ _ (st .args .score) _ holders scores ed n _ _ _ _ (rw (toZ-ofZ (st .fits .score)) at (s .score-refusal .ensures))
+    (k .fouled-refusal .ensures) (f .first .ensures) (c .first2 .ensures)
 
 pub given-refusal-spec : {M : Type 1} → statement M
 given-refusal-spec = tie.close (tie.spec score-refusal-requires fouled-refusal-requires first-requires first-requires-2 returns)
