@@ -1,16 +1,18 @@
 //! Scripts of tally calls, as the program `tree` reads them: trees of all shapes, and lines that are no calls.
 use crate::random::Random;
-use crate::tree::{Call, Runner, MOST_ON_STACK};
+use crate::tree::{numbered, Call, Runner, MOST_ON_STACK};
 
 /// A script and what the program has to write for it.
 pub struct Script {
     pub text: String,
+    /// The calls of the text, up to a line that is none.
+    pub calls: Vec<Call>,
     pub runner: Runner,
     random: Random,
 }
 
 /// Lines that are no call.
-const UNREADABLE: [&str; 24] = [
+const UNREADABLE: [&str; 31] = [
     "",
     " ",
     "add",
@@ -33,28 +35,41 @@ const UNREADABLE: [&str; 24] = [
     "award",
     "award -60",
     "award 000060",
+    "add 10 6",
+    "add 10 01",
+    "add 10  1",
+    "add 10 1 ",
+    "add 10 -1",
+    "matchpoints 10 9",
+    "cell 10 x",
     "Add 10",
     "pop",
 ];
 
 impl Script {
     pub fn new(random: &mut Random) -> Self {
-        Script { text: String::new(), runner: Runner::default(), random: Random::new(random.word()) }
+        Script { text: String::new(), calls: Vec::new(), runner: Runner::default(), random: Random::new(random.word()) }
     }
 
     fn call(&mut self, call: Call) {
-        self.text += match call {
-            Call::Fresh(_) => "fresh ",
-            Call::Add(_) => "add ",
-            Call::Merge => "merge",
-            Call::Matchpoints(_) => "matchpoints ",
-            Call::Cell(_) => "cell ",
-            Call::Award(_) => "award ",
+        let (word, number, deal) = match call {
+            Call::Fresh(board) => ("fresh ", Some(board), None),
+            Call::Add(score, deal) => ("add ", Some(score), Some(deal)),
+            Call::Merge => ("merge", None, None),
+            Call::Matchpoints(score, deal) => ("matchpoints ", Some(score), Some(deal)),
+            Call::Cell(score, deal) => ("cell ", Some(score), Some(deal)),
+            Call::Award(percent) => ("award ", Some(percent), None),
         };
-        if let Call::Fresh(n) | Call::Add(n) | Call::Matchpoints(n) | Call::Cell(n) | Call::Award(n) = call {
+        self.text += word;
+        if let Some(n) = number {
             self.number(n);
         }
+        // Deal 0 need not be named.
+        if let Some(deal) = deal.filter(|&deal| deal != 0 || self.random.percent(20)) {
+            self.text += &format!(" {deal}");
+        }
         self.text.push('\n');
+        self.calls.push(call);
         self.runner.call(call);
     }
 
@@ -101,24 +116,28 @@ impl Script {
             scores: scores(r),
             other_boards: *r.pick(&[0, 0, 0, 10, 40]),
             wrong: *r.pick(&[0, 0, 3, 20]),
+            other_deals: *r.pick(&[0, 0, 5, 30]),
+            fouled: *r.pick(&[0, 0, 1, 8]),
         };
+        let deal = r.below(4) as u8;
         let depth = self.random.below(MOST_ON_STACK - 2);
-        self.subtree(&plan, results, depth);
+        self.subtree(&plan, results, depth, deal);
     }
 
     /// Calls that leave one more tally on the stack, with so many scores added, merged at most `depth` deep.
-    fn subtree(&mut self, plan: &Plan, results: usize, depth: usize) {
+    fn subtree(&mut self, plan: &Plan, results: usize, depth: usize, deal: u8) {
+        let deal = if self.random.percent(plan.other_deals) { self.random.below(4) as u8 } else { deal };
         let few = if results < 2 { 70 } else { 15 };
         if depth == 0 || self.random.percent(few) {
             self.fresh(plan);
-            return self.adds(plan, results);
+            return self.adds(plan, results, deal);
         }
         let first = self.random.between(0, results);
         let after = if self.random.percent(20) { self.random.between(0, results - first) } else { 0 };
-        self.subtree(plan, first, depth - 1);
-        self.subtree(plan, results - first - after, depth - 1);
+        self.subtree(plan, first, depth - 1, deal);
+        self.subtree(plan, results - first - after, depth - 1, deal);
         self.call(Call::Merge);
-        self.adds(plan, after);
+        self.adds(plan, after, deal);
     }
 
     fn fresh(&mut self, plan: &Plan) {
@@ -130,14 +149,23 @@ impl Script {
         self.call(Call::Fresh(board));
     }
 
-    fn adds(&mut self, plan: &Plan, count: usize) {
+    fn adds(&mut self, plan: &Plan, count: usize, deal: u8) {
         for _ in 0..count {
             if self.random.percent(plan.wrong) {
-                let score = wrong_score(&mut self.random);
-                self.call(Call::Add(score));
+                let (score, deal) = (wrong_score(&mut self.random), self.deal(plan, deal));
+                self.call(Call::Add(score, deal));
             }
-            let score = *self.random.pick(&plan.scores);
-            self.call(Call::Add(score));
+            let (score, deal) = (*self.random.pick(&plan.scores), self.deal(plan, deal));
+            self.call(Call::Add(score, deal));
+        }
+    }
+
+    /// The tree's deal, or another one, some of which are none.
+    fn deal(&mut self, plan: &Plan, deal: u8) -> u8 {
+        if self.random.percent(plan.fouled) {
+            self.random.below(6) as u8
+        } else {
+            deal
         }
     }
 
@@ -147,8 +175,8 @@ impl Script {
         script.call(Call::Fresh(7));
         let mut scores: Vec<i32> = (0..results as i32).map(|k| 10 * k - 640).collect();
         script.random.shuffle(&mut scores);
-        scores.iter().for_each(|&score| script.call(Call::Add(score)));
-        scores.iter().for_each(|&score| script.call(Call::Cell(score)));
+        scores.iter().for_each(|&score| script.call(Call::Add(score, 0)));
+        scores.iter().for_each(|&score| script.call(Call::Cell(score, 0)));
         script.runner.finish();
         script
     }
@@ -162,15 +190,22 @@ impl Script {
     /// Asks for every score of the top tally, which together give all its counts, and for some that are not in it.
     fn ask_matchpoints(&mut self) {
         let Some(top) = self.runner.stack.last() else { return };
-        let mut scores: Vec<i32> = top.entries().iter().map(|&(score, _)| score).collect();
+        let mut scores: Vec<i32> = top.entries(true).iter().map(|&(score, _)| score).collect();
+        let number = |deal| (0..4).find(|&k| numbered(k) == deal);
+        let own = top.list.first().and_then(|&(_, deal)| number(deal)).unwrap_or(0);
         scores.push(10 * self.random.between(0, 1520) as i32 - 7600);
         if self.random.percent(30) {
             scores.push(wrong_score(&mut self.random));
         }
         self.random.shuffle(&mut scores);
         for score in scores {
-            self.call(Call::Matchpoints(score));
-            self.call(Call::Cell(score));
+            for ask in [Call::Matchpoints, Call::Cell] {
+                if self.random.percent(5) {
+                    let deal = self.random.below(6) as u8;
+                    self.call(ask(score, deal));
+                }
+                self.call(ask(score, own));
+            }
         }
     }
 
@@ -187,7 +222,7 @@ impl Script {
         let tallies = script.random.below(4);
         for _ in 0..tallies {
             script.call(Call::Fresh(7));
-            script.call(Call::Add(420));
+            script.call(Call::Add(420, 0));
         }
         match script.random.below(4) {
             0 => {
@@ -197,9 +232,9 @@ impl Script {
                 script.call(Call::Fresh(7));
             }
             1 => (0..tallies.max(1)).for_each(|_| script.call(Call::Merge)),
-            2 if tallies == 0 => script.call(Call::Add(10)),
-            3 if tallies == 0 && script.random.percent(50) => script.call(Call::Matchpoints(10)),
-            3 if tallies == 0 => script.call(Call::Cell(10)),
+            2 if tallies == 0 => script.call(Call::Add(10, 0)),
+            3 if tallies == 0 && script.random.percent(50) => script.call(Call::Matchpoints(10, 0)),
+            3 if tallies == 0 => script.call(Call::Cell(10, 0)),
             _ => {
                 let line = *script.random.pick(&UNREADABLE);
                 script.text += line;
@@ -223,6 +258,10 @@ struct Plan {
     other_boards: usize,
     /// How many in a hundred calls have a wrong call before them.
     wrong: usize,
+    /// How many in a hundred trees within are of another deal.
+    other_deals: usize,
+    /// How many in a hundred results are of another deal.
+    fouled: usize,
 }
 
 /// Scores of a field: few, some or many distinct ones.

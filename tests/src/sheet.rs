@@ -1,6 +1,7 @@
 //! The sheets of one board: scores read one a line, each with its count and its matchpoints or percentages.
 use crate::score;
 use crate::tally::{Tally, MOST_RESULTS};
+use crate::tree::numbered;
 use std::fmt::Write;
 
 /// A line's score: `0`, or an optional minus, a digit 1 to 9 and at most three digits more, and a valid score.
@@ -17,14 +18,14 @@ fn score_of(line: &[u8]) -> Option<i32> {
     (well_formed && score::valid(score)).then_some(sign * score)
 }
 
-/// The tally of an input's lines, or the number of the first line that is refused.
+/// The tally of an input's lines, all of one deal, or the number of the first line that is refused.
 fn read(input: &[u8]) -> Result<Tally, usize> {
     let mut tally = Tally::fresh(1).expect("board 1 has a tally");
     let ended = input.strip_suffix(b"\n").unwrap_or(input);
     if !input.is_empty() {
         for (k, line) in ended.split(|&b| b == b'\n').enumerate() {
             let score = score_of(line).filter(|_| k < MOST_RESULTS).ok_or(k + 1)?;
-            tally.add(score).expect("a valid score with room for it");
+            tally.add(score, &numbered(0)).expect("a valid score with room for it");
         }
     }
     Ok(tally)
@@ -38,7 +39,7 @@ fn table(input: &[u8], header: &str, shown: impl Fn(u32, usize) -> String) -> St
     };
     let mut text = format!("{header}\n");
     for (score, count) in tally.entries() {
-        let (ns, ew) = tally.matchpoints(score).expect("a score of the tally");
+        let (ns, ew) = tally.matchpoints(score, &numbered(0)).expect("a score of the tally");
         let sides = [ns, ew].map(|points| shown(points, tally.results()));
         writeln!(text, "{score} {count} {} {}", sides[0], sides[1]).expect("a string takes any text");
     }

@@ -1,22 +1,46 @@
-//! Tallies: a board's distinct scores, highest first, each with its count.
+//! Tallies: a board's distinct scores, highest first, each with its count, and the deal that its results were played on.
 use crate::score;
 
 pub const MOST_RESULTS: usize = 128;
 
+/// The holders of the 52 cards.
+pub type Deal = [u8; 52];
+
+/// A refusal's number and its place.
+pub type Refusal = (u32, u32);
+
+/// Holders as they are given: 4 with place 4 for another number of them or for one that is no seat, else with the first seat without thirteen cards.
+pub fn deal_of(holders: &[u8]) -> Result<Deal, Refusal> {
+    let deal = Deal::try_from(holders).map_err(|_| (4, 4))?;
+    if deal.iter().any(|&holder| holder > 3) {
+        return Err((4, 4));
+    }
+    match (0..4).find(|&seat| deal.iter().filter(|&&holder| holder == seat).count() != 13) {
+        Some(seat) => Err((4, u32::from(seat))),
+        None => Ok(deal),
+    }
+}
+
 #[derive(Clone, PartialEq, Eq, Debug)]
 pub struct Tally {
     board: u8,
+    /// That of the results; none where there is no result.
+    deal: Option<Deal>,
     used: usize,
     scores: [i16; MOST_RESULTS],
     counts: [u8; MOST_RESULTS],
 }
 
 impl Tally {
+    fn empty(board: u8, deal: Option<Deal>) -> Tally {
+        Tally { board, deal, used: 0, scores: [0; MOST_RESULTS], counts: [0; MOST_RESULTS] }
+    }
+
     /// The empty tally of a board; refusal 3 for a board that is not 1 to 127.
-    pub fn fresh(board: i32) -> Result<Tally, u32> {
+    pub fn fresh(board: i32) -> Result<Tally, Refusal> {
         match board {
-            1..=127 => Ok(Tally { board: board as u8, used: 0, scores: [0; MOST_RESULTS], counts: [0; MOST_RESULTS] }),
-            _ => Err(3),
+            1..=127 => Ok(Tally::empty(board as u8, None)),
+            _ => Err((3, 0)),
         }
     }
 
@@ -30,13 +54,24 @@ impl Tally {
         self.counts[..self.used].iter().map(|&c| usize::from(c)).sum()
     }
 
-    pub fn add(&mut self, score: i32) -> Result<(), u32> {
+    /// A result that is given, to be added or asked about: 20, then 4, then 28; else its deal.
+    fn given(&self, score: i32, holders: &[u8]) -> Result<Deal, Refusal> {
         if !score::valid(score) {
-            return Err(20);
+            return Err((20, 0));
         }
+        let deal = deal_of(holders)?;
+        match self.deal {
+            Some(carried) if carried != deal => Err((28, 0)),
+            _ => Ok(deal),
+        }
+    }
+
+    pub fn add(&mut self, score: i32, holders: &[u8]) -> Result<(), Refusal> {
+        let deal = self.given(score, holders)?;
         if self.results() == MOST_RESULTS {
-            return Err(19);
+            return Err((19, 0));
         }
+        self.deal = Some(deal);
         let score = score as i16;
         let at = self.scores[..self.used].partition_point(|&s| s > score);
         if at < self.used && self.scores[at] == score {
@@ -52,14 +87,19 @@ impl Tally {
     }
 
     /// Both tallies' results in one.
-    pub fn merge(&self, other: &Tally) -> Result<Tally, u32> {
+    pub fn merge(&self, other: &Tally) -> Result<Tally, Refusal> {
         if self.board != other.board {
-            return Err(18);
+            return Err((18, 0));
+        }
+        if let (Some(first), Some(second)) = (self.deal, other.deal) {
+            if first != second {
+                return Err((28, 0));
+            }
         }
         if self.results() + other.results() > MOST_RESULTS {
-            return Err(19);
+            return Err((19, 0));
         }
-        let mut merged = Tally { board: self.board, used: 0, scores: [0; MOST_RESULTS], counts: [0; MOST_RESULTS] };
+        let mut merged = Tally::empty(self.board, self.deal.or(other.deal));
         let (mut i, mut j, mut n) = (0, 0, 0);
         while i < self.used && j < other.used {
             let (a, b) = (self.scores[i], other.scores[j]);
@@ -84,6 +124,8 @@ impl Tally {
         let (scores, unused) = self.scores.split_at(self.used);
         let (counts, uncounted) = self.counts.split_at(self.used);
         (1..=127).contains(&self.board)
+            && self.deal.is_some() == (self.used > 0)
+            && self.deal.iter().all(|deal| deal_of(deal).is_ok())
             && scores.windows(2).all(|s| s[0] > s[1])
             && scores.iter().all(|&s| score::valid(i32::from(s)))
             && counts.iter().all(|&c| c >= 1)
@@ -92,12 +134,10 @@ impl Tally {
             && uncounted.iter().all(|&c| c == 0)
     }
 
-    /// The matchpoints, NS and EW, of one result of a score.
-    pub fn matchpoints(&self, score: i32) -> Result<(u32, u32), u32> {
-        if !score::valid(score) {
-            return Err(20);
-        }
-        let equal = self.entries().find(|&(s, _)| s == score).ok_or(21u32)?.1;
+    /// The matchpoints, NS and EW, of one result with a score and its deal.
+    pub fn matchpoints(&self, score: i32, holders: &[u8]) -> Result<(u32, u32), Refusal> {
+        self.given(score, holders)?;
+        let equal = self.entries().find(|&(s, _)| s == score).ok_or((21u32, 0))?.1;
         let below: u32 = self.entries().filter(|&(s, _)| s < score).map(|(_, c)| c).sum();
         let north_south = 2 * below + equal - 1;
         Ok((north_south, 2 * (self.results() as u32 - 1) - north_south))
@@ -122,10 +162,10 @@ impl Cell {
     }
 
     /// An award of 60, 50 or 40 per cent; 20 for any other.
-    pub fn award(percent: i32) -> Result<Cell, u32> {
+    pub fn award(percent: i32) -> Result<Cell, Refusal> {
         match percent {
             60 | 50 | 40 => Ok(Cell::Awarded(f64::from(percent))),
-            _ => Err(20),
+            _ => Err((20, 0)),
         }
     }
 

@@ -8,6 +8,7 @@ use outside::score::contract_score;
 use outside::sheet::{cells, sheet};
 use outside::slip::slip;
 use outside::tally::Tally;
+use outside::tree::numbered;
 use outside::team::{imps, Line, Match, Written};
 use outside::{judge, proved};
 
@@ -119,9 +120,9 @@ fn p1_to_p6_by_records() {
 fn p8_matchpoints() {
     let mut tally = Tally::fresh(1).unwrap();
     for score in [420, 420, -50, 450] {
-        tally.add(score).unwrap();
+        tally.add(score, &numbered(0)).unwrap();
     }
-    let north_south = [420, 420, -50, 450].map(|score| tally.matchpoints(score).unwrap().0);
+    let north_south = [420, 420, -50, 450].map(|score| tally.matchpoints(score, &numbered(0)).unwrap().0);
     assert_eq!(north_south, [3, 3, 0, 6]);
     assert!(tally.described());
 }

@@ -1,10 +1,13 @@
-//! A comparison that cannot fail shows nothing: judges and team matches with one fault each, every one of which it has to find.
+//! A comparison that cannot fail shows nothing: judges, team matches and trees with one fault each, every one of which it has to find.
 use outside::compare::Judge;
 use outside::judge::judge;
 use outside::random::Random;
 use outside::reader::Reader;
 use outside::team::{imps, Match, Play, Written, MOST_BOARDS};
+use outside::scripts::Script as Calls;
+use outside::tally::{deal_of, Deal, Refusal, MOST_RESULTS};
 use outside::team_scripts::Script;
+use outside::tree::{self, Rules, Runner, Tree};
 use outside::trial::Trial;
 
 const FAULTS: [(&str, Judge); 14] = [
@@ -163,5 +166,88 @@ fn every_fault_of_a_team_match_is_found() {
             Written::of(&script.lines, play).text != Written::of(&script.lines, Match::play).text
         });
         assert!(found, "a team match that {fault} was not found out");
+    }
+}
+
+/// The rules with one of them replaced.
+fn rules() -> Rules {
+    Rules { held: false, ..Rules::default() }
+}
+
+/// 19 where the list has 128, before the deals are compared.
+fn full_first(tree: &Tree, score: i32, deal: &Deal) -> Option<Refusal> {
+    match tree::add(tree, score, deal) {
+        Some((28, 0)) if tree.list.len() >= MOST_RESULTS => Some((19, 0)),
+        answer => answer,
+    }
+}
+
+/// Two lists have results whose deals differ in a part of the cards.
+fn differ(first: &Tree, second: &Tree, cards: std::ops::Range<usize>) -> bool {
+    first.list.iter().any(|(_, deal)| second.list.iter().any(|(_, other)| deal[cards.clone()] != other[cards.clone()]))
+}
+
+/// What a merge is refused with but for its deals.
+fn without_deals(first: &Tree, second: &Tree) -> Option<Refusal> {
+    match first.board == second.board {
+        false => Some((18, 0)),
+        true => (first.list.len() + second.list.len() > MOST_RESULTS).then_some((19, 0)),
+    }
+}
+
+fn tree_faults() -> [(&'static str, Rules); 7] {
+    [
+        ("merges without a look at the deals", Rules { merge: without_deals, ..rules() }),
+        (
+            "compares the first 26 cards in a merge",
+            Rules {
+                merge: |first, second| match tree::merge(first, second) {
+                    Some((28, 0)) if !differ(first, second, 0..26) => without_deals(first, second),
+                    answer => answer,
+                },
+                ..rules()
+            },
+        ),
+        ("looks for room before it compares the deals of a result", Rules { add: full_first, ..rules() }),
+        (
+            "looks for room before it compares the deals of a merge",
+            Rules {
+                merge: |first, second| match tree::merge(first, second) {
+                    Some((28, 0)) => without_deals(first, second).or(Some((28, 0))),
+                    answer => answer,
+                },
+                ..rules()
+            },
+        ),
+        (
+            "looks at the deal before the score",
+            Rules { add: |tree, score, deal| deal_of(deal).err().or_else(|| tree::add(tree, score, deal)), ..rules() },
+        ),
+        (
+            "asks about a score of another deal",
+            Rules { given: |tree, score, deal| tree::given(tree, score, deal).filter(|&refusal| refusal != (28, 0)), ..rules() },
+        ),
+        (
+            "tells no place",
+            Rules { add: |tree, score, deal| tree::add(tree, score, deal).map(|(number, _)| (number, 0)), ..rules() },
+        ),
+    ]
+}
+
+/// Scripts of trees after which a fault must have been found: fewer than the gate's.
+const SCRIPTS: usize = 2_000;
+
+#[test]
+fn every_fault_of_a_tree_is_found() {
+    for (fault, rules) in tree_faults() {
+        let mut random = Random::new(64);
+        let found = (0..SCRIPTS).any(|_| {
+            let script = Calls::of_trees(&mut random, 1);
+            let mut runner = Runner::by(rules);
+            script.calls.iter().for_each(|&call| runner.call(call));
+            runner.finish();
+            runner.output != script.runner.output
+        });
+        assert!(found, "a tree that {fault} was not found out");
     }
 }

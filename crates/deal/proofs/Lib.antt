@@ -4,3 +4,4 @@ pub mod Built
 pub mod Held
 pub mod Thirteen
 pub mod Sides
+pub mod Taking

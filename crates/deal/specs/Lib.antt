@@ -1,2 +1,3 @@
 pub mod Hands
 pub mod Sides
+pub mod Taking

@@ -1,5 +1,11 @@
-// The deal: the hands of the four seats as 52-bit words of the holders, thirteen cards each, suits still held, and Law 2.
-// The holder of a card is any number: seats are 0 to 3, and a card with another holder is in nobody's hand.
+// The deal: the hands of the four seats as 52-bit words of the holders, thirteen cards each, suits still held, and Law 2. `given` takes holders as they
+// are given. The holder of a card is any number: seats are 0 to 3, and a card with another holder is in nobody's hand.
+mod given;
+
+pub use given::Dealt;
+pub use given::SUITS;
+pub use given::take;
+pub use given::take_places;
 ghost use mathlib.Core.Path.{_≡_};
 ghost use Prim.Native.Nat.{_-_, _^_, _<_};
 ghost use Rattle.laws.specs.Law2;

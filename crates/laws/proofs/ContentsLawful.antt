@@ -41,7 +41,7 @@ heading-kept board table from q =
     let c = first-test noBoardOrTable 1 (ltb 511 table) [] from _ (b .1) in
     (ltb-false 127 board (a .0), ltb-false 511 table (c .0))
 
-each-seat : (l : List ℕ) → some (λ holder. ltb 3 holder) l ≡ false → (k : ℕ) → k < length l → getD l k 0 ≤ 3
+pub each-seat : (l : List ℕ) → some (λ holder. ltb 3 holder) l ≡ false → (k : ℕ) → k < length l → getD l k 0 ≤ 3
 unfolding some
 each-seat [] e k h = absurd (omega arith)
 each-seat (x ∷ l) e zero h = ltb-false 3 x (or-left (ltb 3 x) _ e)

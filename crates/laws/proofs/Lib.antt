@@ -49,3 +49,5 @@ pub mod LeadRevokes
 pub mod FailuresInFull
 pub mod OneCard
 pub mod FlatPlay
+pub mod TallyRules
+pub mod OneDeal

@@ -86,7 +86,7 @@ module _ (deal : List ℕ) where
       (λ (q : hasThirteen seat deal ≡ true). (eqb-true (cardsDealt seat deal) 13 q, rw q at e))
       (λ (q : hasThirteen seat deal ≡ false). let z : seat ≡ noSeat = rw q at e in absurd (omega arith))
 
-  none-short : seatWithoutThirteen deal ≡ noSeat → (seat : ℕ) → seat < 4 → cardsDealt seat deal ≡ 13
+  pub none-short : seatWithoutThirteen deal ≡ noSeat → (seat : ℕ) → seat < 4 → cardsDealt seat deal ≡ 13
   none-short e =
       let n = next-short 0 _ (lit< tt) e in
       let o = next-short 1 _ (lit< tt) (n .1) in

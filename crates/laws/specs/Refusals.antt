@@ -9,6 +9,16 @@ pub data Answer (A : Type 0) : Type 0 where
   refused : ℕ → Answer A
   answered : A → Answer A
 
+-- what is answered to a question about a tally: a refusal by its number and its place, or a value
+pub data Placed (A : Type 0) : Type 0 where
+  refusedAt : ℕ → ℕ → Placed A
+  given : A → Placed A
+
+-- an answer whose refusals have place 0
+abbrev pub placed : {A : Type 0} → Answer A → Placed A
+placed (refused n) = refusedAt n 0
+placed (answered a) = given a
+
 -- a refusal and its place as one number
 abbrev pub refusalNumber : ℕ → ℕ → ℕ
 refusalNumber n place = n * 1024 + place
@@ -29,7 +39,7 @@ recordEnds = 2
 abbrev pub noBoardOrTable : ℕ
 noBoardOrTable = 3
 
--- Law 1: a seat without thirteen cards; its place is the seat
+-- Law 1: a seat without thirteen cards; its place is the seat, or 4 where some holder is no seat
 abbrev pub notThirteen : ℕ
 notThirteen = 4
 
@@ -124,6 +134,10 @@ choiceNotOpen = 26
 -- a 41st code of an exposure or a choice
 abbrev pub tooManyCodes : ℕ
 tooManyCodes = 27
+
+-- Law 87: a fouled board, results of two deals under one number
+abbrev pub fouledBoard : ℕ
+fouledBoard = 28
 
 -- a board of a team match that is outside 1 to 127, or was used already
 abbrev pub boardNotFree : ℕ

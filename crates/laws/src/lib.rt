@@ -86,6 +86,9 @@ pub const CHOICE_NOT_OPEN: u8 = 26;
 // A 41st code of an exposure or a choice.
 pub const TOO_MANY_CODES: u8 = 27;
 
+// Law 87: a fouled board, results of two deals under one number.
+pub const FOULED_BOARD: u8 = 28;
+
 // A board of a team match that is outside 1 to 127, or was used already.
 pub const BOARD_NOT_FREE: u8 = 29;
 

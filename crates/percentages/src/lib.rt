@@ -1,10 +1,11 @@
-// The cells of a page of results: a score of a tally with its percentage as a 64-bit float, and awarded results.
+// The cells of a page of results: a result of a tally with its percentage as a 64-bit float, and awarded results.
 use laws::INVALID_SCORE;
 use tally::MatchpointAnswer;
 use tally::Tally;
 ghost use mathlib.Core.Path.{_≡_};
 ghost use Prim.Native.Nat.{_+_, _-_, _*_, _/_, _≤_};
 ghost use Rattle.laws.specs.Percentages.{percentage, isAward, award as awardAsked};
+ghost use Rattle.laws.specs.Refusals.{placed};
 ghost use Rattle.percentages.specs.Cells.{cellAnswer, cellOfTally, cellBy};
 
 // A played result with the percentage of North-South, an awarded result with its percentage, or a result alone on its board.
@@ -14,9 +15,9 @@ pub enum Cell {
     Alone,
 }
 
-// What is answered: a refusal, or a cell.
+// What is answered: a refusal and its place, or a cell.
 pub enum CellAnswer {
-    Refused(u8),
+    Refused(u8, u8),
     Is(Cell),
 }
 
@@ -50,13 +51,13 @@ fn results_of(ns: u32, ew: u32) -> u32
     (ns + ew) / 2 + 1
 }
 
-// The cell of one result of a score; 17, 20 or 21.
-pub fn cell_of(t: Tally, score: i16) -> CellAnswer
-    ensures { λ r. ⌜ cellAnswer r ≡ cellOfTally t score ⌝ }
+// The cell of one result: a score with the holders of the cards that were played; 17, 20, 4, 28 or 21.
+pub fn cell_of(t: Tally, score: i16, holders: &[u8]) -> CellAnswer
+    ensures { λ r. ⌜ cellAnswer r ≡ cellOfTally t (record { score = score; deal = now (holders .entry) }) ⌝ }
 {
-    let answer = tally::matchpoints(t, score);
+    let answer = tally::matchpoints(t, score, holders);
     match answer {
-        MatchpointAnswer::Refused(n) => CellAnswer::Refused(n),
+        MatchpointAnswer::Refused(n, place) => CellAnswer::Refused(n, place),
         MatchpointAnswer::Points { ns, ew } => {
             let results = results_of(ns.0, ew.0);
             cell_by(ns.0, results)
@@ -79,11 +80,11 @@ fn is_award(percent: u32) -> bool
 
 // An awarded result of 60, 50 or 40 per cent; 20 for any other.
 pub fn award(percent: u32) -> CellAnswer
-    ensures { λ r. ⌜ cellAnswer r ≡ awardAsked percent ⌝ }
+    ensures { λ r. ⌜ cellAnswer r ≡ placed (awardAsked percent) ⌝ }
 {
     if is_award(percent) {
         let whole = percent as f64;
         return CellAnswer::Is(Cell::Awarded(whole));
     }
-    CellAnswer::Refused(INVALID_SCORE)
+    CellAnswer::Refused(INVALID_SCORE, 0)
 }

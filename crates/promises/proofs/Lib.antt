@@ -8,8 +8,10 @@ pub mod Demand1
 pub mod Demand2Judgement
 pub mod Demand2Revokes
 pub mod Demand3
+pub mod Demand3OneDeal
 pub mod TalliesMatchpoints
 pub mod Tallies
+pub mod TalliesMerging
 pub mod Demand2Imps
 pub mod Percentages
 pub mod Writing

@@ -12,24 +12,27 @@ use lib.Dec.{eqb}
 use lib.Ieee.{Float}
 use lib.IntN.{ℤ}
 use lib.ListN.{length}
-use Rattle.laws.specs.Refusals.{Answer, refused, answered, malformedTally, invalidScore}
+use Rattle.laws.specs.Refusals.{Answer, refused, answered, placed, malformedTally, invalidScore}
 use Rattle.laws.specs.Law77.{validScore}
 use Rattle.laws.specs.Law78.{occurrences, nsMatchpoints, ewMatchpoints}
 use Rattle.laws.specs.Percentages.{mostMatchpoints, asFloat, percentage, nsPercentage, ewPercentage}
 use Rattle.laws.specs.Percentages.{Cell, played, awarded, alone, cellOf, cellAsked, isAward, award}
 use Rattle.laws.specs.CellSheet.{hundredths}
-use Rattle.laws.specs.Tally.{Tree, listOf}
+use Rattle.laws.specs.Tally.{Result, scoresOf, Thirteen, Refusal, asked, Tree, listOf, added, OneDeal}
 use Rattle.laws.proofs.Comparisons.{ns-counts, below-equal, both-most}
+use Rattle.laws.proofs.TallyRules.{thirteen-deal, on-deal}
+use Rattle.laws.proofs.OneDeal.{list-deal, asked-on}
 use Rattle.laws.proofs.Tests.{by-test}
 use Rattle.tally.specs.declared.Tally.{Tally}
 use Rattle.tally.specs.Tallies.{noTally}
 use Rattle.percentages.specs.Cells.{cellOfTally}
-use Rattle.percentages.proofs.Told.{byPoints, by-list, by-points}
+use Rattle.percentages.proofs.Told.{byPoints, by-asked, by-points}
 use Rattle.percentages.proofs.Floats.{exactly, once, at-least-0, at-most-100, all-points, no-points, percentage-number}
 use Rattle.promises.specs.Demand3.{left}
 use Rattle.promises.specs.Percentages.{Compared, OfPercentage, OfCells, OverTrees, Rounded, Percentages}
 use Rattle.promises.proofs.Tallies.{none-malformed}
-use Rattle.promises.proofs.Demand3.{points-left, demand-3}
+use Rattle.promises.proofs.Demand3.{points-left}
+use Rattle.promises.proofs.Demand3OneDeal.{demand-3}
 
 -- ---- one result compared with others
 module _ (l : List ℤ) (s : ℤ) (w : Compared l s) where
@@ -123,21 +126,35 @@ of-cells =
       only = λ l s e. rw e at (fair l s);
       one-result = one-result;
       not-awarded = λ l s x e. rw e at (fair l s);
-      no-tally = λ s. rw none-malformed;
+      no-tally = λ r. rw none-malformed;
       awards = awards;
       others = no-other;
     }
 
 -- ---- trees
-cell-left : (t : Tree) (s : ℤ) → cellOfTally (left t) s ≡ cellAsked (listOf t) s
-cell-left t s = sym (by-points (left t) s) ∙ ap byPoints (points-left t s) ∙ by-list (listOf t) s
+cell-left : (t : Tree) (r : Result) → cellOfTally (left t) r ≡ asked cellAsked (listOf t) r
+cell-left t r = sym (by-points (left t) r) ∙ ap byPoints (points-left t r) ∙ by-asked (listOf t) r
+
+-- a score that isn't valid is refused before it is looked for
+invalid-cell : (l : List ℤ) (s : ℤ) → validScore s ≡ false → cellAsked l s ≡ refused invalidScore
+unfolding cellAsked
+invalid-cell l s v = rw v
+
+cell-on : (deal : List ℕ) → Thirteen deal → (t : Tree) → OneDeal deal (added t) → (s : ℤ)
+    → cellOfTally (left t) (record { score = s; deal = deal }) ≡ placed (cellAsked (scoresOf (listOf t)) s)
+cell-on deal h t o s =
+    let r : Result = record { score = s; deal = deal } in
+    cell-left t r
+    ∙ ap (λ (l : List Result). asked cellAsked l r) (on-deal deal (listOf t) (list-deal deal t o))
+    ∙ asked-on deal (ap (λ (x : Refusal). x .number) (thirteen-deal deal h)) cellAsked invalid-cell (scoresOf (listOf t)) s
 
 over-trees : OverTrees
 over-trees =
     record {
       of-tree = cell-left;
-      of-answer = λ t s r h. h ∙ cell-left t s;
-      same-cell = λ b t u p q h s r k e f. e ∙ ap (λ (x : Tally). cellOfTally x s) (demand-3 .same-tally b t u p q h) ∙ sym f;
+      of-answer = λ t r a h. h ∙ cell-left t r;
+      on-one-deal = cell-on;
+      same-cell = λ b d k t u p q h r a c e f. e ∙ ap (λ (x : Tally). cellOfTally x r) (demand-3 .on-one-deal d k .same-tally b t u p q h) ∙ sym f;
     }
 
 -- ---- rounded half up

@@ -12,12 +12,12 @@ use lib.IntN.{ℤ}
 use lib.ListN.{length}
 use lib.Signed.{ltZ}
 use Rattle.laws.specs.Choice.{howMany}
-use Rattle.laws.specs.Refusals.{refused, answered, malformedTally, invalidScore}
+use Rattle.laws.specs.Refusals.{refused, answered, refusedAt, placed, malformedTally, invalidScore}
 use Rattle.laws.specs.Law77.{validScore}
 use Rattle.laws.specs.Law78.{occurrences, nsMatchpoints, ewMatchpoints}
 use Rattle.laws.specs.Percentages.{mostMatchpoints, asFloat, nsPercentage, ewPercentage, played, awarded, alone, cellAsked, award}
 use Rattle.laws.specs.CellSheet.{hundredths}
-use Rattle.laws.specs.Tally.{Tree, listOf, added, SameScores}
+use Rattle.laws.specs.Tally.{Result, scoresOf, Thirteen, asked, Tree, listOf, added, OneDeal, SameScores}
 use Rattle.tally.specs.Tallies.{noTally}
 use Rattle.percentages.specs.declared.CellAnswer.{CellAnswer}
 use Rattle.percentages.specs.Cells.{cellAnswer, cellOfTally}
@@ -55,20 +55,24 @@ pub record OfCells : Type 0 where
   -- what is asked of a list is never an awarded cell
   pub not-awarded : (results : List ℤ) (s : ℤ) (x : Float) → cellAsked results s ≡ answered (awarded x) → ⊥
   -- an all-zero tally, as beside a refusal, is refused with 17
-  pub no-tally : (s : ℤ) → cellOfTally noTally s ≡ refused malformedTally
+  pub no-tally : (r : Result) → cellOfTally noTally r ≡ refusedAt malformedTally 0
   -- 60, 50 and 40 are awarded as themselves, and any other number is 20
   pub awards : (n : ℕ) → (n ≡ 60) ⊎ (n ≡ 50) ⊎ (n ≡ 40) → award n ≡ answered (awarded (asFloat n))
   pub others : (n : ℕ) → (n ≡ 60 → ⊥) → (n ≡ 50 → ⊥) → (n ≡ 40 → ⊥) → award n ≡ refused invalidScore
 
 -- ---- trees
--- asked of the tally that a tree's calls leave: the cell over the tree's whole list
+-- asked of the tally that a tree's calls leave, whatever its deals: 20, 4 or 28, else the cell over the tree's whole list, or 21
 pub record OverTrees : Type 0 where
-  pub of-tree : (t : Tree) (s : ℤ) → cellOfTally (left t) s ≡ cellAsked (listOf t) s
+  pub of-tree : (t : Tree) (r : Result) → cellOfTally (left t) r ≡ asked cellAsked (listOf t) r
   -- every answer that the contract of `percentages::cell_of` allows stands for it
-  pub of-answer : (t : Tree) (s : ℤ) (r : CellAnswer) → cellAnswer r ≡ cellOfTally (left t) s → cellAnswer r ≡ cellAsked (listOf t) s
+  pub of-answer : (t : Tree) (r : Result) (a : CellAnswer) → cellAnswer a ≡ cellOfTally (left t) r → cellAnswer a ≡ asked cellAsked (listOf t) r
+  -- where all results are of one deal with thirteen cards a seat, and the score asked about is on it
+  pub on-one-deal : (deal : List ℕ) → Thirteen deal → (t : Tree) → OneDeal deal (added t) → (s : ℤ)
+      → cellOfTally (left t) (record { score = s; deal = deal }) ≡ placed (cellAsked (scoresOf (listOf t)) s)
   -- two trees of demand 3's kind with the same scores, each as often, give the same answers
-  pub same-cell : (board : ℕ) (t u : Tree) → Plain board t → Plain board u → SameScores (added t) (added u)
-      → (s : ℤ) (r q : CellAnswer) → cellAnswer r ≡ cellOfTally (left t) s → cellAnswer q ≡ cellOfTally (left u) s → cellAnswer r ≡ cellAnswer q
+  pub same-cell : (board : ℕ) (deal : List ℕ) → Thirteen deal → (t u : Tree) → Plain board deal t → Plain board deal u
+      → SameScores (scoresOf (added t)) (scoresOf (added u))
+      → (r : Result) (a q : CellAnswer) → cellAnswer a ≡ cellOfTally (left t) r → cellAnswer q ≡ cellOfTally (left u) r → cellAnswer a ≡ cellAnswer q
 
 -- ---- the printed hundredths: the whole number that is at most the exact number and a half, and more than that less one
 pub record Rounded (points most : ℕ) : Type 0 where

@@ -9,13 +9,13 @@ use Rattle.script_line.specs.declared.Line.{Line}
 
 -- before the first byte
 unfoldable pub firstLine : Line
-firstLine = record { bytes = replicate 19 0; length = 0; number = 0 }
+firstLine = record { bytes = replicate 20 0; length = 0; number = 0 }
 
--- a byte at the end of the line; a line of more than 19 bytes is longer than any call of a script, and its length stays 20
+-- a byte at the end of the line; a line of more than 20 bytes is longer than any call of a script, and its length stays 21
 unfoldable pub withByte : Line → ℕ → Line
 withByte l b =
-    if ltb (l .length) 19 then record { bytes = set (l .bytes) (l .length) b; length = l .length + 1; number = l .number }
-    else record { bytes = l .bytes; length = 20; number = l .number }
+    if ltb (l .length) 20 then record { bytes = set (l .bytes) (l .length) b; length = l .length + 1; number = l .number }
+    else record { bytes = l .bytes; length = 21; number = l .number }
 
 -- how many lines are whole after so many; the last number that the type can hold stays
 unfoldable pub nextNumber : ℕ → ℕ
@@ -27,7 +27,7 @@ nextLine l = record { bytes = l .bytes; length = 0; number = nextNumber (l .numb
 
 -- a line is longer than any call
 abbrev pub tooLong : Line → Bool
-tooLong l = ltb 19 (l .length)
+tooLong l = ltb 20 (l .length)
 
 -- the bytes of a line that is not
 abbrev pub textOf : Line → List ℕ

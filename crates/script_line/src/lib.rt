@@ -2,9 +2,9 @@
 ghost use mathlib.Core.Path.{_≡_};
 ghost use Rattle.script_line.specs.Lines.{firstLine, withByte, nextNumber, nextLine};
 
-// The bytes so far and their number, 20 where the line is longer than any call; and how many lines were whole.
+// The bytes so far and their number, 21 where the line is longer than any call; and how many lines were whole.
 pub struct Line {
-    pub bytes: [u8; 19],
+    pub bytes: [u8; 20],
     pub length: usize,
     pub number: u64,
 }
@@ -14,7 +14,7 @@ pub fn first_line() -> Line
     ensures { λ r. ⌜ r ≡ firstLine ⌝ }
 {
     Line {
-        bytes: [0u8; 19],
+        bytes: [0u8; 20],
         length: 0,
         number: 0,
     }
@@ -26,12 +26,12 @@ pub fn with_byte(line: Line, b: u8) -> Line
 {
     let n = line.length;
     let mut next = line;
-    if n < 19 {
+    if n < 20 {
         next.bytes[n] = b;
         next.length = n + 1;
         return next;
     }
-    next.length = 20;
+    next.length = 21;
     next
 }
 

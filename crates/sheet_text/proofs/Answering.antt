@@ -4,7 +4,9 @@ use native.Mathlib.Numerals.{add-one}
 use native.Mathlib.Omega.{arith}
 use mathlib.Core.Path.{_≡_, refl, sym, ap, _∙_}
 use mathlib.Core.List.{List, [], _∷_, _++_, append-assoc, append-nil}
+use mathlib.Core.Bool.{true, false}
 use borrow.Author.Tests.{eq-eqb, ne-eqb}
+use lib.Dec.{eqb}
 use lib.IntN.{ℤ, pos, negsuc, natAbs}
 use lib.ListN.{length, getD, drop, length-append, drop-of-length-le}
 use lib.Seq.{drop-cons}
@@ -12,8 +14,9 @@ use mir.Syntax.{w16}
 use mir.Val.{SFits}
 use Rattle.laws.specs.Decimal.{decimal, signedDecimal}
 use Rattle.laws.specs.Sheet.{refusal}
+use Rattle.laws.proofs.Tests.{by-test}
 use Rattle.tally.specs.declared.Tally.{Tally}
-use Rattle.sheet_text.specs.Answers.{refusedText, pointsText, hexDigit, hexDigits, bitsText, entryText, placesText}
+use Rattle.sheet_text.specs.Answers.{refusedText, placedText, refusedAtText, pointsText, hexDigit, hexDigits, bitsText, entryText, placesText}
 use Rattle.sheet_text.specs.Putting.{Put}
 use Rattle.sheet_text.proofs.Enough.{refusal-length}
 use Rattle.sheet_text.proofs.Printed.{length-3, length-by}
@@ -31,6 +34,16 @@ entry-length s c = simp length-append (omega arith)
 
 pub refused-short : (n : ℕ) → n < 256 → length (refusedText n) ≤ 34
 refused-short n h = omega (arith, refused-length n, length-3 n (omega arith))
+
+pub placed-length : (n place : ℕ) → length (placedText n place) ≡ length (decimal n) + length (decimal place) + 16
+placed-length n place = simp length-append (omega arith)
+
+pub refused-at-short : (n place : ℕ) → n < 256 → place < 256 → length (refusedAtText n place) ≤ 34
+unfolding refusedAtText
+refused-at-short n place h k =
+    by-test (eqb place 0)
+    (λ (q : eqb place 0 ≡ true). rw q (refused-short n h))
+    (λ (q : eqb place 0 ≡ false). rw q (omega (arith, placed-length n place, length-3 n (omega arith), length-3 place (omega arith))))
 
 pub points-short : (ns ew : ℕ) → ns < 2 ^ 32 → ew < 2 ^ 32 → length (pointsText ns ew) ≤ 34
 points-short ns ew h k = omega (arith, points-length ns ew, length-by 9 ns (omega arith), length-by 9 ew (omega arith))

@@ -13,21 +13,26 @@ use lib.Seq.{drop-drop}
 use mir.Syntax.{w16}
 use mir.Val.{toZ, ofZ}
 use mir.Facts.{toZ-ofZ}
-use Rattle.laws.specs.Choice.{if_then_else_}
+use Rattle.laws.specs.Choice.{if_then_else_, howMany, some}
 use Rattle.laws.specs.Law77.{validScore}
 use Rattle.laws.specs.Sheet.{linesOf, scoreOf, isScore, isZero, isSize, unsigned, refusedLine, table, refusal, tabled, sheet}
 use Rattle.laws.specs.CellSheet.{cellTable, cellSheet}
-use Rattle.laws.specs.Tally.{addRefusal, AllValid, freshRefusal}
+use Rattle.laws.specs.Cards.{cardsDealt, firstWithoutThirteen}
+use Rattle.laws.specs.Contents.{areSeats, takeDeal}
+use Rattle.laws.specs.Reading.{refuse}
+use Rattle.laws.specs.Tally.{Result, onDeal, dealOf, leaves, Refusal, dealRefusal, addRefusal, AllValid, freshRefusal}
+use Rattle.laws.proofs.TallyRules.{scores-on, length-on, given-on, add-allowed, allowed-add}
 use Rattle.laws.proofs.Tests.{by-test, and-right}
 use Rattle.tally.specs.declared.Tally.{Tally}
 use Rattle.tally.specs.declared.Tallied.{Tallied}
 use Rattle.tally.specs.Entries.{entriesOf}
-use Rattle.tally.specs.Tallies.{entriesIn, tallyOf, scoresIn, wellFormed, freshOf, addOf, answerOf}
-use Rattle.tally.proofs.Formed.{formed, formed-tally, entries-scores}
+use Rattle.tally.specs.Tallies.{entriesIn, tallyFor, tallyOf, scoresIn, carries, wellFormed, freshOf, addOf, answerOf}
+use Rattle.tally.proofs.Dealing.{carried-deal, carried-none}
+use Rattle.tally.proofs.Formed.{formed, entries-scores}
 use Rattle.tally.proofs.Lists.{valid-append}
-use Rattle.tally.proofs.OfLists.{Sound, add-list}
-use Rattle.tally.proofs.Refusing.{add-allowed, allowed-add}
+use Rattle.tally.proofs.OfLists.{Sound, is-well, answer-number, answer-made, add-list}
 use Rattle.tally.proofs.Tables.{table-tally, cell-table-tally}
+use Rattle.tree_stack.specs.Deals.{suits}
 use Rattle.sheet_text.specs.declared.Said.{Said}
 use Rattle.sheet_text.specs.declared.Said.the-variants.{Score, Nothing}
 use Rattle.sheet_text.specs.declared.whole.Results.{Results}
@@ -40,22 +45,47 @@ use Rattle.sheet_text.proofs.Enough.{Taken, all-taken, refused-low}
 use Rattle.sheet_text.proofs.Rows.{valid-fits}
 use Rattle.sheet_text.proofs.Lines.{first-line, line-within}
 
+-- the deal of the lines, where there are any
+abbrev carried : List ℤ → List ℕ
+carried l = dealOf (onDeal suits l)
+
+suits-deal : dealRefusal suits .number ≡ 0
+unfolding dealRefusal takeDeal areSeats firstWithoutThirteen cardsDealt howMany some refuse
+suits-deal = refl
+
+carries-lines : (l : List ℤ) → carries (carried l) (length l) ≡ true
+carries-lines [] = carried-none
+carries-lines (s ∷ l) = carried-deal suits (suc (length l)) (λ z. omega arith) suits-deal
+
+on-carried : (l : List ℤ) → onDeal (carried l) l ≡ onDeal suits l
+on-carried [] = refl
+on-carried (s ∷ l) = refl
+
+carried-last : (l : List ℤ) (s : ℤ) → carried (l ++ (s ∷ [])) ≡ suits
+carried-last [] s = refl
+carried-last (r ∷ l) s = refl
+
+-- the tally of the lines' results
+lines-tally : (l : List ℤ) → tallyOf 1 (onDeal suits l) ≡ tallyFor 1 (carried l) l
+unfolding tallyOf
+lines-tally l = ap (tallyFor 1 (carried l)) (scores-on suits l)
+
 -- the lines before `at` have said k scores, which the tally holds; those from there on decide the rest
 pub record Read (bytes : List ℕ) (t : Tally) (k at : ℕ) : Type 0 where
   pub so-far : List ℤ
-  pub is : t ≡ tallyOf 1 so-far
-  pub sound : Sound 1 so-far
+  pub is : t ≡ tallyFor 1 (carried so-far) so-far
+  pub sound : Sound 1 (carried so-far) so-far
   pub count : k ≡ length so-far
   pub scores : map scoreOf (linesOf bytes) ≡ so-far ++ map scoreOf (linesOf (drop at bytes))
   pub refused : refusedLine 1 (linesOf bytes) ≡ refusedLine (suc k) (linesOf (drop at bytes))
 
 pub begins : (bytes : List ℕ) → Read bytes (freshOf 1 .tally) 0 0
-unfolding freshOf freshRefusal answerOf AllValid
+unfolding freshOf freshRefusal answerOf leaves tallyOf AllValid
 begins bytes =
     record {
       so-far = [];
       is = refl;
-      sound = record { board = refl; valid = tt; room = omega arith };
+      sound = record { board = refl; valid = tt; room = omega arith; deal = carried-none };
       count = refl;
       scores = refl;
       refused = refl;
@@ -76,15 +106,6 @@ said-nothing line e =
     (λ (q : isScore line ≡ true). absurd (let z : _≡_ {A = ℕ} 0 1 = cc (rw q at e) in omega arith))
     (λ (q : isScore line ≡ false). q)
 
-its-refusal : (n : ℕ) (made : Tally) → answerOf n made .refusal ≡ n
-unfolding answerOf
-its-refusal zero made = refl
-its-refusal (suc n) made = refl
-
-its-tally : (made : Tally) → answerOf 0 made .tally ≡ made
-unfolding answerOf
-its-tally made = refl
-
 module _ (bytes : List ℕ) (t : Tally) (k at : ℕ) (w : Read bytes t k at) where
   pub few : k ≤ 128
   few = omega (arith, w .count, w .sound .room)
@@ -94,7 +115,8 @@ module _ (bytes : List ℕ) (t : Tally) (k at : ℕ) (w : Read bytes t k at) whe
   ends h =
       let none : drop at bytes ≡ [] = drop-of-length-le bytes h in
       let all : map scoreOf (linesOf bytes) ≡ w .so-far = w .scores ∙ rw none (append-nil (w .so-far)) in
-      record { refused = sym (w .refused ∙ rw none); tally = λ q. w .is ∙ ap (tallyOf 1) (sym all) }
+      let same = ap (λ (l : List ℤ). tallyOf 1 (onDeal suits l)) (sym all) in
+      record { refused = sym (w .refused ∙ rw none); tally = λ q. w .is ∙ sym (lines-tally (w .so-far)) ∙ same }
 
   module _ (h : at < length bytes) (end : ℕ) (is-end : end ≡ at + lineLength (drop at bytes)) where
     abbrev line : List ℕ
@@ -134,16 +156,25 @@ module _ (bytes : List ℕ) (t : Tally) (k at : ℕ) (w : Read bytes t k at) whe
       unfolding isScore
       said-valid = rw is-said at (and-right (isZero line || isSize (unsigned line)) (validScore (scoreOf line)) is-score)
 
-      answer : addOf t s ≡ answerOf (addRefusal (w .so-far) s) (tallyOf 1 (w .so-far ++ (s ∷ [])))
-      answer = rw (w .is) (add-list 1 (w .so-far) (w .sound) s)
+      abbrev result : Result
+      result = record { score = s; deal = suits }
 
-      number : addOf t s .refusal ≡ addRefusal (w .so-far) s
-      number = rw answer (its-refusal (addRefusal (w .so-far) s) (tallyOf 1 (w .so-far ++ (s ∷ []))))
+      abbrev its-number : Refusal
+      its-number = addRefusal (onDeal suits (w .so-far)) result
+
+      answer : addOf t result ≡ answerOf its-number (tallyFor 1 suits (w .so-far ++ (s ∷ [])))
+      answer = rw (w .is) (add-list 1 (carried (w .so-far)) (w .so-far) (w .sound) result ∙ rw (on-carried (w .so-far)))
+
+      number : addOf t result .refusal ≡ its-number .number
+      number = rw answer (answer-number its-number (tallyFor 1 suits (w .so-far ++ (s ∷ []))))
+
+      few-lines : length (onDeal suits (w .so-far)) ≡ k
+      few-lines = length-on suits (w .so-far) ∙ sym (w .count)
 
       -- what the call answers, asked for the score as the code holds it
-      module _ (a : Tallied) (is-a : a ≡ addOf t (toZ w16 (ofZ w16 s))) where
-        added : a ≡ addOf t s
-        added = is-a ∙ ap (addOf t) (toZ-ofZ (valid-fits s said-valid))
+      module _ (a : Tallied) (is-a : a ≡ addOf t (record { score = toZ w16 (ofZ w16 s); deal = suits })) where
+        added : a ≡ addOf t result
+        added = is-a ∙ ap (λ (z : ℤ). addOf t (record { score = z; deal = suits })) (toZ-ofZ (valid-fits s said-valid))
 
         pub over : (a .refusal ≡ 0 → ⊥) → Found bytes (record { refused = k + 1; tally = t })
         over f =
@@ -151,27 +182,32 @@ module _ (bytes : List ℕ) (t : Tally) (k at : ℕ) (w : Read bytes t k at) whe
             (λ (z : ltb 128 (suc k) ≡ true). stops (rw (is-score, z)))
             (λ (z : ltb 128 (suc k) ≡ false).
             let room = ltb-false 128 (suc k) z in
-            absurd (f (rw added (number ∙ allowed-add (w .so-far) s said-valid (omega (arith, w .count))))))
+            let fine = given-on suits (w .so-far) s said-valid suits-deal in
+            absurd (f (rw added (number ∙ ap (λ (r : Refusal). r .number)
+            (allowed-add (onDeal suits (w .so-far)) result (ap (λ (r : Refusal). r .number) fine) (omega (arith, few-lines)))))))
 
         pub goes : a .refusal ≡ 0 → Read bytes (a .tally) (k + 1) (end + 1)
         unfolding refusedLine AllValid
         goes z =
-            let fine : addRefusal (w .so-far) s ≡ 0 = sym number ∙ (rw added at z) in
-            let room = add-allowed (w .so-far) s fine .1 in
-            let more : w .so-far ++ (scoreOf line ∷ []) ≡ w .so-far ++ (s ∷ []) = rw is-said in
+            let fine : its-number .number ≡ 0 = sym number ∙ (rw added at z) in
+            let room = add-allowed (onDeal suits (w .so-far)) result fine .1 in
+            let last = carried-last (w .so-far) s in
+            let l = w .so-far ++ (s ∷ []) in
+            let n : length l ≡ k + 1 = length-append (w .so-far) (s ∷ []) ∙ omega (arith, w .count) in
             rw (add-one k)
             (record {
-              so-far = w .so-far ++ (s ∷ []);
-              is = rw (added, answer, fine) (its-tally (tallyOf 1 (w .so-far ++ (s ∷ []))));
+              so-far = l;
+              is = rw (added, answer, last) (answer-made its-number (tallyFor 1 suits l) fine);
               sound =
                   record {
                     board = w .sound .board;
                     valid = valid-append (w .so-far) (s ∷ []) (w .sound .valid) (said-valid, tt);
-                    room = rw (length-append (w .so-far) (s ∷ [])) (omega arith);
+                    room = omega (arith, n, few-lines);
+                    deal = carries-lines l;
                   };
-              count = rw (length-append (w .so-far) (s ∷ [])) (omega (arith, w .count));
+              count = omega (arith, n);
               scores = w .scores ∙ rw (split, is-said) (sym (append-assoc (w .so-far) (s ∷ []) (map scoreOf (linesOf (drop (end + 1) bytes)))));
-              refused = w .refused ∙ rw (split, is-score, le-ltb 128 (suc k) (omega (arith, w .count)));
+              refused = w .refused ∙ rw (split, is-score, le-ltb 128 (suc k) (omega (arith, few-lines)));
             })
 
 -- ---- the sheet by what was found
@@ -192,21 +228,30 @@ module _ (bytes : List ℕ) (r : Results) (f : Found bytes r) where
     taken : Taken 1 (linesOf bytes)
     taken = all-taken 1 (linesOf bytes) (omega arith) (omega arith) (sym (f .refused) ∙ h)
 
-    sound : Sound 1 (map scoreOf (linesOf bytes))
+    abbrev scores : List ℤ
+    scores = map scoreOf (linesOf bytes)
+
+    sound : Sound 1 (carried scores) scores
     unfolding freshRefusal
-    sound = record { board = refl; valid = taken .valid; room = rw length-map (omega (arith, taken .few)) }
+    sound = record { board = refl; valid = taken .valid; room = rw length-map (omega (arith, taken .few)); deal = carries-lines scores }
+
+    abbrev its : Tally
+    its = tallyFor 1 (carried scores) scores
+
+    is-its : r .tally ≡ its
+    is-its = f .tally h ∙ lines-tally scores
 
     pub well : wellFormed (r .tally) ≡ true
-    well = rw (f .tally h) (formed-tally 1 (map scoreOf (linesOf bytes)) (sound .valid) (sound .room) (sound .board))
+    well = rw is-its (is-well 1 (carried scores) scores sound)
 
-    own : let t = tallyOf 1 (map scoreOf (linesOf bytes)) in entriesOf (scoresIn t) ≡ entriesIn t
-    own = entries-scores (tallyOf 1 (map scoreOf (linesOf bytes))) (formed (tallyOf 1 (map scoreOf (linesOf bytes))) (rw (f .tally h) at well))
+    own : entriesOf (scoresIn its) ≡ entriesIn its
+    own = entries-scores its (formed its (is-well 1 (carried scores) scores sound))
 
-    tabled-table : (tableOf : List ℤ → List ℕ) → tabled tableOf (linesOf bytes) ≡ tableOf (map scoreOf (linesOf bytes))
+    tabled-table : (tableOf : List ℤ → List ℕ) → tabled tableOf (linesOf bytes) ≡ tableOf scores
     unfolding tabled
     tabled-table tableOf = rw (← f .refused, h)
 
     pub sheet-table : (k : Columns) → sheetAs k bytes ≡ tableAs k (scoresIn (r .tally))
     unfolding sheet cellSheet
-    sheet-table Matchpoints = rw (f .tally h) (tabled-table table ∙ sym (table-tally 1 (map scoreOf (linesOf bytes)) sound own))
-    sheet-table Percentages = rw (f .tally h) (tabled-table cellTable ∙ sym (cell-table-tally 1 (map scoreOf (linesOf bytes)) sound own))
+    sheet-table Matchpoints = rw is-its (tabled-table table ∙ sym (table-tally 1 (carried scores) scores sound own))
+    sheet-table Percentages = rw is-its (tabled-table cellTable ∙ sym (cell-table-tally 1 (carried scores) scores sound own))

@@ -12,7 +12,8 @@ use lib.ListN.{length, getD, length-append}
 use mir.Syntax.{w16}
 use mir.Val.{SFits, toZ, ofZ}
 use mir.Facts.{toZ-ofZ}
-use Rattle.laws.specs.Refusals.{refused, answered}
+use Rattle.laws.specs.Refusals.{refusedAt, given}
+use Rattle.laws.specs.Tally.{Result, refusal, givenRefusal, asked}
 use Rattle.laws.specs.Law77.{validScore}
 use Rattle.laws.specs.Law78.{sameScore, occurrences, nsMatchpoints, ewMatchpoints, matchpoints}
 use Rattle.laws.specs.CellSheet.{share, cellRow, cellTable}
@@ -20,6 +21,7 @@ use Rattle.laws.specs.Percentages.{mostMatchpoints}
 use Rattle.laws.specs.Sheet.{row, rows, table}
 use Rattle.laws.proofs.Comparisons.{below-equal, both-most}
 use Rattle.laws.proofs.Integers.{mag-le-size}
+use Rattle.laws.proofs.TallyRules.{scores-on, given-on}
 use Rattle.laws.proofs.Tests.{by-test}
 use Rattle.score.proofs.Validity.{valid-size}
 use Rattle.tally.specs.declared.Tally.{Tally}
@@ -28,11 +30,12 @@ use Rattle.tally.specs.declared.points.MatchpointAnswer.{MatchpointAnswer}
 use Rattle.tally.specs.declared.points.MatchpointAnswer.the-variants.{Refused, Points}
 use Rattle.tally.specs.Entries.{score, count, entry}
 use Rattle.tally.specs.Points.{pointsAnswer, matchpointsOf}
-use Rattle.tally.specs.Tallies.{entriesIn, scoresIn, wellFormed, ceiling}
+use Rattle.tally.specs.Tallies.{entriesIn, scoresIn, resultsIn, wellFormed, ceiling}
 use Rattle.tally.proofs.Ordered.{countOf}
 use Rattle.tally.proofs.Lists.{in-expand}
 use Rattle.tally.proofs.Told.{same-ns, same-ew}
-use Rattle.tally.proofs.Formed.{formed, entries-scores, room-scores}
+use Rattle.tally.proofs.Dealing.{deal-carried}
+use Rattle.tally.proofs.Formed.{formed, carried, entries-scores, room-scores}
 use Rattle.tally.proofs.Places.{entriesAt, entries-used, entries-unused, entries-end}
 use Rattle.sheet_text.specs.declared.columns.Columns.{Columns}
 use Rattle.sheet_text.specs.declared.columns.Columns.the-variants.{Matchpoints as ByPoints, Percentages as ByPercentages}
@@ -144,22 +147,33 @@ module _ (k : Columns) (t : Tally) (out₀ : List ℕ) (at₀ : ℕ) (out : List
     unfolding occurrences scoresIn
     counted = in-expand (sameScore at-i) (entriesIn t) ∙ entry-count _ _ _ _ here
 
-    -- the matchpoints of the score at place i
-    pub answers : matchpointsOf t at-i ≡ answered (record { ns = nsMatchpoints (scoresIn t) at-i; ew = ewMatchpoints (scoresIn t) at-i })
-    unfolding matchpointsOf matchpoints
-    answers = rw (w .well, is-valid, counted, ne-eqb of-i 0 u)
+    -- the matchpoints of the score at place i, on the deal that the tally carries
+    abbrev result : Result
+    result = record { score = at-i; deal = t .deal }
+
+    none-refused : givenRefusal (resultsIn t) result ≡ refusal 0
+    none-refused =
+        let some : length (scoresIn t) ≡ 0 → ⊥ = λ z. omega (arith, below-equal at-i (scoresIn t), counted) in
+        given-on (t .deal) (scoresIn t) at-i is-valid (deal-carried (t .deal) (length (scoresIn t)) some (carried t (w .well)))
+
+    pub answers : matchpointsOf t result ≡ given (record { ns = nsMatchpoints (scoresIn t) at-i; ew = ewMatchpoints (scoresIn t) at-i })
+    unfolding matchpointsOf asked matchpoints
+    answers = rw (w .well, none-refused, scores-on (t .deal) (scoresIn t), is-valid, counted, ne-eqb of-i 0 u)
 
     -- the score as the code holds it
     pub as-held : toZ w16 (ofZ w16 at-i) ≡ at-i
     as-held = toZ-ofZ (valid-fits at-i is-valid)
 
     -- what the call answers for it
-    module _ (r : MatchpointAnswer) (e : pointsAnswer r ≡ matchpointsOf t (toZ w16 (ofZ w16 at-i))) where
-      found : pointsAnswer r ≡ answered (record { ns = nsMatchpoints (scoresIn t) at-i; ew = ewMatchpoints (scoresIn t) at-i })
-      found = e ∙ ap (matchpointsOf t) as-held ∙ answers
+    module _ (r : MatchpointAnswer) (e : pointsAnswer r ≡ matchpointsOf t (record { score = toZ w16 (ofZ w16 at-i); deal = t .deal })) where
+      found : pointsAnswer r ≡ given (record { ns = nsMatchpoints (scoresIn t) at-i; ew = ewMatchpoints (scoresIn t) at-i })
+      found = e ∙ ap (λ (z : ℤ). matchpointsOf t (record { score = z; deal = t .deal })) as-held ∙ answers
 
-      pub not-refused : (n : ℕ) → r ≡ Refused n → ⊥
-      not-refused n q = let told : pointsAnswer r ≡ refused n = ap pointsAnswer q in let z : _≡_ {A = ℕ} 0 1 = cc (found, told) in omega arith
+      pub not-refused : (n place : ℕ) → r ≡ Refused n place → ⊥
+      not-refused n place q =
+          let told : pointsAnswer r ≡ refusedAt n place = ap pointsAnswer q in
+          let z : _≡_ {A = ℕ} 0 1 = cc (found, told) in
+          omega arith
 
       pub both : (n m : Matchpoints) → r ≡ Points n m → (n .0 ≡ nsMatchpoints (scoresIn t) at-i) × (m .0 ≡ ewMatchpoints (scoresIn t) at-i)
       both n m q =

@@ -19,6 +19,15 @@ okText = 111 ∷ 107 ∷ newline ∷ []
 abbrev pub refusedText : ℕ → List ℕ
 refusedText n = ((114 ∷ 101 ∷ 102 ∷ 117 ∷ 115 ∷ 101 ∷ 100 ∷ 32 ∷ []) ++ decimal n) ++ (newline ∷ [])
 
+-- `refused N place P`
+abbrev pub placedText : ℕ → ℕ → List ℕ
+placedText n place =
+    (((((114 ∷ 101 ∷ 102 ∷ 117 ∷ 115 ∷ 101 ∷ 100 ∷ 32 ∷ []) ++ decimal n) ++ (32 ∷ 112 ∷ 108 ∷ 97 ∷ 99 ∷ 101 ∷ 32 ∷ [])) ++ decimal place)) ++ (newline ∷ [])
+
+-- the place is told where it is not 0
+unfoldable pub refusedAtText : ℕ → ℕ → List ℕ
+refusedAtText n place = if eqb place 0 then refusedText n else placedText n place
+
 -- `NS EW`
 abbrev pub pointsText : ℕ → ℕ → List ℕ
 pointsText ns ew = (decimal ns ++ (32 ∷ decimal ew)) ++ (newline ∷ [])
@@ -50,7 +59,7 @@ aloneText = 97 ∷ 108 ∷ 111 ∷ 110 ∷ 101 ∷ newline ∷ []
 -- what a call answers; where the run ends there, that its line is refused
 unfoldable pub saidText : Said → ℕ → List ℕ
 saidText Done line = okText
-saidText (Refused n) line = refusedText n
+saidText (Refused n place) line = refusedAtText n place
 saidText (Points ns ew) line = pointsText ns ew
 saidText (Played bits) line = bitsText playedWord bits
 saidText (Awarded bits) line = bitsText awardedWord bits

@@ -12,7 +12,8 @@ use tree_stack::Said;
 ghost use mathlib.Core.Path.{_≡_};
 ghost use Prim.Native.Nat.{_+_, _≤_, _<_};
 ghost use lib.ListN.{length};
-ghost use Rattle.sheet_text.specs.Answers.{refusedText, pointsText, hexDigit, hexDigits, bitsText, saidText, entryText, tallyText};
+ghost use Rattle.sheet_text.specs.Answers.{refusedText, placedText, refusedAtText, pointsText, hexDigit, hexDigits, bitsText};
+ghost use Rattle.sheet_text.specs.Answers.{saidText, entryText, tallyText};
 ghost use Rattle.sheet_text.specs.Putting.{Put, written, lengthWithin, leftIn};
 
 pub(crate) fn put_refused(out: &mut [u8], n: u8) -> usize
@@ -22,6 +23,29 @@ pub(crate) fn put_refused(out: &mut [u8], n: u8) -> usize
     let number = put_bytes(out, 0, b"refused ");
     let end = put_decimal(out, number, n as u64);
     put_byte(out, end, 10)
+}
+
+// A refusal with its place.
+fn put_placed(out: &mut [u8], n: u8, place: u8) -> usize
+    requires { ⌜ length (placedText n place) ≤ length (now out) ⌝ }
+    ensures { λ r. ⌜ Put (now (out .entry)) 0 (placedText n place) (now (out .exit)) r ⌝ }
+{
+    let start = put_bytes(out, 0, b"refused ");
+    let word = put_decimal(out, start, n as u64);
+    let at = put_bytes(out, word, b" place ");
+    let end = put_decimal(out, at, place as u64);
+    put_byte(out, end, 10)
+}
+
+// A refusal; its place is told where it is not 0.
+fn put_refused_at(out: &mut [u8], n: u8, place: u8) -> usize
+    requires { ⌜ length (refusedAtText n place) ≤ length (now out) ⌝ }
+    ensures { λ r. ⌜ Put (now (out .entry)) 0 (refusedAtText n place) (now (out .exit)) r ⌝ }
+{
+    if place == 0 {
+        return put_refused(out, n);
+    }
+    put_placed(out, n, place)
 }
 
 pub(crate) fn put_points(out: &mut [u8], ns: u32, ew: u32) -> usize
@@ -72,7 +96,7 @@ fn put_said(out: &mut [u8], said: Said, line: u64) -> usize
 {
     match said {
         Said::Done => put_bytes(out, 0, b"ok\n"),
-        Said::Refused(n) => put_refused(out, n),
+        Said::Refused(n, place) => put_refused_at(out, n, place),
         Said::Points(ns, ew) => put_points(out, ns, ew),
         Said::Played(bits) => put_bits(out, b"played ", bits),
         Said::Awarded(bits) => put_bits(out, b"awarded ", bits),

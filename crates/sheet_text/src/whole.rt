@@ -1,4 +1,4 @@
-// The results of all lines, the table, and the sheets with matchpoints and with percentages.
+// The results of all lines, which are of one deal, the table, and the sheets with matchpoints and with percentages.
 use super::Said;
 use super::columns::Columns;
 use super::columns::put_header;
@@ -10,7 +10,9 @@ use super::put_decimal;
 use super::put_field;
 use super::put_score;
 use super::said_on;
+use deal::SUITS;
 use tally::MatchpointAnswer;
+use tally::Tallied;
 use tally::Tally;
 ghost use mathlib.Core.Path.{_≡_};
 ghost use mathlib.Core.Bool.{true};
@@ -18,7 +20,9 @@ ghost use Prim.Native.Nat.{_+_, _≤_};
 ghost use lib.ListN.{length};
 ghost use Rattle.laws.specs.CellSheet.{cellSheet};
 ghost use Rattle.laws.specs.Sheet.{refusal, sheet};
-ghost use Rattle.tally.specs.Tallies.{scoresIn, wellFormed};
+ghost use Rattle.tally.specs.Points.{pointsAnswer, matchpointsOf};
+ghost use Rattle.tally.specs.Tallies.{scoresIn, wellFormed, addOf};
+ghost use Rattle.tree_stack.specs.Deals.{suits};
 ghost use Rattle.sheet_text.specs.Columns.{rowText, tableAs, sheetAs, roomAs};
 ghost use Rattle.sheet_text.specs.Putting.{Put, written, lengthWithin, leftIn};
 ghost use Rattle.sheet_text.specs.Whole.{Found};
@@ -45,7 +49,15 @@ fn full_at(k: u32, t: Tally) -> Results
     }
 }
 
-// The scores on the lines, up to the first line that is refused.
+// A score of a line added: every line is of the same deal.
+fn with_score(t: Tally, score: i16) -> Tallied
+    ensures { λ r. ⌜ r ≡ addOf t (record { score = score; deal = suits }) ⌝ }
+{
+    let deal = SUITS;
+    tally::add(t, score, &deal)
+}
+
+// The scores on the lines, all of one deal, up to the first line that is refused.
 fn results_of(bytes: &[u8]) -> Results
     ensures { λ r. ⌜ Found (now (bytes .entry)) r ⌝ }
 {
@@ -63,7 +75,7 @@ fn results_of(bytes: &[u8]) -> Results
                 tally: t,
             };
         };
-        let more = tally::add(t, score);
+        let more = with_score(t, score);
         if more.refusal != 0 {
             return full_at(k, t);
         }
@@ -95,6 +107,14 @@ fn put_row(
     put_byte(out, d, 10)
 }
 
+// The matchpoints of a score on the deal that the tally carries.
+fn points_of(t: Tally, score: i16) -> MatchpointAnswer
+    ensures { λ r. ⌜ pointsAnswer r ≡ matchpointsOf t (record { score = score; deal = t .deal }) ⌝ }
+{
+    let deal = t.deal;
+    tally::matchpoints(t, score, &deal)
+}
+
 // The table of a tally that is well formed.
 fn put_table(out: &mut [u8], t: Tally, columns: Columns) -> usize
     requires { ⌜ (length (tableAs columns (scoresIn t)) ≤ length (now out)) × (wellFormed t ≡ true) ⌝ }
@@ -108,7 +128,7 @@ fn put_table(out: &mut [u8], t: Tally, columns: Columns) -> usize
             return at;
         }
         let score = t.scores[i];
-        let points = tally::matchpoints(t, score);
+        let points = points_of(t, score);
         let MatchpointAnswer::Points { ns, ew } = points else {
             return at;
         };

@@ -2,23 +2,27 @@
 use Prim.Native.Nat.{ℕ, suc, _≤_, _<_, _+_, _-_, _*_}
 use native.Mathlib.Omega.{arith}
 use native.Mathlib.Numerals.{add-one}
-use mathlib.Core.Path.{_≡_}
+use mathlib.Core.Path.{_≡_, sym, ap, _∙_}
 use mathlib.Core.Bool.{Bool, true, false}
 use mathlib.Core.List.{List, [], _∷_}
-use borrow.Author.Tests.{ne-eqb}
+use borrow.Author.Tests.{eq-eqb, ne-eqb}
 use lib.IntN.{ℤ, pos}
 use lib.ListN.{length, getD}
 use Rattle.laws.specs.Choice.{howMany}
-use Rattle.laws.specs.Refusals.{refused, answered}
+use Rattle.laws.specs.Refusals.{refusedAt, given, placed}
 use Rattle.laws.specs.Law77.{validScore}
 use Rattle.laws.specs.Law78.{sameScore, occurrences, ewMatchpoints, matchpoints}
+use Rattle.laws.specs.Tally.{Result, givenRefusal, asked}
 use Rattle.laws.proofs.Tests.{by-test}
+use Rattle.laws.proofs.TallyRules.{scores-on, given-allowed}
 use Rattle.laws.proofs.Comparisons.{lower, ns-counts, below-equal}
+use Rattle.tally.specs.declared.refusals.Held.{Held}
 use Rattle.tally.specs.declared.Entry.{Entry}
 use Rattle.tally.specs.declared.points.Standing.{Standing}
 use Rattle.tally.specs.declared.Tally.{Tally}
 use Rattle.tally.specs.Entries.{score, entry, expand}
-use Rattle.tally.specs.Tallies.{entriesIn, scoresIn, wellFormed}
+use Rattle.tally.specs.Tallies.{entriesIn, scoresIn, resultsIn, wellFormed}
+use Rattle.tally.specs.Steps.{held}
 use Rattle.tally.specs.Points.{matchpointsOf, belowOf, equalOf, standingOf}
 use Rattle.tally.proofs.Ordered.{inEntries, sumOf}
 use Rattle.tally.proofs.Lists.{in-expand, sum-expand}
@@ -98,32 +102,41 @@ module _ (t : Tally) (s : ℤ) (below equal results i : ℕ) (w : Stood t s belo
           )
 
 -- ---- the answer by the standing
-module _ (t : Tally) (s : ℤ) where
-  pub points-malformed : wellFormed t ≡ false → refused 17 ≡ matchpointsOf t s
+module _ (t : Tally) (s : ℤ) (w : wellFormed t ≡ true) (v : validScore s ≡ true) (x : Standing) (ex : x ≡ standingOf t s) where
+  pub points-absent : x .equal ≡ 0 → refusedAt 21 0 ≡ placed (matchpoints (scoresIn t) s)
+  unfolding matchpoints
+  points-absent z = let e : occurrences s (scoresIn t) ≡ 0 = rw ex at z in rw (v, e)
+
+  -- the numbers of the code fit, and are the Law's
+  pub some-results : (x .equal ≡ 0 → ⊥) → 1 ≤ x .results
+  some-results h = let b = below-equal s (scoresIn t) in let h′ = rw ex at h in rw ex (omega arith)
+
+  pub ns-fits : (x .equal ≡ 0 → ⊥) → 2 * x .below + x .equal - 1 ≤ 2 * (x .results - 1)
+  ns-fits h = let b = below-equal s (scoresIn t) in let h′ = rw ex at h in rw ex (omega arith)
+
+  pub points-found : (x .equal ≡ 0 → ⊥) → (below equal results : ℕ) → below ≡ x .below → equal ≡ x .equal → results ≡ x .results
+      → given (record { ns = 2 * below + equal - 1; ew = 2 * (results - 1) - (2 * below + equal - 1) }) ≡ placed (matchpoints (scoresIn t) s)
+  unfolding matchpoints ewMatchpoints
+  points-found h below equal results eb ee er =
+      let h′ : occurrences s (scoresIn t) ≡ 0 → ⊥ = rw ex at h in
+      let n = ns-counts s (scoresIn t) (omega arith) in
+      rw (v, ne-eqb (occurrences s (scoresIn t)) 0 h′, n, eb, ee, er, ex)
+
+-- ---- the answer to a result
+module _ (t : Tally) (r : Result) where
+  pub points-malformed : wellFormed t ≡ false → refusedAt 17 0 ≡ matchpointsOf t r
   unfolding matchpointsOf
   points-malformed e = rw e
 
-  module _ (w : wellFormed t ≡ true) where
-    pub points-invalid : validScore s ≡ false → refused 20 ≡ matchpointsOf t s
-    unfolding matchpointsOf matchpoints
-    points-invalid v = rw (w, v)
+  module _ (w : wellFormed t ≡ true) (q : Held) (e : q ≡ held (givenRefusal (resultsIn t) r)) where
+    pub points-refused : (q .number ≡ 0 → ⊥) → refusedAt (q .number) (q .place) ≡ matchpointsOf t r
+    unfolding matchpointsOf asked
+    points-refused h = rw (e, w) (rw (ne-eqb (givenRefusal (resultsIn t) r .number) 0 (λ z. h (ap (λ (x : Held). x .number) e ∙ z))))
 
-    module _ (v : validScore s ≡ true) (x : Standing) (ex : x ≡ standingOf t s) where
-      pub points-absent : x .equal ≡ 0 → refused 21 ≡ matchpointsOf t s
-      unfolding matchpointsOf matchpoints
-      points-absent z = let e : occurrences s (scoresIn t) ≡ 0 = rw ex at z in rw (w, v, e)
+    pub score-valid : q .number ≡ 0 → validScore (r .score) ≡ true
+    score-valid z = given-allowed (resultsIn t) r (sym (ap (λ (x : Held). x .number) e) ∙ z) .0
 
-      -- the numbers of the code fit, and are the Law's
-      pub some-results : (x .equal ≡ 0 → ⊥) → 1 ≤ x .results
-      some-results h = let b = below-equal s (scoresIn t) in let h′ = rw ex at h in rw ex (omega arith)
-
-      pub ns-fits : (x .equal ≡ 0 → ⊥) → 2 * x .below + x .equal - 1 ≤ 2 * (x .results - 1)
-      ns-fits h = let b = below-equal s (scoresIn t) in let h′ = rw ex at h in rw ex (omega arith)
-
-      pub points-found : (x .equal ≡ 0 → ⊥) → (below equal results : ℕ) → below ≡ x .below → equal ≡ x .equal → results ≡ x .results
-          → answered (record { ns = 2 * below + equal - 1; ew = 2 * (results - 1) - (2 * below + equal - 1) }) ≡ matchpointsOf t s
-      unfolding matchpointsOf matchpoints ewMatchpoints
-      points-found h below equal results eb ee er =
-          let h′ : occurrences s (scoresIn t) ≡ 0 → ⊥ = rw ex at h in
-          let n = ns-counts s (scoresIn t) (omega arith) in
-          rw (w, v, ne-eqb (occurrences s (scoresIn t)) 0 h′, n, eb, ee, er, ex)
+    pub points-asked : q .number ≡ 0 → placed (matchpoints (scoresIn t) (r .score)) ≡ matchpointsOf t r
+    unfolding matchpointsOf asked
+    points-asked z =
+        rw (w, eq-eqb (givenRefusal (resultsIn t) r .number) 0 (sym (ap (λ (x : Held). x .number) e) ∙ z), scores-on (t .deal) (scoresIn t))

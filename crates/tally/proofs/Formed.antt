@@ -1,4 +1,4 @@
--- A tally is well formed exactly when it is that of a board from 1 to 127 and of ordered entries with at most 128 results.
+-- A tally's places are in order exactly when it is that of a board from 1 to 127 and of ordered entries with at most 128 results.
 -- Assumes nothing.
 use Prim.Native.Nat.{ℕ, zero, suc, _≤_, _-_}
 use native.Mathlib.Omega.{arith}
@@ -14,13 +14,13 @@ use Rattle.laws.specs.Law77.{validScore}
 use Rattle.laws.specs.Law78.{sameScore, occurrences}
 use Rattle.laws.specs.Tally.{freshRefusal, AllValid, SameScores}
 use Rattle.laws.specs.Padded.{padded}
-use Rattle.laws.proofs.Tests.{by-test, and-left, and-right}
+use Rattle.laws.proofs.Tests.{by-test, and-left, and-right, and-both}
 use Rattle.laws.proofs.Scores.{same-true}
 use Rattle.laws.proofs.Padded.{length-padded}
 use Rattle.tally.specs.declared.Entry.{Entry}
 use Rattle.tally.specs.declared.Tally.{Tally}
 use Rattle.tally.specs.Entries.{score, count, entries, entriesOf}
-use Rattle.tally.specs.Tallies.{tallyWith, tallyOf, entriesIn, scoresIn, allZero, inOrder, ceiling, wellFormed}
+use Rattle.tally.specs.Tallies.{tallyWith, tallyFor, entriesIn, scoresIn, allZero, inOrder, ceiling, inPlaces, carries, wellFormed}
 use Rattle.tally.proofs.Ordered.{countOf, sumOf, Ordered}
 use Rattle.tally.proofs.Lists.{ordered-list, sum-list, in-list, in-expand, sum-expand, valid-expand, entries-expand}
 
@@ -124,11 +124,11 @@ pub record Formed (t : Tally) : Type 0 where
   pub board : freshRefusal (t .board) ≡ 0
   pub ordered : Ordered ceiling (entriesIn t)
   pub room : sumOf (entriesIn t) ≤ 128
-  pub whole : t ≡ tallyWith (t .board) (entriesIn t)
+  pub whole : t ≡ tallyWith (t .board) (t .deal) (entriesIn t)
 
-pub formed : (t : Tally) → wellFormed t ≡ true → Formed t
-unfolding wellFormed tallyWith
-formed t e =
+pub formed-places : (t : Tally) → inPlaces t ≡ true → Formed t
+unfolding inPlaces tallyWith
+formed-places t e =
     let p = eqb (freshRefusal (t .board)) 0 in
     let q = eqb (length (t .scores)) 128 in
     let r = eqb (length (t .counts)) 128 in
@@ -147,38 +147,54 @@ formed t e =
       whole = rw (← k .scores, ← k .counts);
     }
 
-module _ (b : ℕ) (es : List Entry) (ordered : Ordered ceiling es) (room : sumOf es ≤ 128) where
-  pub its-entries : entriesIn (tallyWith b es) ≡ es
+-- of a tally that is well formed both are known: its places, and what it carries
+pub places-formed : (t : Tally) → wellFormed t ≡ true → inPlaces t ≡ true
+unfolding wellFormed
+places-formed t e = and-left (inPlaces t) (carries (t .deal) (length (scoresIn t))) e
+
+pub formed : (t : Tally) → wellFormed t ≡ true → Formed t
+formed t e = formed-places t (places-formed t e)
+
+pub carried : (t : Tally) → wellFormed t ≡ true → carries (t .deal) (length (scoresIn t)) ≡ true
+unfolding wellFormed
+carried t e = and-right (inPlaces t) (carries (t .deal) (length (scoresIn t))) e
+
+module _ (b : ℕ) (d : List ℕ) (es : List Entry) (ordered : Ordered ceiling es) (room : sumOf es ≤ 128) where
+  pub its-entries : entriesIn (tallyWith b d es) ≡ es
   unfolding tallyWith
   its-entries = entries-padded 128 ceiling es ordered (omega (arith, length-sum ceiling es ordered))
 
-  pub is-formed : freshRefusal b ≡ 0 → wellFormed (tallyWith b es) ≡ true
-  unfolding tallyWith wellFormed
+  pub is-formed : freshRefusal b ≡ 0 → inPlaces (tallyWith b d es) ≡ true
+  unfolding tallyWith inPlaces
   is-formed e =
       rw (e, length-padded (pos 0) 128 (map score es), length-padded 0 128 (map count es))
       (order-back 128 ceiling 128 es ordered room (omega (arith, length-sum ceiling es ordered)))
 
--- ---- the tally of a list of valid scores, at most 128
-module _ (b : ℕ) (l : List ℤ) (valid : AllValid l) (room : length l ≤ 128) where
+-- ---- the tally of a deal and a list of valid scores, at most 128
+module _ (b : ℕ) (d : List ℕ) (l : List ℤ) (valid : AllValid l) (room : length l ≤ 128) where
   within : sumOf (entriesOf l) ≤ 128
   within = omega (arith, sum-list l)
 
-  pub entries-tally : entriesIn (tallyOf b l) ≡ entriesOf l
-  unfolding tallyOf
-  entries-tally = its-entries b (entriesOf l) (ordered-list l valid) within
+  pub entries-tally : entriesIn (tallyFor b d l) ≡ entriesOf l
+  unfolding tallyFor
+  entries-tally = its-entries b d (entriesOf l) (ordered-list l valid) within
 
-  pub formed-tally : freshRefusal b ≡ 0 → wellFormed (tallyOf b l) ≡ true
-  unfolding tallyOf
-  formed-tally = is-formed b (entriesOf l) (ordered-list l valid) within
+  pub placed-tally : freshRefusal b ≡ 0 → inPlaces (tallyFor b d l) ≡ true
+  unfolding tallyFor
+  placed-tally = is-formed b d (entriesOf l) (ordered-list l valid) within
 
   -- its results are those of the list
-  pub same-tally : SameScores (scoresIn (tallyOf b l)) l
+  pub same-tally : SameScores (scoresIn (tallyFor b d l)) l
   unfolding SameScores occurrences scoresIn
-  same-tally s = in-expand (sameScore s) (entriesIn (tallyOf b l)) ∙ ap (countOf s) entries-tally ∙ in-list (sameScore s) l
+  same-tally s = in-expand (sameScore s) (entriesIn (tallyFor b d l)) ∙ ap (countOf s) entries-tally ∙ in-list (sameScore s) l
 
-  pub length-tally : length (scoresIn (tallyOf b l)) ≡ length l
+  pub length-tally : length (scoresIn (tallyFor b d l)) ≡ length l
   unfolding scoresIn
-  length-tally = sum-expand (entriesIn (tallyOf b l)) ∙ ap sumOf entries-tally ∙ sum-list l
+  length-tally = sum-expand (entriesIn (tallyFor b d l)) ∙ ap sumOf entries-tally ∙ sum-list l
+
+  pub formed-tally : freshRefusal b ≡ 0 → carries d (length l) ≡ true → wellFormed (tallyFor b d l) ≡ true
+  unfolding wellFormed tallyFor tallyWith
+  formed-tally e c = and-both (inPlaces (tallyFor b d l)) _ (placed-tally e) (ap (carries d) length-tally ∙ c)
 
 -- ---- a well-formed tally is that of its own results
 module _ (t : Tally) (w : Formed t) where
@@ -194,6 +210,6 @@ module _ (t : Tally) (w : Formed t) where
   unfolding scoresIn
   entries-scores = entries-expand (entriesIn t) (w .ordered)
 
-  pub own-tally : tallyOf (t .board) (scoresIn t) ≡ t
-  unfolding tallyOf
-  own-tally = ap (tallyWith (t .board)) entries-scores ∙ sym (w .whole)
+  pub own-tally : tallyFor (t .board) (t .deal) (scoresIn t) ≡ t
+  unfolding tallyFor
+  own-tally = ap (tallyWith (t .board) (t .deal)) entries-scores ∙ sym (w .whole)

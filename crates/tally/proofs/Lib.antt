@@ -12,3 +12,5 @@ pub mod Shapes
 pub mod Tables
 pub mod Told
 pub mod Checking
+pub mod Dealing
+pub mod Kept

@@ -21,7 +21,7 @@ use Rattle.laws.specs.Tally.{freshRefusal}
 use Rattle.tally.specs.declared.Entry.{Entry}
 use Rattle.tally.specs.declared.Tally.{Tally}
 use Rattle.tally.specs.Entries.{entry, entries}
-use Rattle.tally.specs.Tallies.{allZero, inOrder, ceiling, wellFormed}
+use Rattle.tally.specs.Tallies.{allZero, inOrder, ceiling, inPlaces}
 
 -- ---- scores as their codes hold them
 pub same-of : (a b : ℤ) → SFits w16 a → SFits w16 b → ofZ w16 a ≡ ofZ w16 b → a ≡ b
@@ -105,11 +105,11 @@ module _ (ss : List ℤ) (cs : List ℕ) (i : ℕ) (hs : i < length ss) (hc : i 
 
 -- ---- the whole test
 module _ (t : Tally) where
-  pub bad-board : freshRefusal (t .board) ≡ 3 → false ≡ wellFormed t
-  unfolding wellFormed
+  pub bad-board : freshRefusal (t .board) ≡ 3 → false ≡ inPlaces t
+  unfolding inPlaces
   bad-board e = rw e
 
   pub good-board : freshRefusal (t .board) ≡ 0 → length (t .scores) ≡ 128 → length (t .counts) ≡ 128
-      → wellFormed t ≡ orderAt (t .scores) (t .counts) ceiling 128 0
-  unfolding wellFormed
+      → inPlaces t ≡ orderAt (t .scores) (t .counts) ceiling 128 0
+  unfolding inPlaces
   good-board e hs hc = rw (e, hs, hc)

@@ -17,11 +17,11 @@ use Rattle.tally.specs.declared.Entry.{Entry}
 use Rattle.tally.specs.declared.Next.{Next}
 use Rattle.tally.specs.declared.Tally.{Tally}
 use Rattle.tally.specs.Entries.{score, count, entry, entriesOf}
-use Rattle.tally.specs.Tallies.{tallyWith, tallyOf, entriesIn, scoresIn, ceiling}
+use Rattle.tally.specs.Tallies.{tallyWith, tallyFor, entriesIn, scoresIn, ceiling}
 use Rattle.tally.specs.Steps.{entryAt, higherOf, nextOf, Joinable}
 use Rattle.tally.proofs.Ordered.{countOf}
 use Rattle.tally.proofs.Lists.{in-expand, in-list, sum-expand, sum-list, ordered-list, valid-append}
-use Rattle.tally.proofs.Formed.{Formed, formed, valid-scores, length-sum}
+use Rattle.tally.proofs.Formed.{Formed, formed-places, valid-scores, length-sum}
 use Rattle.tally.proofs.Joining.{headOf, Split, Turn, turn, head-at, heads-fit, takes-one, written, write, all-taken}
 
 -- the entries of two tallies together
@@ -34,16 +34,17 @@ pub record Reached (none a : Tally) (n : ℕ) (b : Tally) (m : ℕ) (u : Tally) 
   pub of-first : i ≤ k
   pub of-second : j ≤ k
   pub board : u .board ≡ none .board
+  pub deal : u .deal ≡ none .deal
   pub scores : u .scores ≡ written (pos 0) score 128 k (wholeOf a b)
   pub counts : u .counts ≡ written 0 count 128 k (wholeOf a b)
   pub split : Split (drop i (entriesIn a)) (drop j (entriesIn b)) (drop k (wholeOf a b))
 
 module _ (none a : Tally) (n : ℕ) (b : Tally) (m : ℕ) (g : Joinable none a n b m) where
   first-formed : Formed a
-  first-formed = formed a (g .first)
+  first-formed = formed-places a (g .first)
 
   second-formed : Formed b
-  second-formed = formed b (g .second)
+  second-formed = formed-places b (g .second)
 
   all-valid : AllValid (scoresIn a ++ scoresIn b)
   all-valid = valid-append (scoresIn a) (scoresIn b) (valid-scores a first-formed) (valid-scores b second-formed)
@@ -84,7 +85,7 @@ module _ (none a : Tally) (n : ℕ) (b : Tally) (m : ℕ) (g : Joinable none a n
       )
 
   pub begins : Reached none a n b m none 0 0 0
-  unfolding tallyOf tallyWith entriesOf
+  unfolding tallyFor tallyWith entriesOf
   begins =
       record {
         given = g;
@@ -92,30 +93,33 @@ module _ (none a : Tally) (n : ℕ) (b : Tally) (m : ℕ) (g : Joinable none a n
         of-first = omega arith;
         of-second = omega arith;
         board = refl;
+        deal = refl;
         scores = ap (λ (t : Tally). t .scores) (g .is-empty);
         counts = ap (λ (t : Tally). t .counts) (g .is-empty);
         split = whole-split;
       }
 
 -- the tally where all is written
-all-written : (none a b u : Tally) (k : ℕ) → u .board ≡ none .board → u .scores ≡ written (pos 0) score 128 k (wholeOf a b)
+all-written : (none a b u : Tally) (k : ℕ) → u .board ≡ none .board → u .deal ≡ none .deal → u .scores ≡ written (pos 0) score 128 k (wholeOf a b)
     → u .counts ≡ written 0 count 128 k (wholeOf a b)
-    → take k (wholeOf a b) ≡ wholeOf a b → u ≡ tallyOf (none .board) (scoresIn a ++ scoresIn b)
-unfolding tallyOf tallyWith
-all-written none a b u k e f g h =
+    → take k (wholeOf a b) ≡ wholeOf a b → u ≡ tallyFor (none .board) (none .deal) (scoresIn a ++ scoresIn b)
+unfolding tallyFor tallyWith
+all-written none a b u k e d f g h =
     let f′ = f ∙ ap (λ (l : List Entry). padded (pos 0) 128 (map score l)) h in
     let g′ = g ∙ ap (λ (l : List Entry). padded 0 128 (map count l)) h in
-    rw (← e, ← f′, ← g′)
+    rw (← e, ← d, ← f′, ← g′)
 
 module _ (none a : Tally) (n : ℕ) (b : Tally) (m : ℕ) (u : Tally) (i j k : ℕ) (w : Reached none a n b m u i j k) where
-  pub full : 128 ≤ k → u ≡ tallyOf (none .board) (scoresIn a ++ scoresIn b)
-  full h = all-written none a b u k (w .board) (w .scores) (w .counts) (take-all k (wholeOf a b) (omega (arith, whole-length none a n b m (w .given))))
+  pub full : 128 ≤ k → u ≡ tallyFor (none .board) (none .deal) (scoresIn a ++ scoresIn b)
+  full h =
+      all-written none a b u k (w .board) (w .deal) (w .scores) (w .counts)
+      (take-all k (wholeOf a b) (omega (arith, whole-length none a n b m (w .given))))
 
   pub first-end : n ≤ 128
-  first-end = let f = formed a (w .given .first) in omega (arith, length-sum ceiling (entriesIn a) (f .ordered), f .room, w .given .first-used)
+  first-end = let f = formed-places a (w .given .first) in omega (arith, length-sum ceiling (entriesIn a) (f .ordered), f .room, w .given .first-used)
 
   pub second-end : m ≤ 128
-  second-end = let f = formed b (w .given .second) in omega (arith, length-sum ceiling (entriesIn b) (f .ordered), f .room, w .given .second-used)
+  second-end = let f = formed-places b (w .given .second) in omega (arith, length-sum ceiling (entriesIn b) (f .ordered), f .room, w .given .second-used)
 
   first-head : entryAt (a .scores) (a .counts) i n ≡ headOf (drop i (entriesIn a))
   unfolding entryAt
@@ -138,12 +142,13 @@ module _ (none a : Tally) (n : ℕ) (b : Tally) (m : ℕ) (u : Tally) (i j k : �
       pub one-each : (e .first ≤ 1) × (e .second ≤ 1)
       one-each = rw ee (takes-one x y)
 
-      pub ends : e .count ≡ 0 → u ≡ tallyOf (none .board) (scoresIn a ++ scoresIn b)
-      ends z = all-written none a b u k (w .board) (w .scores) (w .counts) (all-taken k (wholeOf a b) (the-turn .ends z))
+      pub ends : e .count ≡ 0 → u ≡ tallyFor (none .board) (none .deal) (scoresIn a ++ scoresIn b)
+      ends z = all-written none a b u k (w .board) (w .deal) (w .scores) (w .counts) (all-taken k (wholeOf a b) (the-turn .ends z))
 
       pub goes : (e .count ≡ 0 → ⊥) → k < 128
-          → Reached none a n b m (record { board = u .board; scores = set (u .scores) k (e .score); counts = set (u .counts) k (e .count) }) (i + e .first)
-          (j + e .second) (k + 1)
+          → Reached none a n b m
+          (record { board = u .board; deal = u .deal; scores = set (u .scores) k (e .score); counts = set (u .counts) k (e .count) })
+          (i + e .first) (j + e .second) (k + 1)
       goes z h =
           let t = the-turn .goes z in
           let r = t .rest in
@@ -155,6 +160,7 @@ module _ (none a : Tally) (n : ℕ) (b : Tally) (m : ℕ) (u : Tally) (i j k : �
             of-first = omega (arith, w .of-first, one-each .0);
             of-second = omega (arith, w .of-second, one-each .1);
             board = w .board;
+            deal = w .deal;
             scores = rw (w .scores, add-one k) (write (pos 0) score 128 k x (drop 1 (drop k whole)) whole (t .begins) h);
             counts = rw (w .counts, add-one k) (write 0 count 128 k x (drop 1 (drop k whole)) whole (t .begins) h);
             split = rw (drop-drop (e .first) i (entriesIn a), drop-drop (e .second) j (entriesIn b), drop-drop 1 k whole) at r;

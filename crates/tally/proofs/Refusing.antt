@@ -1,28 +1,24 @@
--- The refusals of a call, one by one and together. Assumes nothing.
+-- The refusals of a call, as the code finds them one by one. Assumes nothing.
 use Prim.Native.Nat.{ℕ, zero, suc, _≤_, _<_, _+_}
 use native.Mathlib.Omega.{arith}
-use mathlib.Core.Path.{_≡_, refl}
-use mathlib.Core.Bool.{true, false}
-use mathlib.Core.List.{List}
-use borrow.Author.Tests.{eq-eqb, ne-eqb, eqb-true, eqb-false, lt-ltb, le-ltb, ltb-false, lt-leb, leb-true, leb-false}
-use lib.Dec.{ltb, leb, eqb}
+use mathlib.Core.Path.{_≡_, refl, sym, ap, ap₂, _∙_}
+use mathlib.Core.Bool.{Bool, true, false}
+use mathlib.Core.List.{List, [], _∷_}
+use borrow.Author.Tests.{eq-eqb, ne-eqb, eqb-false, lt-ltb, le-ltb, ltb-false}
+use lib.Dec.{ltb, eqb}
 use lib.IntN.{ℤ}
 use lib.ListN.{length}
-use Rattle.laws.specs.Law77.{validScore}
-use Rattle.laws.specs.Tally.{freshRefusal, addRefusal, mergeRefusal}
+use Rattle.laws.specs.Contents.{takeDeal}
+use Rattle.laws.specs.Reading.{Reading, Reading.refused, Reading.found}
+use Rattle.laws.specs.Refusals.{fouledBoard}
+use Rattle.laws.specs.Tally.{Result, onDeal, fouled, Refusal, refusalIf, _orElse_, refusalIn, dealRefusal, scoreRefusal, fouledRefusal, givenRefusal}
+use Rattle.laws.specs.Tally.{freshRefusal}
 use Rattle.laws.proofs.Tests.{by-test}
-use Rattle.tally.specs.Steps.{scoreRefusal, boardsRefusal, roomRefusal, firstOf}
-
--- ---- of two refusals
-pub first-none : (n m : ℕ) → n ≡ 0 → m ≡ firstOf n m
-unfolding firstOf
-first-none zero m e = refl
-first-none (suc n) m e = absurd (omega arith)
-
-pub first-some : (n m : ℕ) → (n ≡ 0 → ⊥) → n ≡ firstOf n m
-unfolding firstOf
-first-some zero m h = absurd (h refl)
-first-some (suc n) m h = refl
+use Rattle.laws.proofs.TallyRules.{or-by, deal-read, fouled-on}
+use Rattle.deal.specs.declared.given.Dealt.{Dealt}
+use Rattle.deal.specs.Taking.{takenBy}
+use Rattle.tally.specs.declared.refusals.Held.{Held}
+use Rattle.tally.specs.Steps.{apart, held, firstHeld}
 
 -- ---- of a board
 pub board-zero : (board : ℕ) → board ≡ 0 → freshRefusal board ≡ 3
@@ -47,52 +43,55 @@ board-range board e =
     (λ (r : ltb 127 board ≡ true). absurd (omega (arith, rw (q, r) at e)))
     (λ (r : ltb 127 board ≡ false). let z = eqb-false board 0 q in (omega arith, ltb-false 127 board r)))
 
--- ---- of a score that is added
-module _ (l : List ℤ) (s : ℤ) where
-  pub add-first : firstOf (scoreRefusal s) (roomRefusal (length l) 1) ≡ addRefusal l s
-  unfolding firstOf scoreRefusal roomRefusal addRefusal
-  add-first =
-      by-test (validScore s)
-      (λ (q : validScore s ≡ true). rw q (by-test (leb 128 (length l))
-      (λ (r : leb 128 (length l) ≡ true). rw (r, lt-ltb 128 (length l + 1) (omega (arith, leb-true 128 (length l) r))))
-      (λ (r : leb 128 (length l) ≡ false). rw (r, le-ltb 128 (length l + 1) (omega (arith, leb-false 128 (length l) r))))))
-      (λ (q : validScore s ≡ false). rw q)
+-- ---- of two refusals the first that is one
+first-held : (a b : Refusal) → firstHeld (held a) (held b) ≡ held (a orElse b)
+unfolding firstHeld _orElse_
+first-held a b =
+    by-test (eqb (a .number) 0)
+    (λ (q : eqb (a .number) 0 ≡ true). rw q)
+    (λ (q : eqb (a .number) 0 ≡ false). rw q)
 
-  -- none: the score is valid, and there is room
-  pub add-allowed : addRefusal l s ≡ 0 → (validScore s ≡ true) × (length l + 1 ≤ 128)
-  unfolding addRefusal
-  add-allowed e =
-      by-test (validScore s)
-      (λ (q : validScore s ≡ true).
-      by-test (leb 128 (length l))
-      (λ (r : leb 128 (length l) ≡ true). absurd (omega (arith, rw (q, r) at e)))
-      (λ (r : leb 128 (length l) ≡ false). (q, omega (arith, leb-false 128 (length l) r))))
-      (λ (q : validScore s ≡ false). absurd (omega (arith, rw q at e)))
+pub first-of : (a b : Refusal) (x y r : Held) → x ≡ held a → y ≡ held b → r ≡ firstHeld x y → r ≡ held (a orElse b)
+first-of a b x y r ex ey er = er ∙ ap₂ firstHeld ex ey ∙ first-held a b
 
-  pub allowed-add : validScore s ≡ true → length l + 1 ≤ 128 → addRefusal l s ≡ 0
-  unfolding addRefusal
-  allowed-add v h = rw (v, lt-leb 128 (length l) (omega arith))
+-- ---- results of two deals
+pub fouled-lists : (results others : ℕ) (d : List ℕ) (l : List ℤ) (e : List ℕ) (m : List ℤ) → results ≡ length l → others ≡ length m
+    → refusalIf (apart results others d e) fouledBoard ≡ fouledRefusal (onDeal d l) (onDeal e m)
+unfolding apart fouledRefusal
+fouled-lists results others d l e m n k = rw (n, k, fouled-on d l e m)
 
--- ---- of two lists that are merged
-module _ (b : ℕ) (l : List ℤ) (d : ℕ) (m : List ℤ) where
-  pub merge-first : firstOf (boardsRefusal b d) (roomRefusal (length l) (length m)) ≡ mergeRefusal b l d m
-  unfolding firstOf boardsRefusal roomRefusal mergeRefusal
-  merge-first =
-      by-test (eqb b d)
-      (λ (q : eqb b d ≡ true). rw q)
-      (λ (q : eqb b d ≡ false). rw q)
+-- ---- of a result that is given
+-- a deal as it is taken has the refusal of the Laws, and where that is none its holders
+dealt-refusal : (holders : List ℕ) (x : Reading (Unit {0})) (d : Dealt) → d ≡ takenBy holders x
+    → record { number = d .refusal; place = d .place } ≡ held (refusalIn x)
+dealt-refusal holders (refused n place) d e = rw e
+dealt-refusal holders (found u at) d e = rw e
 
-  -- none: one board, and there is room
-  pub merge-allowed : mergeRefusal b l d m ≡ 0 → (b ≡ d) × (length l + length m ≤ 128)
-  unfolding mergeRefusal
-  merge-allowed e =
-      by-test (eqb b d)
-      (λ (q : eqb b d ≡ true).
-      by-test (ltb 128 (length l + length m))
-      (λ (r : ltb 128 (length l + length m) ≡ true). absurd (omega (arith, rw (q, r) at e)))
-      (λ (r : ltb 128 (length l + length m) ≡ false). (eqb-true b d q, ltb-false 128 (length l + length m) r)))
-      (λ (q : eqb b d ≡ false). absurd (omega (arith, rw q at e)))
+pub dealt-holders : (holders : List ℕ) (d : Dealt) → d ≡ takenBy holders (takeDeal holders [] 0) → dealRefusal holders .number ≡ 0 → d .holders ≡ holders
+dealt-holders holders d e z = ap (λ (x : Dealt). x .holders) (e ∙ ap (takenBy holders) (deal-read holders z))
 
-  pub allowed-merge : b ≡ d → length l + length m ≤ 128 → mergeRefusal b l d m ≡ 0
-  unfolding mergeRefusal
-  allowed-merge e h = rw (eq-eqb b d e, le-ltb 128 (length l + length m) h)
+module _ (carried : List ℕ) (results : ℕ) (s : ℤ) (d : Dealt) (holders : List ℕ) (scores : List ℤ) (ed : d ≡ takenBy holders (takeDeal holders [] 0))
+    (n : results ≡ length scores) where
+  abbrev given : Result
+  given = record { score = s; deal = holders }
+
+  abbrev others : Refusal
+  others = fouledRefusal (onDeal carried scores) (given ∷ [])
+
+  taken : record { number = d .refusal; place = d .place } ≡ held (dealRefusal holders)
+  unfolding dealRefusal
+  taken = dealt-refusal holders (takeDeal holders [] 0) d ed
+
+  pub given-number : (invalid apart-held later r : Held) → invalid ≡ held (scoreRefusal s)
+      → apart-held ≡ held (refusalIf (apart results 1 carried (d .holders)) fouledBoard)
+      → later ≡ firstHeld (record { number = d .refusal; place = d .place }) apart-held → r ≡ firstHeld invalid later
+      → r ≡ held (givenRefusal (onDeal carried scores) given)
+  unfolding givenRefusal
+  given-number invalid apart-held later r ei ea el er =
+      let f = refusalIf (apart results 1 carried (d .holders)) fouledBoard in
+      let k : later ≡ held (dealRefusal holders orElse others) =
+      first-of (dealRefusal holders) f _ _ later taken ea el
+      ∙ ap held (or-by (dealRefusal holders) f others
+      (λ z. ap (λ (h : List ℕ). refusalIf (apart results 1 carried h) fouledBoard) (dealt-holders holders d ed z)
+      ∙ fouled-lists results 1 carried scores holders (s ∷ []) n refl)) in
+      first-of (scoreRefusal s) (dealRefusal holders orElse others) _ _ r ei k er

@@ -16,7 +16,7 @@ use Rattle.laws.proofs.Tests.{by-test}
 use Rattle.laws.proofs.Padded.{length-padded}
 use Rattle.tally.specs.declared.Entry.{Entry}
 use Rattle.tally.specs.Entries.{score, count, entriesOf}
-use Rattle.tally.specs.Tallies.{tallyWith, tallyOf, ceiling}
+use Rattle.tally.specs.Tallies.{tallyWith, tallyFor, ceiling}
 use Rattle.tally.specs.Steps.{noEntry}
 use Rattle.tally.proofs.Ordered.{countOf, Ordered}
 use Rattle.tally.proofs.Lists.{in-list, sum-list, ordered-list}
@@ -74,22 +74,23 @@ count-places s zero (e ∷ es) h = absurd (omega arith)
 count-places s (suc k) (e ∷ es) h = ap (λ (n : ℕ). (if sameScore s (score e) then count e else 0) + n) (count-places s k es (omega arith))
 
 -- ---- the tally of a board and a list
-module _ (b : ℕ) (l : List ℤ) (w : Sound b l) where
+module _ (b : ℕ) (d : List ℕ) (l : List ℤ) (w : Sound b d l) where
   ordered : Ordered ceiling (entriesOf l)
   ordered = ordered-list l (w .valid)
 
   few : length (entriesOf l) ≤ 128
   few = omega (arith, length-sum ceiling (entriesOf l) ordered, sum-list l, w .room)
 
-  pub count-tally : (s : ℤ) → countIn (tallyOf b l) s ≡ occurrences s l
-  unfolding tallyOf tallyWith occurrences
+  pub count-tally : (s : ℤ) → countIn (tallyFor b d l) s ≡ occurrences s l
+  unfolding tallyFor tallyWith occurrences
   count-tally s = count-places s 128 (entriesOf l) few ∙ in-list (sameScore s) l
 
-  pub shape-tally : Shape (tallyOf b l) b
-  unfolding tallyOf tallyWith
+  pub shape-tally : Shape (tallyFor b d l) b d
+  unfolding tallyFor tallyWith
   shape-tally =
       record {
         board = refl;
+        deal = refl;
         scores = length-padded (pos 0) 128 (map score (entriesOf l));
         counts = length-padded 0 128 (map count (entriesOf l));
         used = length (entriesOf l);

@@ -23,7 +23,7 @@ use Rattle.laws.proofs.Tests.{by-test, not-both}
 use Rattle.tally.specs.declared.Entry.{Entry}
 use Rattle.tally.specs.declared.Tally.{Tally}
 use Rattle.tally.specs.Entries.{score, count, enter, entriesOf}
-use Rattle.tally.specs.Tallies.{tallyOf, entriesIn, scoresIn, wellFormed, ceiling}
+use Rattle.tally.specs.Tallies.{tallyFor, entriesIn, scoresIn, wellFormed, ceiling}
 use Rattle.tally.proofs.Ordered.{inEntries, countOf, Ordered, some-at}
 use Rattle.tally.proofs.Lists.{in-expand, in-list}
 use Rattle.tally.proofs.Formed.{formed, entries-tally, length-tally}
@@ -101,21 +101,21 @@ module _ (l m : List ℤ) (same-length : length l ≡ length m) (counts : (test 
     same-cell-table = rw (e, rows-alike (cellRow l) (cellRow m) same-cells (distinct m))
 
 -- the scores that a tally holds have the table of the list that it was made of
-module _ (b : ℕ) (l : List ℤ) (w : Sound b l) where
-  own-counts : (test : ℤ → Bool) → howMany test (scoresIn (tallyOf b l)) ≡ howMany test l
+module _ (b : ℕ) (d : List ℕ) (l : List ℤ) (w : Sound b d l) where
+  own-counts : (test : ℤ → Bool) → howMany test (scoresIn (tallyFor b d l)) ≡ howMany test l
   unfolding scoresIn
-  own-counts test = in-expand test (entriesIn (tallyOf b l)) ∙ ap (inEntries test) (entries-tally b l (w .valid) (w .room)) ∙ in-list test l
+  own-counts test = in-expand test (entriesIn (tallyFor b d l)) ∙ ap (inEntries test) (entries-tally b d l (w .valid) (w .room)) ∙ in-list test l
 
-  module _ (own : entriesOf (scoresIn (tallyOf b l)) ≡ entriesIn (tallyOf b l)) where
-    own-distinct : distinct (scoresIn (tallyOf b l)) ≡ distinct l
+  module _ (own : entriesOf (scoresIn (tallyFor b d l)) ≡ entriesIn (tallyFor b d l)) where
+    own-distinct : distinct (scoresIn (tallyFor b d l)) ≡ distinct l
     own-distinct =
-        distinct-entries (scoresIn (tallyOf b l)) ∙ ap (map score) (own ∙ entries-tally b l (w .valid) (w .room)) ∙ sym (distinct-entries l)
+        distinct-entries (scoresIn (tallyFor b d l)) ∙ ap (map score) (own ∙ entries-tally b d l (w .valid) (w .room)) ∙ sym (distinct-entries l)
 
-    pub table-tally : table (scoresIn (tallyOf b l)) ≡ table l
-    table-tally = same-table (scoresIn (tallyOf b l)) l (length-tally b l (w .valid) (w .room)) own-counts own-distinct
+    pub table-tally : table (scoresIn (tallyFor b d l)) ≡ table l
+    table-tally = same-table (scoresIn (tallyFor b d l)) l (length-tally b d l (w .valid) (w .room)) own-counts own-distinct
 
-    pub cell-table-tally : cellTable (scoresIn (tallyOf b l)) ≡ cellTable l
-    cell-table-tally = same-cell-table (scoresIn (tallyOf b l)) l (length-tally b l (w .valid) (w .room)) own-counts own-distinct
+    pub cell-table-tally : cellTable (scoresIn (tallyFor b d l)) ≡ cellTable l
+    cell-table-tally = same-cell-table (scoresIn (tallyFor b d l)) l (length-tally b d l (w .valid) (w .room)) own-counts own-distinct
 
 -- ---- the entries from a place on
 -- entries at the end of others: they fall from below `top`, and no earlier entry has a score below it

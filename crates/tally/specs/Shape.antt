@@ -22,9 +22,10 @@ countAt s (x ∷ ss) (c ∷ cs) = (if sameScore s x then c else 0) + countAt s s
 abbrev pub countIn : Tally → ℤ → ℕ
 countIn t s = countAt s (t .scores) (t .counts)
 
--- a tally of a board: 128 places, those used first, with valid scores that fall and counts of at least 1; those unused are zero
-pub record Shape (t : Tally) (of : ℕ) : Type 0 where
+-- a tally of a board that carries a deal: 128 places, those used first, with valid scores that fall and counts of at least 1; those unused are zero
+pub record Shape (t : Tally) (of : ℕ) (carried : List ℕ) : Type 0 where
   pub board : t .board ≡ of
+  pub deal : t .deal ≡ carried
   pub scores : length (t .scores) ≡ 128
   pub counts : length (t .counts) ≡ 128
   pub used : ℕ

@@ -1,33 +1,32 @@
 -- What the private functions of the crate answer: a tally's size, the entry at a place, the higher of two, and refusals one by one.
 -- Assumes nothing.
-use Prim.Native.Nat.{ℕ, zero, suc, _+_, _≤_}
+use Prim.Native.Nat.{ℕ, _+_, _≤_}
 use mathlib.Core.Path.{_≡_}
-use mathlib.Core.Bool.{true}
+use mathlib.Core.Bool.{Bool, true, not, _&&_}
 use mathlib.Core.List.{List, []}
 use lib.Dec.{ltb, eqb}
 use lib.IntN.{ℤ, pos, negsuc}
 use lib.ListN.{length, getD}
 use lib.Signed.{ltZ}
 use Rattle.laws.specs.Choice.{if_then_else_}
-use Rattle.laws.specs.Refusals.{accepted, twoBoards, tooManyResults, invalidScore}
-use Rattle.laws.specs.Law77.{validScore}
 use Rattle.laws.specs.Law78.{sameScore}
-use Rattle.laws.specs.Tally.{capacity}
+use Rattle.laws.specs.Tally.{sameDeal, Refusal}
+use Rattle.tally.specs.declared.refusals.Held.{Held}
 use Rattle.tally.specs.declared.Entry.{Entry}
 use Rattle.tally.specs.declared.Next.{Next}
 use Rattle.tally.specs.declared.Size.{Size}
 use Rattle.tally.specs.declared.Checked.{Checked}
 use Rattle.tally.specs.declared.Tally.{Tally}
 use Rattle.tally.specs.Entries.{score, count, entry}
-use Rattle.tally.specs.Tallies.{tallyOf, entriesIn, scoresIn, wellFormed}
+use Rattle.tally.specs.Tallies.{tallyFor, entriesIn, scoresIn, inPlaces}
 
 -- how many places a tally uses, and its number of results
 abbrev pub sizeOf : Tally → Size
 sizeOf t = record { used = length (entriesIn t); results = length (scoresIn t) }
 
--- what a check of a tally finds: whether it is well formed, and where it is its size
-pub record Checks (t : Tally) (r : Checked) : Type 0 where
-  pub good : r .good ≡ wellFormed t
+-- what a check of a tally finds: whether it is as tested, and where it is its size
+pub record Checks (test : Bool) (t : Tally) (r : Checked) : Type 0 where
+  pub good : r .good ≡ test
   pub size : r .good ≡ true → r .size ≡ sizeOf t
 
 -- no result, of a score below every valid one
@@ -49,29 +48,28 @@ higherOf x y =
 unfoldable pub nextOf : ℕ → Entry → Entry → Entry
 nextOf taken x after = if eqb taken 0 then x else after
 
--- ---- refusals
--- a score that isn't valid is refused
-unfoldable pub scoreRefusal : ℤ → ℕ
-scoreRefusal s = if validScore s then accepted else invalidScore
+-- ---- deals and refusals
+-- so many results of one deal and so many of another: both have one, and the deals differ
+unfoldable pub apart : ℕ → ℕ → List ℕ → List ℕ → Bool
+apart results others deal deal2 = not (eqb results 0) && (not (eqb others 0) && not (sameDeal deal deal2))
 
--- two boards are refused
-unfoldable pub boardsRefusal : ℕ → ℕ → ℕ
-boardsRefusal board board2 = if eqb board board2 then accepted else twoBoards
-
--- so many results, and so many more, are refused where they are over 128
-unfoldable pub roomRefusal : ℕ → ℕ → ℕ
-roomRefusal results more = if ltb capacity (results + more) then tooManyResults else accepted
+-- the deal of the first of two tallies, by its number of results; of the second where the first has none
+unfoldable pub keptDeal : ℕ → List ℕ → List ℕ → List ℕ
+keptDeal results deal deal2 = if eqb results 0 then deal2 else deal
 
 -- of two refusals the first that is one
-unfoldable pub firstOf : ℕ → ℕ → ℕ
-firstOf zero later = later
-firstOf (suc refusal) later = suc refusal
+unfoldable pub firstHeld : Held → Held → Held
+firstHeld first later = if eqb (first .number) 0 then later else first
 
--- ---- what `joined` is given: an empty tally, two tallies that fit together, and how many places each uses
+-- a refusal as the code holds it
+abbrev pub held : Refusal → Held
+held r = record { number = r .number; place = r .place }
+
+-- ---- what `joined` is given: a tally without a result, two tallies that fit together, and how many places each uses
 pub record Joinable (none a : Tally) (n : ℕ) (b : Tally) (m : ℕ) : Type 0 where
-  pub is-empty : none ≡ tallyOf (none .board) []
-  pub first : wellFormed a ≡ true
-  pub second : wellFormed b ≡ true
+  pub is-empty : none ≡ tallyFor (none .board) (none .deal) []
+  pub first : inPlaces a ≡ true
+  pub second : inPlaces b ≡ true
   pub first-used : n ≡ length (entriesIn a)
   pub second-used : m ≡ length (entriesIn b)
   pub room : length (scoresIn a) + length (scoresIn b) ≤ 128

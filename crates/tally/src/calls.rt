@@ -1,26 +1,28 @@
-// A score added to a tally, and two tallies merged: their refusals in order, and the tally made.
+// A result added to a tally, and two tallies merged: their refusals in order, and the tally made.
 use super::Tallied;
 use super::Tally;
+use super::accept;
 use super::check;
 use super::empty;
 use super::joined;
+use super::refusals::boards_refusal;
+use super::refusals::first;
+use super::refusals::fouled_refusal;
+use super::refusals::given_refusal;
+use super::refusals::kept_deal;
+use super::refusals::room_refusal;
 use super::refuse;
+use deal::take;
 use laws::ACCEPTED;
-use laws::INVALID_SCORE;
 use laws::MALFORMED_TALLY;
-use laws::TOO_MANY_RESULTS;
-use laws::TWO_BOARDS;
-use score::valid;
 ghost use mathlib.Core.Path.{_≡_};
 ghost use mathlib.Core.List.{[], _∷_};
-ghost use Prim.Native.Nat.{_≤_};
-ghost use Rattle.tally.specs.Tallies.{tallyOf, addOf, mergeOf};
-ghost use Rattle.tally.specs.Steps.{scoreRefusal, boardsRefusal, roomRefusal, firstOf};
+ghost use Rattle.tally.specs.Tallies.{tallyFor, addOf, mergeOf};
 
-// One result in an empty tally.
+// One score in a tally without a result.
 fn single(none: Tally, score: i16) -> Tally
-    requires { ⌜ none ≡ tallyOf (none .board) [] ⌝ }
-    ensures { λ r. ⌜ r ≡ tallyOf (none .board) (score ∷ []) ⌝ }
+    requires { ⌜ none ≡ tallyFor (none .board) (none .deal) [] ⌝ }
+    ensures { λ r. ⌜ r ≡ tallyFor (none .board) (none .deal) (score ∷ []) ⌝ }
 {
     let mut u = none;
     u.scores[0] = score;
@@ -28,95 +30,56 @@ fn single(none: Tally, score: i16) -> Tally
     u
 }
 
-// 20 for a score that isn't valid, else 0.
-fn score_refusal(score: i16) -> u8
-    ensures { λ r. ⌜ r ≡ scoreRefusal score ⌝ }
-{
-    if valid(score) {
-        return ACCEPTED;
-    }
-    INVALID_SCORE
-}
-
-// 18 for two boards, else 0.
-fn boards_refusal(board: u8, board2: u8) -> u8
-    ensures { λ r. ⌜ r ≡ boardsRefusal board board2 ⌝ }
-{
-    if board == board2 {
-        return ACCEPTED;
-    }
-    TWO_BOARDS
-}
-
-// 19 where so many results and so many more are over 128, else 0.
-fn room_refusal(results: u8, more: u8) -> u8
-    requires { ⌜ results ≤ 128 ⌝ }
-    ensures { λ r. ⌜ r ≡ roomRefusal results more ⌝ }
-{
-    if 128 - results < more {
-        return TOO_MANY_RESULTS;
-    }
-    ACCEPTED
-}
-
-// Of two refusals the first that is one.
-fn first(refusal: u8, later: u8) -> u8
-    ensures { λ r. ⌜ r ≡ firstOf refusal later ⌝ }
-{
-    if refusal == ACCEPTED {
-        return later;
-    }
-    refusal
-}
-
-// One more result of a score; 17, 20 or 19.
-pub fn add(t: Tally, score: i16) -> Tallied
-    ensures { λ r. ⌜ r ≡ addOf t score ⌝ }
+// One more result: a score with the holders of the cards that were played; 17, 20, 4, 28 or 19.
+pub fn add(t: Tally, score: i16, holders: &[u8]) -> Tallied
+    ensures { λ r. ⌜ r ≡ addOf t (record { score = score; deal = now (holders .entry) }) ⌝ }
 {
     let checked = check(t);
     if !checked.good {
-        return refuse(MALFORMED_TALLY);
+        return refuse(MALFORMED_TALLY, 0);
     }
     let x = checked.size;
-    let invalid = score_refusal(score);
+    let carried = t.deal;
+    let dealt = take(holders);
+    let given = given_refusal(carried, x.results, score, dealt);
     let full = room_refusal(x.results, 1);
-    let refusal = first(invalid, full);
-    if refusal != ACCEPTED {
-        return refuse(refusal);
+    let refusal = first(given, full);
+    if refusal.number != ACCEPTED {
+        return refuse(refusal.number, refusal.place);
     }
-    let none = empty(t.board);
+    let row = dealt.holders;
+    let none = empty(t.board, row);
     let one = single(none, score);
     let grown = joined(none, t, x.used, one, 1);
-    Tallied {
-        refusal: ACCEPTED,
-        tally: grown,
-    }
+    accept(grown)
 }
 
-// The results of two tallies of one board; 17, 18 or 19.
+// The results of two tallies of one board and one deal; 17, 18, 28 or 19.
 pub fn merge(a: Tally, b: Tally) -> Tallied
     ensures { λ r. ⌜ r ≡ mergeOf a b ⌝ }
 {
     let first_checked = check(a);
     if !first_checked.good {
-        return refuse(MALFORMED_TALLY);
+        return refuse(MALFORMED_TALLY, 0);
     }
     let second_checked = check(b);
     if !second_checked.good {
-        return refuse(MALFORMED_TALLY);
+        return refuse(MALFORMED_TALLY, 0);
     }
     let x = first_checked.size;
     let y = second_checked.size;
+    let first_deal = a.deal;
+    let second_deal = b.deal;
     let boards = boards_refusal(a.board, b.board);
+    let fouled = fouled_refusal(first_deal, x.results, second_deal, y.results);
     let full = room_refusal(x.results, y.results);
-    let refusal = first(boards, full);
-    if refusal != ACCEPTED {
-        return refuse(refusal);
+    let later = first(fouled, full);
+    let refusal = first(boards, later);
+    if refusal.number != ACCEPTED {
+        return refuse(refusal.number, refusal.place);
     }
-    let none = empty(a.board);
+    let kept = kept_deal(x.results, first_deal, second_deal);
+    let none = empty(a.board, kept);
     let both = joined(none, a, x.used, b, y.used);
-    Tallied {
-        refusal: ACCEPTED,
-        tally: both,
-    }
+    accept(both)
 }

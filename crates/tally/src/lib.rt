@@ -1,14 +1,17 @@
-// Tallies of one board: what they are, which are well formed, fresh ones, and two joined in one pass. `calls` has adding and merging, `points` the
-// matchpoints of a score. Every call checks every tally it is given.
+// Tallies of one board: what they are, which are well formed, fresh ones, and two joined in one pass. `refusals` has the refusals one by one, `calls` adding
+// and merging, `points` the matchpoints of a result. Every call checks every tally it is given.
 mod calls;
 mod points;
+mod refusals;
 
 pub use calls::add;
 pub use calls::merge;
+use deal::take_places;
 use laws::ACCEPTED;
 use laws::NO_BOARD_OR_TABLE;
 pub use points::MatchpointAnswer;
 pub use points::matchpoints;
+use refusals::same_deal;
 use score::valid;
 ghost use mathlib.Core.Path.{_≡_};
 ghost use mathlib.Core.Bool.{true, false};
@@ -19,19 +22,22 @@ ghost use lib.IntN.{pos};
 ghost use lib.ListN.{length, drop};
 ghost use Rattle.laws.specs.Choice.{if_then_else_};
 ghost use Rattle.laws.specs.Law78.{sameScore};
-ghost use Rattle.tally.specs.Tallies.{tallyOf, scoresIn, allZero, wellFormed, refusedWith, freshOf};
+ghost use Rattle.tally.specs.Tallies.{tallyFor, scoresIn, allZero, inPlaces, carries, wellFormed, refusedWith, accepting, freshOf};
 ghost use Rattle.tally.specs.Steps.{Checks, entryAt, higherOf, nextOf, Joinable};
 
-// A board with its distinct scores, highest first, and the number of results of each; unused places are zero.
+// A board with the deal of its results, the holders of the 52 cards, and with its distinct scores, highest first, and the number of results of each; unused
+// places are zero, and those of the deal where there is no result.
 pub struct Tally {
     pub board: u8,
+    pub deal: [u8; 52],
     pub scores: [i16; 128],
     pub counts: [u8; 128],
 }
 
-// What a call answers: 0 with the tally that it made, or a refusal with an all-zero tally.
+// What a call answers: 0 with the tally that it made, or a refusal and its place with an all-zero tally.
 pub struct Tallied {
     pub refusal: u8,
+    pub place: u8,
     pub tally: Tally,
 }
 
@@ -103,9 +109,10 @@ fn malformed() -> Checked
     }
 }
 
-// Whether a tally is as described, a board from 1 to 127, valid scores that fall, at most 128 results, and zeros after them; and its size, in one pass.
-fn check(t: Tally) -> Checked
-    ensures { λ r. ⌜ Checks t r ⌝ }
+// Whether board and places are as described, a board from 1 to 127, valid scores that fall, at most 128 results, and zeros after them; and the size, in one
+// pass.
+fn check_places(t: Tally) -> Checked
+    ensures { λ r. ⌜ Checks (inPlaces t) t r ⌝ }
 {
     if t.board == 0 {
         return malformed();
@@ -152,6 +159,34 @@ fn check(t: Tally) -> Checked
     }
 }
 
+// Whether a tally with so many results carries what it has to: a deal with thirteen cards a seat, or none.
+fn carries_deal(holders: [u8; 52], results: u8) -> bool
+    ensures { λ r. ⌜ r ≡ carries holders results ⌝ }
+{
+    if results == 0 {
+        return same_deal(holders, [0u8; 52]);
+    }
+    let dealt = take_places(holders);
+    dealt.refusal == ACCEPTED
+}
+
+// Whether a tally is as described, its deal too; and its size.
+fn check(t: Tally) -> Checked
+    ensures { λ r. ⌜ Checks (wellFormed t) t r ⌝ }
+{
+    let places = check_places(t);
+    if !places.good {
+        return malformed();
+    }
+    let size = places.size;
+    let holders = t.deal;
+    let good = carries_deal(holders, size.results);
+    Checked {
+        good: good,
+        size: size,
+    }
+}
+
 // Whether a tally is as described.
 pub fn well_formed(t: Tally) -> bool
     ensures { λ r. ⌜ r ≡ wellFormed t ⌝ }
@@ -160,25 +195,38 @@ pub fn well_formed(t: Tally) -> bool
     x.good
 }
 
-// The tally of a board without a result.
-fn empty(board: u8) -> Tally
-    ensures { λ r. ⌜ r ≡ tallyOf board [] ⌝ }
+// The tally of a board and a deal without a result.
+fn empty(board: u8, holders: [u8; 52]) -> Tally
+    ensures { λ r. ⌜ r ≡ tallyFor board holders [] ⌝ }
 {
     Tally {
         board: board,
+        deal: holders,
         scores: [0i16; 128],
         counts: [0u8; 128],
     }
 }
 
-// A refusal beside an all-zero tally.
-fn refuse(refusal: u8) -> Tallied
-    ensures { λ r. ⌜ r ≡ refusedWith refusal ⌝ }
+// A refusal and its place beside an all-zero tally.
+fn refuse(refusal: u8, place: u8) -> Tallied
+    ensures { λ r. ⌜ r ≡ refusedWith (record { number = refusal; place = place }) ⌝ }
 {
-    let none = empty(0);
+    let none = empty(0, [0u8; 52]);
     Tallied {
         refusal: refusal,
+        place: place,
         tally: none,
+    }
+}
+
+// A tally that a call made.
+fn accept(made: Tally) -> Tallied
+    ensures { λ r. ⌜ r ≡ accepting made ⌝ }
+{
+    Tallied {
+        refusal: ACCEPTED,
+        place: 0,
+        tally: made,
     }
 }
 
@@ -187,16 +235,13 @@ pub fn fresh(board: u8) -> Tallied
     ensures { λ r. ⌜ r ≡ freshOf board ⌝ }
 {
     if board == 0 {
-        return refuse(NO_BOARD_OR_TABLE);
+        return refuse(NO_BOARD_OR_TABLE, 0);
     }
     if 127 < board {
-        return refuse(NO_BOARD_OR_TABLE);
+        return refuse(NO_BOARD_OR_TABLE, 0);
     }
-    let none = empty(board);
-    Tallied {
-        refusal: ACCEPTED,
-        tally: none,
-    }
+    let none = empty(board, [0u8; 52]);
+    accept(none)
 }
 
 // The entry at a place before `end`; from there on no result, of a score below every valid one.
@@ -262,11 +307,11 @@ fn next_of(taken: usize, x: Entry, after: Entry) -> Entry
     Entry { score: r, count: d }
 }
 
-// The results of two tallies in one, written into an empty tally in a single pass over both. `n` and `m` are the ends of their entries. The entries
+// The results of two tallies in one, written into a tally without a result in a single pass over both. `n` and `m` are the ends of their entries. The entries
 // after the two that are compared are read before the comparison, so that a turn does not wait for them.
 fn joined(none: Tally, a: Tally, n: usize, b: Tally, m: usize) -> Tally
     requires { ⌜ Joinable none a n b m ⌝ }
-    ensures { λ r. ⌜ r ≡ tallyOf (none .board) (scoresIn a ++ scoresIn b) ⌝ }
+    ensures { λ r. ⌜ r ≡ tallyFor (none .board) (none .deal) (scoresIn a ++ scoresIn b) ⌝ }
 {
     let mut u = none;
     let mut x = entry_at(&a.scores, &a.counts, 0, n);

@@ -1,19 +1,23 @@
-// The matchpoints of a score in a tally.
+// The matchpoints of a result in a tally.
 use super::Tally;
-use super::well_formed;
-use laws::INVALID_SCORE;
+use super::check;
+use super::refusals::given_refusal;
+use deal::take;
+use laws::ACCEPTED;
 use laws::MALFORMED_TALLY;
 use laws::SCORE_NOT_IN_TALLY;
 use score::Matchpoints;
-use score::valid;
 ghost use mathlib.Core.Path.{_≡_};
 ghost use mathlib.Core.Bool.{true};
-ghost use Rattle.tally.specs.Tallies.{wellFormed};
+ghost use Rattle.laws.specs.Law77.{validScore};
+ghost use Rattle.laws.specs.Law78 as Law78;
+ghost use Rattle.laws.specs.Refusals.{placed};
+ghost use Rattle.tally.specs.Tallies.{scoresIn, wellFormed};
 ghost use Rattle.tally.specs.Points.{pointsAnswer, matchpointsOf, belowOf, equalOf, standingOf};
 
-// What is answered to a score: a refusal, or the matchpoints of both sides for one result of it.
+// What is answered to a result: a refusal and its place, or the matchpoints of both sides for one result of its score.
 pub enum MatchpointAnswer {
-    Refused(u8),
+    Refused(u8, u8),
     Points { ns: Matchpoints, ew: Matchpoints },
 }
 
@@ -82,19 +86,14 @@ fn wide(n: u8) -> u32
     n as u32
 }
 
-// Law 78A's matchpoints of both sides for one result of a score; 17, 20 or 21.
-pub fn matchpoints(t: Tally, score: i16) -> MatchpointAnswer
-    ensures { λ r. ⌜ pointsAnswer r ≡ matchpointsOf t score ⌝ }
+// Law 78A's matchpoints of both sides for one result of a valid score; 21.
+fn points_in(t: Tally, score: i16) -> MatchpointAnswer
+    requires { ⌜ (wellFormed t ≡ true) × (validScore score ≡ true) ⌝ }
+    ensures { λ r. ⌜ pointsAnswer r ≡ placed (Law78.matchpoints (scoresIn t) score) ⌝ }
 {
-    if !well_formed(t) {
-        return MatchpointAnswer::Refused(MALFORMED_TALLY);
-    }
-    if !valid(score) {
-        return MatchpointAnswer::Refused(INVALID_SCORE);
-    }
     let s = standing_of(t, score);
     if s.equal == 0 {
-        return MatchpointAnswer::Refused(SCORE_NOT_IN_TALLY);
+        return MatchpointAnswer::Refused(SCORE_NOT_IN_TALLY, 0);
     }
     let n = wide(s.results);
     let ns = 2 * wide(s.below) + wide(s.equal) - 1;
@@ -103,4 +102,24 @@ pub fn matchpoints(t: Tally, score: i16) -> MatchpointAnswer
         ns: Matchpoints(ns),
         ew: Matchpoints(ew),
     }
+}
+
+// Law 78A's matchpoints of both sides for one result: a score with the holders of the cards that were played; 17, 20, 4, 28 or 21.
+pub fn matchpoints(t: Tally, score: i16, holders: &[u8]) -> MatchpointAnswer
+    ensures { λ r. ⌜ pointsAnswer r ≡ matchpointsOf t (record { score = score; deal = now (holders .entry) }) ⌝ }
+{
+    let checked = check(t);
+    if !checked.good {
+        return MatchpointAnswer::Refused(MALFORMED_TALLY, 0);
+    }
+    let x = checked.size;
+    let carried = t.deal;
+    let dealt = take(holders);
+    let given = given_refusal(carried, x.results, score, dealt);
+    let number = given.number;
+    let place = given.place;
+    if number != ACCEPTED {
+        return MatchpointAnswer::Refused(number, place);
+    }
+    points_in(t, score)
 }

@@ -48,7 +48,7 @@ fn asked_in(line: Line) -> Asked
     ensures { λ r. ⌜ r ≡ askedIn line ⌝ }
 {
     let n = line.length;
-    if 19 < n {
+    if 20 < n {
         return Asked::Unreadable;
     }
     let bytes = line.bytes;

@@ -28,7 +28,7 @@ startOf = record { stack = record { tallies = replicate 16 noTally; used = 0 }; 
 -- an answer ends the run
 abbrev pub isStopped : Said → Bool
 isStopped Done = false
-isStopped (Refused n) = false
+isStopped (Refused n place) = false
 isStopped (Points ns ew) = false
 isStopped (Played bits) = false
 isStopped (Awarded bits) = false

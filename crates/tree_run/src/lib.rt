@@ -64,7 +64,7 @@ fn is_stopped(said: Said) -> bool
 {
     match said {
         Said::Done => false,
-        Said::Refused(_) => false,
+        Said::Refused(_, _) => false,
         Said::Points(_, _) => false,
         Said::Played(_) => false,
         Said::Awarded(_) => false,
@@ -78,7 +78,7 @@ fn call_in(line: Line) -> Call
     ensures { λ r. ⌜ r ≡ callIn line ⌝ }
 {
     let n = line.length;
-    if 19 < n {
+    if 20 < n {
         return Call::Unreadable;
     }
     let bytes = line.bytes;

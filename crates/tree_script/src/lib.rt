@@ -6,15 +6,15 @@ use decimal::read_number;
 use decimal::read_score;
 ghost use mathlib.Core.Path.{_≡_};
 ghost use Rattle.decimal.specs.Scores.{scoreOn};
-ghost use Rattle.tree_script.specs.Calls.{isPrefix, freshOn, withScore, awardOn, tallyCallOn, callOn};
+ghost use Rattle.tree_script.specs.Calls.{isPrefix, freshOn, ofDeal, givenOn, withGiven, awardOn, tallyCallOn, callOn};
 
-// A call that a line asks for, with its board, its score or its percentage; or that no call can be read.
+// A call that a line asks for, with its board, its score and the number of its deal, or its percentage; or that no call can be read.
 pub enum Call {
     Fresh(u8),
-    Add(i16),
+    Add(i16, u8),
     Merge,
-    Matchpoints(i16),
-    Cell(i16),
+    Matchpoints(i16, u8),
+    Cell(i16, u8),
     Award(u32),
     Unreadable,
 }
@@ -46,34 +46,71 @@ fn fresh_on(bytes: &[u8]) -> Call
     Call::Fresh(board_in(n))
 }
 
-// A score to add.
+// A score with the number of its deal, or that none can be read.
+enum Given {
+    Of(i16, u8),
+    Nothing,
+}
+
+// The score that the bytes say, of a deal.
+fn score_of(bytes: &[u8], deal: u8) -> Given
+    ensures { λ r. ⌜ r ≡ ofDeal deal (scoreOn (now (bytes .entry))) ⌝ }
+{
+    let Score::Of(s) = read_score(bytes) else {
+        return Given::Nothing;
+    };
+    Given::Of(s, deal)
+}
+
+// The score that the bytes say, of the deal that a space and a digit from 0 to 5 name at their end, and of deal 0 where there is no such space.
+fn given_on(bytes: &[u8]) -> Given
+    ensures { λ r. ⌜ r ≡ givenOn (now (bytes .entry)) ⌝ }
+{
+    let n = bytes.len();
+    if n < 2 {
+        return score_of(bytes, 0);
+    }
+    if bytes[n - 2] != 32 {
+        return score_of(bytes, 0);
+    }
+    let digit = bytes[n - 1];
+    if digit < 48 {
+        return Given::Nothing;
+    }
+    if 53 < digit {
+        return Given::Nothing;
+    }
+    score_of(&bytes[..n - 2], digit - 48)
+}
+
+// A result to add.
 fn add_on(bytes: &[u8]) -> Call
-    ensures { λ r. ⌜ r ≡ withScore Call.Add (scoreOn (now (bytes .entry))) ⌝ }
+    ensures { λ r. ⌜ r ≡ withGiven Call.Add (givenOn (now (bytes .entry))) ⌝ }
 {
-    let Score::Of(s) = read_score(bytes) else {
+    let Given::Of(s, deal) = given_on(bytes) else {
         return Call::Unreadable;
     };
-    Call::Add(s)
+    Call::Add(s, deal)
 }
 
-// A score whose matchpoints are asked.
+// A result whose matchpoints are asked.
 fn matchpoints_on(bytes: &[u8]) -> Call
-    ensures { λ r. ⌜ r ≡ withScore Call.Matchpoints (scoreOn (now (bytes .entry))) ⌝ }
+    ensures { λ r. ⌜ r ≡ withGiven Call.Matchpoints (givenOn (now (bytes .entry))) ⌝ }
 {
-    let Score::Of(s) = read_score(bytes) else {
+    let Given::Of(s, deal) = given_on(bytes) else {
         return Call::Unreadable;
     };
-    Call::Matchpoints(s)
+    Call::Matchpoints(s, deal)
 }
 
-// A score whose cell is asked.
+// A result whose cell is asked.
 fn cell_on(bytes: &[u8]) -> Call
-    ensures { λ r. ⌜ r ≡ withScore Call.Cell (scoreOn (now (bytes .entry))) ⌝ }
+    ensures { λ r. ⌜ r ≡ withGiven Call.Cell (givenOn (now (bytes .entry))) ⌝ }
 {
-    let Score::Of(s) = read_score(bytes) else {
+    let Given::Of(s, deal) = given_on(bytes) else {
         return Call::Unreadable;
     };
-    Call::Cell(s)
+    Call::Cell(s, deal)
 }
 
 // A percentage to be awarded.

@@ -1,4 +1,5 @@
 // A stack of at most 16 tallies, and the calls on it.
+use deal::SUITS;
 use laws::ACCEPTED;
 use percentages::Cell;
 use percentages::CellAnswer;
@@ -8,9 +9,11 @@ use tally::Tally;
 use tree_script::Call;
 ghost use mathlib.Core.Path.{_≡_};
 ghost use Prim.Native.Nat.{_<_};
-ghost use Rattle.laws.specs.Refusals.{answered};
+ghost use lib.ListN.{set};
+ghost use Rattle.laws.specs.Refusals.{given};
 ghost use Rattle.percentages.specs.Cells.{entered, cellAnswer, Numbered};
 ghost use Rattle.tally.specs.Points.{pointsAnswer};
+ghost use Rattle.tree_stack.specs.Deals.{suits, dealNumbered};
 ghost use Rattle.tree_stack.specs.Stacks.{stopped, landed, saidOf, freshStep, addStep, mergeStep, matchpointsStep, saidCell, cellStep, awardStep, stepOf};
 
 // The first `used` of 16 places hold tallies, the top last.
@@ -19,10 +22,11 @@ pub struct Stack {
     pub used: usize,
 }
 
-// What a call answers: that it is done, a refusal, the matchpoints of both sides, a cell with the 64 bits of its float; or that the run ends there.
+// What a call answers: that it is done, a refusal and its place, the matchpoints of both sides, a cell with the 64 bits of its float; or that the run ends
+// there.
 pub enum Said {
     Done,
-    Refused(u8),
+    Refused(u8, u8),
     Points(u32, u32),
     Played(u64),
     Awarded(u64),
@@ -34,6 +38,39 @@ pub enum Said {
 pub struct Step {
     pub stack: Stack,
     pub said: Said,
+}
+
+// Deal 0 with new holders of two cards.
+fn with_two(card: usize, holder: u8, card2: usize, holder2: u8) -> [u8; 52]
+    requires { ⌜ (card < 52) × (card2 < 52) ⌝ }
+    ensures { λ r. ⌜ r ≡ set (set suits card holder) card2 holder2 ⌝ }
+{
+    let mut holders = SUITS;
+    holders[card] = holder;
+    holders[card2] = holder2;
+    holders
+}
+
+// The holders of the deal of a number.
+fn holders_of(deal: u8) -> [u8; 52]
+    ensures { λ r. ⌜ r ≡ dealNumbered deal ⌝ }
+{
+    if deal == 1 {
+        return with_two(0, 1, 13, 0);
+    }
+    if deal == 2 {
+        return with_two(26, 3, 39, 2);
+    }
+    if deal == 3 {
+        return with_two(12, 3, 51, 0);
+    }
+    if deal == 4 {
+        return with_two(51, 4, 51, 4);
+    }
+    if deal == 5 {
+        return with_two(13, 2, 13, 2);
+    }
+    SUITS
 }
 
 // The run ends with the stack as it is.
@@ -52,10 +89,11 @@ fn land(s: Stack, at: usize, used: usize, made: Tallied) -> Step
     ensures { λ r. ⌜ r ≡ landed s at used made ⌝ }
 {
     let refusal = made.refusal;
+    let place = made.place;
     if refusal != ACCEPTED {
         return Step {
             stack: s,
-            said: Said::Refused(refusal),
+            said: Said::Refused(refusal, place),
         };
     }
     let t = made.tally;
@@ -79,9 +117,9 @@ fn fresh_step(s: Stack, board: u8) -> Step
     land(s, n, n + 1, tally::fresh(board))
 }
 
-// A score added to the top tally.
-fn add_step(s: Stack, score: i16) -> Step
-    ensures { λ r. ⌜ r ≡ addStep s score ⌝ }
+// A result added to the top tally.
+fn add_step(s: Stack, score: i16, deal: u8) -> Step
+    ensures { λ r. ⌜ r ≡ addStep s score deal ⌝ }
 {
     let n = s.used;
     if n < 1 {
@@ -91,7 +129,8 @@ fn add_step(s: Stack, score: i16) -> Step
         return stop(s);
     }
     let top = s.tallies[n - 1];
-    land(s, n - 1, n, tally::add(top, score))
+    let holders = holders_of(deal);
+    land(s, n - 1, n, tally::add(top, score, &holders))
 }
 
 // The two topmost tallies merged, the lower one first; refused, the lower one is left.
@@ -117,14 +156,14 @@ fn said_of(answer: MatchpointAnswer) -> Said
     ensures { λ r. ⌜ r ≡ saidOf (pointsAnswer answer) ⌝ }
 {
     match answer {
-        MatchpointAnswer::Refused(n) => Said::Refused(n),
+        MatchpointAnswer::Refused(n, place) => Said::Refused(n, place),
         MatchpointAnswer::Points { ns, ew } => Said::Points(ns.0, ew.0),
     }
 }
 
-// The matchpoints of a score in the top tally.
-fn matchpoints_step(s: Stack, score: i16) -> Step
-    ensures { λ r. ⌜ r ≡ matchpointsStep s score ⌝ }
+// The matchpoints of a result in the top tally.
+fn matchpoints_step(s: Stack, score: i16, deal: u8) -> Step
+    ensures { λ r. ⌜ r ≡ matchpointsStep s score deal ⌝ }
 {
     let n = s.used;
     if n < 1 {
@@ -134,7 +173,8 @@ fn matchpoints_step(s: Stack, score: i16) -> Step
         return stop(s);
     }
     let top = s.tallies[n - 1];
-    let said = said_of(tally::matchpoints(top, score));
+    let holders = holders_of(deal);
+    let said = said_of(tally::matchpoints(top, score, &holders));
     Step {
         stack: s,
         said: said,
@@ -143,8 +183,8 @@ fn matchpoints_step(s: Stack, score: i16) -> Step
 
 // A cell, as it is said.
 fn said_entered(cell: Cell) -> Said
-    requires { ⌜ Numbered (answered (entered cell)) ⌝ }
-    ensures { λ r. ⌜ r ≡ saidCell (answered (entered cell)) ⌝ }
+    requires { ⌜ Numbered (given (entered cell)) ⌝ }
+    ensures { λ r. ⌜ r ≡ saidCell (given (entered cell)) ⌝ }
 {
     match cell {
         Cell::Played(x) => Said::Played(f64::to_bits(x)),
@@ -159,14 +199,14 @@ fn said_cell(answer: CellAnswer) -> Said
     ensures { λ r. ⌜ r ≡ saidCell (cellAnswer answer) ⌝ }
 {
     match answer {
-        CellAnswer::Refused(n) => Said::Refused(n),
+        CellAnswer::Refused(n, place) => Said::Refused(n, place),
         CellAnswer::Is(cell) => said_entered(cell),
     }
 }
 
-// The cell of a score in the top tally.
-fn cell_step(s: Stack, score: i16) -> Step
-    ensures { λ r. ⌜ r ≡ cellStep s score ⌝ }
+// The cell of a result in the top tally.
+fn cell_step(s: Stack, score: i16, deal: u8) -> Step
+    ensures { λ r. ⌜ r ≡ cellStep s score deal ⌝ }
 {
     let n = s.used;
     if n < 1 {
@@ -176,7 +216,8 @@ fn cell_step(s: Stack, score: i16) -> Step
         return stop(s);
     }
     let top = s.tallies[n - 1];
-    let said = said_cell(percentages::cell_of(top, score));
+    let holders = holders_of(deal);
+    let said = said_cell(percentages::cell_of(top, score, &holders));
     Step {
         stack: s,
         said: said,
@@ -200,10 +241,10 @@ pub fn make_call(s: Stack, call: Call) -> Step
 {
     match call {
         Call::Fresh(board) => fresh_step(s, board),
-        Call::Add(score) => add_step(s, score),
+        Call::Add(score, deal) => add_step(s, score, deal),
         Call::Merge => merge_step(s),
-        Call::Matchpoints(score) => matchpoints_step(s, score),
-        Call::Cell(score) => cell_step(s, score),
+        Call::Matchpoints(score, deal) => matchpoints_step(s, score, deal),
+        Call::Cell(score, deal) => cell_step(s, score, deal),
         Call::Award(percent) => award_step(s, percent),
         Call::Unreadable => stop(s),
     }

@@ -1,12 +1,14 @@
 // Tries a tally of each forged kind through every call, on either side of a merge. A line has the kind, whether the tally is well formed (1 or 0),
 // and the refusals of: a score added, merged as the first, merged as the second, merged with itself, matchpoints asked.
+use deal::SUITS;
 use tally::MatchpointAnswer;
 use tally::Tally;
 
-// A tally as described: board 7 with 450 once, 420 twice and -50 once.
+// A tally as described: board 7, one deal, with 450 once, 420 twice and -50 once.
 fn described() -> Tally {
     let mut t = Tally {
         board: 7,
+        deal: SUITS,
         scores: [0i16; 128],
         counts: [0u8; 128],
     };
@@ -36,24 +38,66 @@ fn with_entry(place: usize, score: i16, count: u8) -> Tally {
     t
 }
 
+// The tally with other holders of two cards.
+fn with_holders(card: usize, holder: u8, card2: usize, holder2: u8) -> Tally {
+    let mut t = described();
+    if card < 52 {
+        t.deal[card] = holder;
+    }
+    if card2 < 52 {
+        t.deal[card2] = holder2;
+    }
+    t
+}
+
+// A tally of the board without a result, and with a holder of a card.
+fn without_result(card: usize, holder: u8) -> Tally {
+    let mut t = Tally {
+        board: 7,
+        deal: [0u8; 52],
+        scores: [0i16; 128],
+        counts: [0u8; 128],
+    };
+    if card < 52 {
+        t.deal[card] = holder;
+    }
+    t
+}
+
+// A tally with results and no deal, and one with a deal and no result.
+fn without_deal() -> Tally {
+    let mut t = described();
+    t.deal = [0u8; 52];
+    t
+}
+
+fn deal_alone() -> Tally {
+    let mut t = without_result(0, 0);
+    t.deal = SUITS;
+    t
+}
+
 // The tally beside a refusal.
 fn beside_refusal() -> Tally {
-    let r = tally::add(with_board(0), 100);
+    let deal = SUITS;
+    let r = tally::add(with_board(0), 100, &deal);
     let t = r.tally;
     t
 }
 
 // The refusal of the matchpoints of 420, 0 for none.
 fn points_refusal(t: Tally) -> u8 {
-    match tally::matchpoints(t, 420) {
-        MatchpointAnswer::Refused(n) => n,
+    let deal = SUITS;
+    match tally::matchpoints(t, 420, &deal) {
+        MatchpointAnswer::Refused(n, _) => n,
         MatchpointAnswer::Points { ns: _, ew: _ } => 0,
     }
 }
 
 // The refusal of 100 added, 0 for none.
 fn add_refusal(t: Tally) -> u8 {
-    let r = tally::add(t, 100);
+    let deal = SUITS;
+    let r = tally::add(t, 100, &deal);
     r.refusal
 }
 
@@ -107,4 +151,15 @@ fn main() {
     line(b"board 128:", with_board(128));
     line(b"board 255:", with_board(255));
     line(b"beside a refusal:", beside_refusal());
+    line(b"another deal:", with_holders(0, 1, 13, 0));
+    line(
+        b"another deal in the last cards:",
+        with_holders(26, 3, 39, 2),
+    );
+    line(b"a holder that is no seat:", with_holders(51, 4, 51, 4));
+    line(b"a seat with twelve cards:", with_holders(13, 2, 13, 2));
+    line(b"results and no deal:", without_deal());
+    line(b"a deal and no result:", deal_alone());
+    line(b"no result, and one holder:", without_result(51, 1));
+    line(b"no result:", without_result(0, 0));
 }

@@ -1,14 +1,16 @@
 // Merges two tallies of 64 distinct scores, a thousand times for each byte of standard input, and writes how many merges were accepted:
 // what docs/PERFORMANCE.md measures. Each merge takes a count from the one before it, so that none can be left out.
+use deal::SUITS;
 use tally::Tally;
 ghost use Prim.Native.Nat.{_≤_};
 
-// A tally of board 1: 64 scores, each 20 below the one before it, one result each.
+// A tally of board 1 and of one deal: 64 scores, each 20 below the one before it, one result each.
 fn filled(top: u16) -> Tally
     requires { ⌜ (1280 ≤ top) × (top ≤ 2000) ⌝ }
 {
     let mut t = Tally {
         board: 1,
+        deal: SUITS,
         scores: [0i16; 128],
         counts: [0u8; 128],
     };

@@ -34,7 +34,7 @@ fn read() {
     );
     script(
         b"the longest line",
-        b"fresh 3\nmatchpoints -99999\nmatchpoints -999990\n",
+        b"fresh 3\nmatchpoints -99999 5\nmatchpoints -99999 50\n",
     );
 }
 
@@ -62,6 +62,19 @@ fn numbers() {
     script(b"a space at the end", b"fresh 3\nadd 10 \n");
 }
 
+// Deals that cannot be read.
+fn deals() {
+    script(b"deal 6", b"fresh 3\nadd 10 6\n");
+    script(b"deal 9", b"fresh 3\nmatchpoints 10 9\n");
+    script(b"a deal with a leading zero", b"fresh 3\nadd 10 01\n");
+    script(b"a deal with a minus", b"fresh 3\ncell 10 -\n");
+    script(b"a deal and no score", b"fresh 3\nadd 1\nadd  1\n");
+    script(b"two spaces before a deal", b"fresh 3\nadd 10  1\n");
+    script(b"a deal and a space", b"fresh 3\nadd 10 1 \n");
+    script(b"a deal for a merge", b"fresh 3\nfresh 3\nmerge 1\n");
+    script(b"two deals", b"fresh 3\nadd 10 1 1\n");
+}
+
 // A stack that is too short for each call.
 fn short() {
     script(b"add to nothing", b"add 10\nfresh 3\n");
@@ -75,6 +88,7 @@ fn main() {
     read();
     words();
     numbers();
+    deals();
     short();
     file(b"sixteen");
     file(b"seventeen");
@@ -83,4 +97,6 @@ fn main() {
     file(b"every_refusal");
     file(b"results_129");
     file(b"cells");
+    file(b"deals");
+    file(b"fouled_128");
 }

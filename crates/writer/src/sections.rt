@@ -2,15 +2,13 @@
 use laws::CLAIM_TOO_MANY;
 use laws::NO_BOARD_OR_TABLE;
 use laws::NO_CLAIM_POINT;
-use laws::NOT_THIRTEEN;
 use laws::PLAY_UNFINISHED;
 use laws::refusal_number;
 ghost use mathlib.Core.Path.{_≡_};
 ghost use mathlib.Core.List.{[]};
-ghost use Prim.Native.Nat.{_≤_, _<_, min};
-ghost use lib.ListN.{length};
-ghost use Rattle.laws.specs.Contents.{takeHeading, areSeats, takeDeal};
-ghost use Rattle.writer.specs.Checked.{refusalIn, noDeal, dealBy, claimBy};
+ghost use Prim.Native.Nat.{min};
+ghost use Rattle.laws.specs.Contents.{takeHeading, takeDeal};
+ghost use Rattle.writer.specs.Checked.{refusalIn, dealBy, claimBy};
 ghost use Rattle.writer.specs.Given.{claimOf};
 
 // The number of the refusal of board and table, 0 for none.
@@ -39,64 +37,18 @@ pub struct Deal {
     pub hands: [u64; 4],
 }
 
-fn no_deal(refusal: u8, place: u16) -> Deal
-    ensures { λ r. ⌜ r ≡ noDeal refusal place ⌝ }
-{
-    Deal {
-        refusal: refusal_number(refusal, place),
-        holders: [0u8; 52],
-        hands: [0u64; 4],
-    }
-}
-
-// Whether there are 52 holders, and each is a seat.
-fn are_seats(holders: &[u8]) -> bool
-    ensures { λ r. ⌜ r ≡ areSeats (now (holders .entry)) ⌝ }
-{
-    if holders.len() != 52 {
-        return false;
-    }
-    let mut i: usize = 0;
-    while i < 52 {
-        if 3 < holders[i] {
-            return false;
-        }
-        i += 1;
-    }
-    true
-}
-
-// The holders as an array.
-fn places(holders: &[u8]) -> [u8; 52]
-    requires { ⌜ length (now holders) ≡ 52 ⌝ }
-    ensures { λ r. ⌜ r ≡ now (holders .entry) ⌝ }
-{
-    let mut row = [0u8; 52];
-    let mut i: usize = 0;
-    while i < 52 {
-        row[i] = holders[i];
-        i += 1;
-    }
-    row
-}
-
 // The deal.
 pub(crate) fn take_deal(holders: &[u8]) -> Deal
     ensures { λ r. ⌜ r ≡ dealBy (now (holders .entry)) (takeDeal (now (holders .entry)) [] 0) ⌝ }
 {
-    if !are_seats(holders) {
-        return no_deal(NOT_THIRTEEN, 4);
-    }
-    let row = places(holders);
-    let hands = deal::hands(row);
-    let seat = deal::seat_without_thirteen(hands);
-    if seat != 4 {
-        return no_deal(NOT_THIRTEEN, seat as u16);
-    }
+    let dealt = deal::take(holders);
+    let refusal = refusal_number(dealt.refusal, dealt.place as u16);
+    let row = dealt.holders;
+    let hands = dealt.hands;
     Deal {
-        refusal: 0,
+        refusal: refusal,
         holders: row,
-        hands,
+        hands: hands,
     }
 }
 

@@ -5,6 +5,7 @@ use outside::making::{self, Made};
 use outside::random::Random;
 use outside::run::{output_of, stop, Words};
 use outside::tally::Tally;
+use outside::tree::numbered;
 use outside::writer::Writer;
 use outside::{judge, proved, writer};
 use std::ffi::c_long;
@@ -118,11 +119,11 @@ fn middle(mut figures: Vec<f64>) -> f64 {
 const MERGE_BYTES: usize = 1_000;
 const MERGES: usize = 1_000 * MERGE_BYTES;
 
-/// 64 distinct scores, each 20 below the one before it.
+/// 64 distinct scores on one deal, each 20 below the one before it.
 fn filled(top: i32) -> Tally {
     let mut tally = Tally::fresh(1).expect("board 1 has a tally");
     for k in 0..64 {
-        tally.add(top - 20 * k).expect("a valid score");
+        tally.add(top - 20 * k, &numbered(0)).expect("a valid score");
     }
     tally
 }

@@ -3,11 +3,12 @@
 use outside::random::Random;
 use outside::run::{output_of, stop, Words};
 use outside::scripts::Script;
-use outside::tally::MOST_RESULTS;
+use outside::tally::{Refusal, MOST_RESULTS};
+use std::collections::BTreeMap;
 
-/// How often each refusal has to occur.
+/// How often each refusal, with its place, has to occur.
 const LEAST: u64 = 100;
-const REFUSALS: [usize; 5] = [3, 18, 19, 20, 21];
+const REFUSALS: [Refusal; 8] = [(3, 0), (4, 1), (4, 4), (18, 0), (19, 0), (20, 0), (21, 0), (28, 0)];
 /// Trees in a script of many.
 const MANY: usize = 16;
 
@@ -17,7 +18,7 @@ fn main() {
     let limit = words.limit(20_000);
     let program = words.text("--program").unwrap_or_else(|| stop("--program needs the path of the program tree"));
     (1..=MOST_RESULTS).for_each(|results| compare(program, &Script::of_cells(&mut random, results)));
-    let (mut trees, mut runs, mut refusals) = (0, 0u64, [0; 22]);
+    let (mut trees, mut runs, mut refusals) = (0, 0u64, BTreeMap::<Refusal, u64>::new());
     while !limit.reached(trees) {
         let (script, count) = match runs % 5 {
             0 | 1 => (Script::of_trees(&mut random, 1), 1),
@@ -25,16 +26,17 @@ fn main() {
             _ => (Script::that_stops(&mut random), 0),
         };
         compare(program, &script);
-        for (sum, n) in refusals.iter_mut().zip(script.runner.refusals) {
-            *sum += n;
+        for (&refusal, n) in &script.runner.refusals {
+            *refusals.entry(refusal).or_default() += n;
         }
         runs += 1;
         trees += count;
     }
-    println!("{trees} trees in {runs} runs, no difference; refused by number:");
-    println!("{}", REFUSALS.map(|k| format!("  {k}: {}", refusals[k])).concat());
-    if let Some(number) = REFUSALS.into_iter().find(|&k| limit.counted() && refusals[k] < LEAST) {
-        stop(&format!("refusal {number} occurred only {} times", refusals[number]));
+    let count = |refusal| refusals.get(&refusal).copied().unwrap_or(0);
+    println!("{trees} trees in {runs} runs, no difference; refused by number and place:");
+    println!("{}", REFUSALS.map(|(number, place)| format!("  {number}/{place}: {}", count((number, place)))).concat());
+    if let Some(refusal) = REFUSALS.into_iter().find(|&refusal| limit.counted() && count(refusal) < LEAST) {
+        stop(&format!("refusal {} with place {} occurred only {} times", refusal.0, refusal.1, count(refusal)));
     }
 }
 

@@ -4,6 +4,7 @@ use native.Mathlib.Omega.{arith}
 use mathlib.Core.Path.{_≡_, sym, ap, _∙_, subst}
 use borrow.Author.Needs.{needs}
 use mir.Facts.{toZ-ofZ}
+use Rattle.laws.specs.Tally.{Result}
 use Rattle.tally.specs.Points.{pointsAnswer, matchpointsOf}
 use Rattle.percentages.proofs.Told.{byPoints, by-points, Few, few}
 use Rattle.percentages.proofs.cell_of.Statement.{statement}
@@ -18,15 +19,22 @@ enum-known-answer c = search needs
 enum-known-answer-2 : tie.Need-enum-known-answer-2
 enum-known-answer-2 c = search needs
 
--- what is answered for the matchpoints of the score
-told : (c : tie.After-matchpoints) → pointsAnswer (c .matchpoints .result) ≡ matchpointsOf (c .before .args .t) (c .before .args .score)
-told c = rw (toZ-ofZ (c .before .fits .score)) at (c .matchpoints .ensures)
+-- the result that is asked for
+abbrev asked-for : tie.Start → Result
+asked-for st = record { score = st .args .score; deal = st .args .holders .now }
+
+abbrev start : tie.After-matchpoints → tie.Start
+start c = c .before .before
+
+-- what is answered for its matchpoints
+told : (c : tie.After-matchpoints) → pointsAnswer (c .matchpoints .result) ≡ matchpointsOf (start c .args .t) (asked-for (start c))
+told c = rw (toZ-ofZ (start c .fits .score)) at (c .matchpoints .ensures)
 
 -- both sides' matchpoints are of at most 128 results
 both : (c : tie.After-known-told2) → let p = c .before .answer2 .given .0 in p .0 .0 + p .1 .0 .0 ≤ 254
 both c =
     let d = c .before .before .before in
-    subst Few (sym (told d) ∙ ap pointsAnswer (c .before .answer2 .given .1)) (few (d .before .args .t) (d .before .args .score))
+    subst Few (sym (told d) ∙ ap pointsAnswer (c .before .answer2 .given .1)) (few (start d .args .t) (asked-for (start d)))
 
 results-of-requires : tie.Need-results-of-requires
 results-of-requires c κs = both c
@@ -37,7 +45,7 @@ cell-by-requires c κs = let b = both (c .before) in let r = c .results-of .ensu
 returns : tie.Need-returns
 returns c =
     let d = c .before .before .before in
-    ap byPoints (sym (ap pointsAnswer (c .before .answer .given .1)) ∙ told d) ∙ by-points (d .before .args .t) (d .before .args .score)
+    ap byPoints (sym (ap pointsAnswer (c .before .answer .given .1)) ∙ told d) ∙ by-points (start d .args .t) (asked-for (start d))
 
 returns-2 : tie.Need-returns-2
 returns-2 c =
@@ -45,7 +53,7 @@ returns-2 c =
     let d = k .before .before .before in
     rw (c .before .results-of .ensures) at (c .cell-by .ensures)
     ∙ ap byPoints (sym (ap pointsAnswer (k .before .answer2 .given .1)) ∙ told d)
-    ∙ by-points (d .before .args .t) (d .before .args .score)
+    ∙ by-points (start d .args .t) (asked-for (start d))
 
 pub cell-of-spec : {M : Type 1} → statement M
 cell-of-spec =

@@ -15,12 +15,12 @@ returns c = rw (lt-ltb _ _ (c .if1 .taken))
 
 array-share-prefix-bytes : tie.Need-array-share-prefix-bytes
 array-share-prefix-bytes c =
-    let n : length (c .before .before .args .line .bytes) ≡ 19 = search needs in
+    let n : length (c .before .before .args .line .bytes) ≡ 20 = search needs in
     omega (arith, c .before .if1 .left)
 
 slice-aggregate-read-line : tie.Need-slice-aggregate-read-line
 slice-aggregate-read-line c =
-    let n : length (c .before .before .before .args .line .bytes) ≡ 19 = search needs in
+    let n : length (c .before .before .before .args .line .bytes) ≡ 20 = search needs in
     sym (length-take-le _ _ (omega (arith, c .before .before .if1 .left)))
 
 read-line-requires : tie.Need-read-line-requires

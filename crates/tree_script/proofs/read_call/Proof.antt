@@ -2,8 +2,7 @@
 use mathlib.Core.Path.{sym, ap, _∙_}
 use borrow.Author.Needs.{needs}
 use Rattle.tree_script.specs.declared.Call.the-variants.{Cell}
-use Rattle.decimal.specs.Scores.{scoreOn}
-use Rattle.tree_script.specs.Calls.{withScore, awardOn, callOn, cellWord, awardWord}
+use Rattle.tree_script.specs.Calls.{givenOn, withGiven, awardOn, callOn, cellWord, awardWord}
 use Rattle.decimal.proofs.Scores.{rest-is}
 use Rattle.tree_script.proofs.Lines.{prefix-length}
 use Rattle.tree_script.proofs.read_call.Statement.{statement}
@@ -31,7 +30,7 @@ returns : tie.Need-returns
 unfolding callOn
 returns c =
     let s = c .before .before .before .before .before .before .args .line .now in
-    c .cell-on .ensures ∙ ap (λ (l : _). withScore Cell (scoreOn l)) (rest-is 5 s)
+    c .cell-on .ensures ∙ ap (λ (l : _). withGiven Cell (givenOn l)) (rest-is 5 s)
     ∙ rw (sym (c .before .before .before .starts .ensures) ∙ c .before .before .if1 .taken)
 
 slice-aggregate-starts-2 : tie.Need-slice-aggregate-starts-2

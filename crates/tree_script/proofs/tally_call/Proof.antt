@@ -3,8 +3,7 @@ use mathlib.Core.Path.{sym, ap, _∙_}
 use mathlib.Core.List.{[], _∷_}
 use borrow.Author.Needs.{needs}
 use Rattle.tree_script.specs.declared.Call.the-variants.{Add, Matchpoints}
-use Rattle.decimal.specs.Scores.{scoreOn}
-use Rattle.tree_script.specs.Calls.{freshOn, withScore, freshWord, addWord, matchpointsWord}
+use Rattle.tree_script.specs.Calls.{freshOn, givenOn, withGiven, freshWord, addWord, matchpointsWord}
 use Rattle.decimal.proofs.Scores.{rest-is}
 use Rattle.tree_script.proofs.Lines.{prefix-length, to-fresh, to-add, to-matchpoints, other-length, to-merge, to-nothing}
 use Rattle.tree_script.proofs.tally_call.Statement.{statement}
@@ -54,7 +53,7 @@ add-on-requires c κs = search needs
 returns-2 : tie.Need-returns-2
 returns-2 c =
     let s = c .before .before .before .before .before .before .before .before .before .args .line .now in
-    c .add-on .ensures ∙ ap (λ (l : _). withScore Add (scoreOn l)) (rest-is 4 s) ∙ to-add s
+    c .add-on .ensures ∙ ap (λ (l : _). withGiven Add (givenOn l)) (rest-is 4 s) ∙ to-add s
     (sym (c .before .before .before .before .before .before .starts .ensures) ∙ c .before .before .before .before .before .if1 .left)
     (sym (c .before .before .before .starts2 .ensures) ∙ c .before .before .if2 .taken)
 
@@ -79,7 +78,7 @@ matchpoints-on-requires c κs = search needs
 returns-3 : tie.Need-returns-3
 returns-3 c =
     let s = c .before .before .before .before .before .before .before .before .before .before .before .before .args .line .now in
-    c .matchpoints-on .ensures ∙ ap (λ (l : _). withScore Matchpoints (scoreOn l)) (rest-is 12 s)
+    c .matchpoints-on .ensures ∙ ap (λ (l : _). withGiven Matchpoints (givenOn l)) (rest-is 12 s)
     ∙ to-matchpoints s (sym (c .before .before .before .before .before .before .before .before .before .starts .ensures)
     ∙ c .before .before .before .before .before .before .before .before .if1 .left)
     (sym (c .before .before .before .before .before .before .starts2 .ensures) ∙ c .before .before .before .before .before .if2 .left)

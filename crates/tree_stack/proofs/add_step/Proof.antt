@@ -10,19 +10,25 @@ stop-requires : tie.Need-stop-requires
 stop-requires c κs = search needs
 
 returns : tie.Need-returns
-returns c = c .stop .ensures ∙ add-short _ _ (c .before .if1 .taken)
+returns c = c .stop .ensures ∙ add-short _ _ _ (c .before .if1 .taken)
 
 stop-requires-2 : tie.Need-stop-requires-2
 stop-requires-2 c κs = search needs
 
 returns-2 : tie.Need-returns-2
-returns-2 c = c .stop2 .ensures ∙ add-long _ _ (c .before .if2 .taken)
+returns-2 c = c .stop2 .ensures ∙ add-long _ _ _ (c .before .if2 .taken)
 
 mul-top : tie.Need-mul-top
 mul-top c = search needs
 
 element-copy-out-top : tie.Need-element-copy-out-top
 element-copy-out-top c = search needs
+
+holders-of-requires : tie.Need-holders-of-requires
+holders-of-requires c κs = search needs
+
+slice-aggregate-add : tie.Need-slice-aggregate-add
+slice-aggregate-add c = search needs
 
 add-requires : tie.Need-add-requires
 add-requires c κs = search needs
@@ -32,8 +38,11 @@ land-requires c κs = search needs
 
 returns-3 : tie.Need-returns-3
 returns-3 c =
-    c .land .ensures ∙ rw (c .before .add .ensures, toZ-ofZ (c .before .before .before .before .before .fits .score))
-    (add-lands (c .before .before .before .before .before .args .t1) _ (c .before .before .before .before .if1 .left) (c .before .before .before .if2 .left))
+    let h = c .before .before .before in
+    let e = h .before .before in
+    let st = e .before .before in
+    c .land .ensures ∙ rw (c .before .add .ensures, toZ-ofZ (st .fits .score), h .holders-of .ensures)
+    (add-lands (st .args .t1) _ _ (e .before .if1 .left) (e .if2 .left))
 
 pub add-step-spec : {M : Type 1} → statement M
 add-step-spec =
@@ -45,6 +54,8 @@ add-step-spec =
     returns-2
     mul-top
     element-copy-out-top
+    holders-of-requires
+    slice-aggregate-add
     add-requires
     land-requires
     returns-3)

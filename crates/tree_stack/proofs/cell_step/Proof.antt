@@ -12,19 +12,25 @@ stop-requires : tie.Need-stop-requires
 stop-requires c κs = search needs
 
 returns : tie.Need-returns
-returns c = c .stop .ensures ∙ cell-short _ _ (c .before .if1 .taken)
+returns c = c .stop .ensures ∙ cell-short _ _ _ (c .before .if1 .taken)
 
 stop-requires-2 : tie.Need-stop-requires-2
 stop-requires-2 c κs = search needs
 
 returns-2 : tie.Need-returns-2
-returns-2 c = c .stop2 .ensures ∙ cell-long _ _ (c .before .if2 .taken)
+returns-2 c = c .stop2 .ensures ∙ cell-long _ _ _ (c .before .if2 .taken)
 
 mul-top : tie.Need-mul-top
 mul-top c = search needs
 
 element-copy-out-top : tie.Need-element-copy-out-top
 element-copy-out-top c = search needs
+
+holders-of-requires : tie.Need-holders-of-requires
+holders-of-requires c κs = search needs
+
+slice-aggregate-cell-of : tie.Need-slice-aggregate-cell-of
+slice-aggregate-cell-of c = search needs
 
 cell-of-requires : tie.Need-cell-of-requires
 cell-of-requires c κs = search needs
@@ -34,9 +40,11 @@ said-cell-requires c κs = subst Numbered (sym (c .cell-of .ensures)) (cell-numb
 
 returns-3 : tie.Need-returns-3
 returns-3 c =
-    rw (c .said-cell .ensures, c .before .cell-of .ensures, toZ-ofZ (c .before .before .before .before .before .fits .score))
-    (cell-said (c .before .before .before .before .before .args .t1) _ (c .before .before .before .before .if1 .left)
-    (c .before .before .before .if2 .left))
+    let h = c .before .before .before in
+    let e = h .before .before in
+    let st = e .before .before in
+    rw (c .said-cell .ensures, c .before .cell-of .ensures, toZ-ofZ (st .fits .score), h .holders-of .ensures)
+    (cell-said (st .args .t1) _ _ (e .before .if1 .left) (e .if2 .left))
 
 pub cell-step-spec : {M : Type 1} → statement M
 cell-step-spec =
@@ -48,6 +56,8 @@ cell-step-spec =
     returns-2
     mul-top
     element-copy-out-top
+    holders-of-requires
+    slice-aggregate-cell-of
     cell-of-requires
     said-cell-requires
     returns-3)

@@ -1,7 +1,7 @@
 -- `tree_stack::said_entered` meets its contract. Assumes nothing.
 use mathlib.Core.Path.{sym, ap, subst}
 use borrow.Author.Needs.{needs}
-use Rattle.laws.specs.Refusals.{answered}
+use Rattle.laws.specs.Refusals.{given}
 use Rattle.percentages.specs.declared.Cell.{Cell}
 use Rattle.percentages.specs.Cells.{entered, Numbered}
 use Rattle.tree_stack.specs.declared.Said.{Said}
@@ -11,10 +11,10 @@ use Rattle.tree_stack.proofs.said_entered.Tie as tie
 
 -- what is said for a cell, and that its float is a number
 abbrev said : Cell → Said
-said cell = saidCell (answered (entered cell))
+said cell = saidCell (given (entered cell))
 
 abbrev Number : Cell → Type 0
-Number cell = Numbered (answered (entered cell))
+Number cell = Numbered (given (entered cell))
 
 enum-known-cell : tie.Need-enum-known-cell
 enum-known-cell c = search needs

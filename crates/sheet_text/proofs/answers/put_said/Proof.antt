@@ -3,7 +3,7 @@ use native.Mathlib.Omega.{arith}
 use Prim.Native.Nat.{_<_, _^_}
 use mathlib.Core.Path.{_≡_}
 use Rattle.sheet_text.specs.Answers.{saidText, playedWord, awardedWord}
-use Rattle.sheet_text.proofs.Answering.{refused-short, points-short, line-short, bits-length}
+use Rattle.sheet_text.proofs.Answering.{refused-at-short, points-short, line-short, bits-length}
 use borrow.Author.Needs.{needs}
 use Rattle.sheet_text.proofs.answers.put_said.Statement.{statement}
 use Rattle.sheet_text.proofs.answers.put_said.Tie as tie
@@ -20,11 +20,13 @@ put-bytes-requires c κs = omega arith
 enum-known-said : tie.Need-enum-known-said
 enum-known-said c = search needs
 
-put-refused-requires : tie.Need-put-refused-requires
-put-refused-requires c κs =
+put-refused-at-requires : tie.Need-put-refused-at-requires
+put-refused-at-requires c κs =
     let n = c .before .before .said .given .0 .0 in
+    let p = c .before .before .said .given .0 .1 .0 in
     let k : n < 256 = search needs in
-    omega (arith, refused-short n k, c .before .before .before .before .before .pre)
+    let m : p < 256 = search needs in
+    omega (arith, refused-at-short n p k m, c .before .before .before .before .before .pre)
 
 enum-known-said-2 : tie.Need-enum-known-said-2
 enum-known-said-2 c = search needs
@@ -86,8 +88,10 @@ returns-2 : tie.Need-returns-2
 unfolding saidText
 returns-2 c =
     let n = c .before .before .before .before .before .said .given .0 .0 in
+    let p = c .before .before .before .before .before .said .given .0 .1 .0 in
     let k : n < 256 = search needs in
-    rw (c .before .before .before .before .before .said .given .1) (c .before .before .put-refused .ensures, refused-short n k)
+    let m : p < 256 = search needs in
+    rw (c .before .before .before .before .before .said .given .1) (c .before .before .put-refused-at .ensures, refused-at-short n p k m)
 
 same-length-3 : tie.Need-same-length-3
 same-length-3 c = search needs
@@ -144,7 +148,7 @@ put-said-spec =
     slice-aggregate-put-bytes
     put-bytes-requires
     enum-known-said
-    put-refused-requires
+    put-refused-at-requires
     enum-known-said-2
     put-points-requires
     enum-known-said-3

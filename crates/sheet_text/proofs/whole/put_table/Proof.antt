@@ -51,8 +51,8 @@ mul-score c = omega arith
 element-copy-out-score : tie.Need-element-copy-out-score Inv-loop μ-loop
 element-copy-out-score c = omega arith
 
-matchpoints-requires : tie.Need-matchpoints-requires Inv-loop μ-loop
-matchpoints-requires c κs = search needs
+points-of-requires : tie.Need-points-of-requires Inv-loop μ-loop
+points-of-requires c κs = search needs
 
 enum-known-points : tie.Need-enum-known-points Inv-loop μ-loop
 enum-known-points c = search needs
@@ -69,7 +69,7 @@ returns-2 : tie.Need-returns-2 Inv-loop μ-loop
 returns-2 c =
     let l = c .before .before .before .before .before .before .before .loop in
     absurd (not-refused _ _ _ _ _ _ _ (l .inv) (c .before .before .before .before .before .before .loop-test .taken)
-    (c .before .before .before .before .if1 .left) _ (c .before .before .matchpoints .ensures) _ (c .enum-told .given .1))
+    (c .before .before .before .before .if1 .left) _ (c .before .before .points-of .ensures) _ _ (c .enum-told .given .1))
 
 cast-put-row : tie.Need-cast-put-row Inv-loop μ-loop
 cast-put-row c = search needs
@@ -79,7 +79,7 @@ put-row-requires c κs =
     let l = c .before .before .before .before .before .before .before .before .before .loop in
     let h = c .before .before .before .before .before .before .before .before .loop-test .taken in
     let u = c .before .before .before .before .before .before .if1 .left in
-    let p = both _ _ _ _ _ _ _ (l .inv) h u _ (c .before .before .before .before .matchpoints .ensures) _ _ (c .before .before .points .given .1) in
+    let p = both _ _ _ _ _ _ _ (l .inv) h u _ (c .before .before .before .before .points-of .ensures) _ _ (c .before .before .points .given .1) in
     (rw (as-held _ _ _ _ _ _ _ (l .inv) h u) (row-room _ _ _ _ _ _ _ (l .inv) h u _ _ (p .0) (p .1)), few _ _ _ _ _ _ _ (l .inv) h u _ _ (p .0) (p .1))
 
 add-i : tie.Need-add-i Inv-loop μ-loop
@@ -94,7 +94,7 @@ loop-again c =
     let h = c .before .before .before .before .before .before .before .before .before .before .before .loop-test .taken in
     let u = c .before .before .before .before .before .before .before .before .before .if1 .left in
     let p =
-    both _ _ _ _ _ _ _ (l .inv) h u _ (c .before .before .before .before .before .before .before .matchpoints .ensures) _ _
+    both _ _ _ _ _ _ _ (l .inv) h u _ (c .before .before .before .before .before .before .before .points-of .ensures) _ _
     (c .before .before .before .before .before .points .given .1) in
     goes _ _ _ _ _ _ _ (l .inv) h u _ _ (p .0) (p .1) _ _ (rw (as-held _ _ _ _ _ _ _ (l .inv) h u) at (c .before .before .put-row .ensures))
 
@@ -119,7 +119,7 @@ put-table-spec =
     returns
     mul-score
     element-copy-out-score
-    matchpoints-requires
+    points-of-requires
     enum-known-points
     enum-told
     same-length-2

@@ -48,8 +48,8 @@ returns c =
     bad _ _ _ _ (c .before .before .before .before .before .before .loop .inv) (c .before .before .before .before .before .loop-test .taken) _
     (c .before .before .before .before .line-end .ensures) _ (c .before .before .said-on .ensures) (c .enum-told .given .1)
 
-add-requires : tie.Need-add-requires Inv-loop μ-loop
-add-requires c κs = search needs
+with-score-requires : tie.Need-with-score-requires Inv-loop μ-loop
+with-score-requires c κs = search needs
 
 full-at-requires : tie.Need-full-at-requires Inv-loop μ-loop
 full-at-requires c κs = search needs
@@ -60,7 +60,7 @@ returns-2 c =
     let l = d .before .before .before .before in
     rw (c .full-at .ensures)
     (over _ _ _ _ (l .before .before .loop .inv) (l .before .loop-test .taken) _ (l .line-end .ensures) _ _ (d .before .before .said-on .ensures)
-    (d .score .given .1) _ (c .before .before .before .add .ensures)
+    (d .score .given .1) _ (c .before .before .before .with-score .ensures)
     (λ z. c .before .if1 .taken (rw z)))
 
 add-at : tie.Need-add-at Inv-loop μ-loop
@@ -88,7 +88,7 @@ loop-again c =
     (c .before .before .before .before .before .before .before .before .before .before .loop-test .taken) _
     (c .before .before .before .before .before .before .before .before .before .line-end .ensures) _ _
     (c .before .before .before .before .before .before .before .said-on .ensures) (c .before .before .before .before .before .score .given .1) _
-    (c .before .before .before .add .ensures) (c .before .if1 .left)
+    (c .before .before .before .with-score .ensures) (c .before .if1 .left)
 
 returns-3 : tie.Need-returns-3 Inv-loop μ-loop
 returns-3 c = ends _ _ _ _ (c .before .loop .inv) (c .loop-test .left)
@@ -110,7 +110,7 @@ results-of-spec =
     enum-known-score
     enum-told
     returns
-    add-requires
+    with-score-requires
     full-at-requires
     returns-2
     add-at

@@ -7,10 +7,13 @@ use borrow.Author.Tests.{not-true, not-false}
 use mir.Syntax.{w16}
 use mir.Val.{toZ, ofZ}
 use mir.Facts.{toZ-ofZ}
-use Rattle.laws.specs.Tally.{addRefusal}
-use Rattle.tally.specs.Tallies.{tallyOf, scoresIn, wellFormed}
-use Rattle.tally.specs.Steps.{sizeOf}
-use Rattle.tally.proofs.Answers.{own-empty, size-room, add-malformed, add-number, add-refused, add-joinable, add-accepted}
+use Rattle.laws.specs.Tally.{Result, addRefusal, givenRefusal}
+use Rattle.laws.proofs.TallyRules.{given-allowed, add-allowed}
+use Rattle.tally.specs.Tallies.{tallyFor, scoresIn, resultsIn, wellFormed}
+use Rattle.tally.specs.Steps.{sizeOf, held}
+use Rattle.tally.proofs.Refusing.{dealt-holders}
+use Rattle.tally.proofs.Answers.{own-empty, size-room, size-results, held-number}
+use Rattle.tally.proofs.Answers.{add-malformed, add-number, add-refused, add-joinable, add-accepted}
 use Rattle.tally.proofs.calls.add.Statement.{statement}
 use Rattle.tally.proofs.calls.add.Tie as tie
 
@@ -18,32 +21,54 @@ use Rattle.tally.proofs.calls.add.Tie as tie
 whole : (st : tie.Start) → toZ w16 (ofZ w16 (st .args .score)) ≡ st .args .score
 whole st = toZ-ofZ (st .fits .score)
 
+-- the result that is given
+abbrev result : tie.Start → Result
+result st = record { score = st .args .score; deal = st .args .holders .now }
+
 -- past the check the tally is well formed, and its size is known
+abbrev start : tie.Else1 → tie.Start
+start c = c .before .before .before .before
+
 is-good : (c : tie.Else1) → c .before .before .check .result .good ≡ true
 is-good c = not-false _ (c .if1 .left)
 
-is-well : (c : tie.Else1) → wellFormed (c .before .before .before .args .t) ≡ true
+is-well : (c : tie.Else1) → wellFormed (start c .args .t) ≡ true
 is-well c = sym (c .before .before .check .ensures .good) ∙ is-good c
 
-size-is : (c : tie.Else1) → c .before .before .check .result .size ≡ sizeOf (c .before .before .before .args .t)
+size-is : (c : tie.Else1) → c .before .before .check .result .size ≡ sizeOf (start c .args .t)
 size-is c = c .before .before .check .ensures .size (is-good c)
 
-number : (c : tie.After-first) →
-    let a = c .before .before .before .before .before .before .before .args in
-    c .first .result ≡ addRefusal (scoresIn (a .t)) (a .score)
-number c =
-    let full = c .before in
-    let invalid = full .before in
-    let well = invalid .before .before in
-    let st = well .before .before .before in
-    add-number (st .args .t) (st .args .score) (is-well well) _ _ _ _ (size-is well) (rw (whole st) at (invalid .score-refusal .ensures))
-    (full .room-refusal .ensures)
-    (c .first .ensures)
+-- the refusal of the result, and that of the call
+abbrev else1 : tie.After-given-refusal → tie.Else1
+else1 g = g .before .before .before .before
 
-one-is : (c : tie.After-single) →
-    let a = c .before .before .before .before .before .before .before .before .before .before .args in
-    c .single .result ≡ tallyOf (c .before .empty .result .board) (a .score ∷ [])
-one-is c = rw (whole (c .before .before .before .before .before .before .before .before .before .before)) at (c .single .ensures)
+given-is : (g : tie.After-given-refusal) → let st = start (else1 g) in g .given-refusal .result ≡ held (givenRefusal (resultsIn (st .args .t)) (result st))
+given-is g =
+    let e = else1 g in
+    let st = start e in
+    rw (whole st) at (g .given-refusal .ensures (st .args .holders .now) (scoresIn (st .args .t)) (g .before .take .ensures) (size-results _ _ (size-is e)))
+
+abbrev given : tie.After-first → tie.After-given-refusal
+given f = f .before .before
+
+number : (f : tie.After-first) → let st = start (else1 (given f)) in f .first .result ≡ held (addRefusal (resultsIn (st .args .t)) (result st))
+number f =
+    let e = else1 (given f) in
+    add-number _ _ (is-well e) _ (size-is e) _ _ _ (given-is (given f)) (f .before .room-refusal .ensures) (f .first .ensures)
+
+-- past the second test there is none
+abbrev first : tie.Else2 → tie.After-first
+first c = c .before .before
+
+none : (c : tie.Else2) → let st = start (else1 (given (first c))) in addRefusal (resultsIn (st .args .t)) (result st) .number ≡ 0
+none c = sym (held-number _ _ (number (first c))) ∙ c .if2 .left
+
+abbrev else2 : tie.After-single → tie.Else2
+else2 s = s .before .before .before
+
+one-is : (s : tie.After-single) → let n = s .before .empty .result in
+    s .single .result ≡ tallyFor (n .board) (n .deal) (start (else1 (given (first (else2 s)))) .args .score ∷ [])
+one-is s = rw (whole (start (else1 (given (first (else2 s)))))) at (s .single .ensures)
 
 check-requires : tie.Need-check-requires
 check-requires c κs = search needs
@@ -54,14 +79,16 @@ refuse-requires c κs = search needs
 returns : tie.Need-returns
 returns c =
     let checked = c .before .before .before in
-    let a = checked .before .args in
-    c .refuse .ensures ∙ add-malformed (a .t) (a .score) (sym (checked .check .ensures .good) ∙ not-true _ (c .before .if1 .taken))
+    c .refuse .ensures ∙ add-malformed _ _ (sym (checked .check .ensures .good) ∙ not-true _ (c .before .if1 .taken))
 
-score-refusal-requires : tie.Need-score-refusal-requires
-score-refusal-requires c κs = search needs
+take-requires : tie.Need-take-requires
+take-requires c κs = search needs
+
+given-refusal-requires : tie.Need-given-refusal-requires
+given-refusal-requires c κs = search needs
 
 room-refusal-requires : tie.Need-room-refusal-requires
-room-refusal-requires c κs = let well = c .before .before in size-room _ _ (is-well well) (size-is well)
+room-refusal-requires c κs = let e = else1 c in size-room _ _ (is-well e) (size-is e)
 
 first-requires : tie.Need-first-requires
 first-requires c κs = search needs
@@ -71,30 +98,35 @@ refuse-requires-2 c κs = search needs
 
 returns-2 : tie.Need-returns-2
 returns-2 c =
-    let first = c .before .before in
-    let well = first .before .before .before .before in
-    let a = well .before .before .before .args in
-    c .refuse2 .ensures ∙ add-refused (a .t) (a .score) (is-well well) (first .first .result) (number first) (c .before .if2 .taken)
+    let f = c .before .before .before in
+    let e = else1 (given f) in
+    c .refuse2 .ensures ∙ add-refused _ _ (is-well e) _ (size-is e) _ (number f) (c .before .if2 .taken)
 
 empty-requires : tie.Need-empty-requires
 empty-requires c κs = search needs
 
 single-requires : tie.Need-single-requires
-single-requires c κs = own-empty _ _ (c .empty .ensures)
+single-requires c κs = own-empty _ _ _ (c .empty .ensures)
 
 joined-requires : tie.Need-joined-requires
 joined-requires c κs =
-    let first = c .before .before .before in
-    let well = first .before .before .before .before in
-    add-joinable _ _ (is-well well) _ (size-is well) _ _ (c .before .empty .ensures) (one-is c) (sym (number first) ∙ c .before .before .if2 .left)
+    let d = else2 c in
+    let e = else1 (given (first d)) in
+    add-joinable _ _ (is-well e) _ (size-is e) _ _ _ (c .before .empty .ensures) (one-is c) (none d)
+
+accept-requires : tie.Need-accept-requires
+accept-requires c κs = search needs
 
 returns-3 : tie.Need-returns-3
 returns-3 c =
-    let single = c .before in
-    let first = single .before .before .before in
-    let well = first .before .before .before .before in
-    add-accepted _ _ (is-well well) _ (size-is well) _ _ (single .before .empty .ensures) (one-is single)
-    (sym (number first) ∙ single .before .before .if2 .left) _ (c .joined .ensures)
+    let j = c .before in
+    let s = j .before in
+    let d = else2 s in
+    let g = given (first d) in
+    let e = else1 g in
+    let fine = given-allowed _ _ (add-allowed _ _ (none d) .0) .1 in
+    c .accept .ensures ∙ add-accepted _ _ (is-well e) _ (size-is e) _ _ _ (s .before .empty .ensures) (one-is s) (none d)
+    (dealt-holders _ _ (g .before .take .ensures) fine) _ (j .joined .ensures)
 
 pub add-spec : {M : Type 1} → statement M
 add-spec =
@@ -103,7 +135,8 @@ add-spec =
     check-requires
     refuse-requires
     returns
-    score-refusal-requires
+    take-requires
+    given-refusal-requires
     room-refusal-requires
     first-requires
     refuse-requires-2
@@ -111,4 +144,5 @@ add-spec =
     empty-requires
     single-requires
     joined-requires
+    accept-requires
     returns-3)

@@ -4,9 +4,9 @@ use mathlib.Core.Bool.{true}
 use borrow.Author.Needs.{needs}
 use borrow.Author.Tests.{not-true, not-false}
 use Rattle.laws.specs.Tally.{mergeRefusal}
-use Rattle.tally.specs.Tallies.{scoresIn, wellFormed}
-use Rattle.tally.specs.Steps.{sizeOf}
-use Rattle.tally.proofs.Answers.{size-room, first-malformed, second-malformed, merge-number, merge-refused, merge-joinable, merge-accepted}
+use Rattle.tally.specs.Tallies.{resultsIn, wellFormed}
+use Rattle.tally.specs.Steps.{sizeOf, held}
+use Rattle.tally.proofs.Answers.{size-room, held-number, first-malformed, second-malformed, merge-number, merge-refused, merge-joinable, merge-accepted}
 use Rattle.tally.proofs.calls.merge.Statement.{statement}
 use Rattle.tally.proofs.calls.merge.Tie as tie
 
@@ -29,16 +29,29 @@ second-well c = sym (c .before .before .check2 .ensures .good) ∙ second-good c
 second-size : (c : tie.Else2) → c .before .before .check2 .result .size ≡ sizeOf (c .before .before .before .before .before .before .args .b)
 second-size c = c .before .before .check2 .ensures .size (second-good c)
 
-number : (c : tie.After-first) →
-    let s = c .before .before .before .before .before .before .before .before .before .before .before .args in
-    c .first .result ≡ mergeRefusal (s .a .board) (scoresIn (s .a)) (s .b .board) (scoresIn (s .b))
+-- the tests behind a refusal, and behind them the two checks
+abbrev first : tie.Else2 → tie.Else1
+first c = c .before .before .before
+
+abbrev second : tie.After-fouled-refusal → tie.Else2
+second c = c .before .before .before .before .before .before
+
+abbrev fouled : tie.After-first2 → tie.After-fouled-refusal
+fouled c = c .before .before .before
+
+number : (c : tie.After-first2) → let s = first (second (fouled c)) .before .before .before .args in
+    c .first2 .result ≡ held (mergeRefusal (s .a .board) (resultsIn (s .a)) (s .b .board) (resultsIn (s .b)))
 number c =
-    let full = c .before in
-    let boards = full .before in
-    let second = boards .before .before .before in
-    let first = second .before .before .before in
-    merge-number _ _ (first-well first) (second-well second) _ _ _ _ _ (first-size first) (second-size second) (boards .boards-refusal .ensures)
-    (full .room-refusal .ensures) (c .first .ensures)
+    let f = fouled c in
+    let w = second f in
+    let v = first w in
+    merge-number _ _ (first-well v) (second-well w) _ _ (first-size v) (second-size w) _ _ _ _ _ (f .before .boards-refusal .ensures)
+    (f .fouled-refusal .ensures) (c .before .before .room-refusal .ensures) (c .before .first .ensures) (c .first2 .ensures)
+
+-- past the third test there is none
+none : (c : tie.Else3) → let s = first (second (fouled (c .before .before))) .before .before .before .args in
+    mergeRefusal (s .a .board) (resultsIn (s .a)) (s .b .board) (resultsIn (s .b)) .number ≡ 0
+none c = sym (held-number _ _ (number (c .before .before))) ∙ c .if3 .left
 
 check-requires : tie.Need-check-requires
 check-requires c κs = search needs
@@ -65,42 +78,53 @@ returns-2 c =
 boards-refusal-requires : tie.Need-boards-refusal-requires
 boards-refusal-requires c κs = search needs
 
+fouled-refusal-requires : tie.Need-fouled-refusal-requires
+fouled-refusal-requires c κs = search needs
+
 room-refusal-requires : tie.Need-room-refusal-requires
-room-refusal-requires c κs =
-    let first = c .before .before .before .before .before .before in
-    size-room _ _ (first-well first) (first-size first)
+room-refusal-requires c κs = let v = first (second c) in size-room _ _ (first-well v) (first-size v)
 
 first-requires : tie.Need-first-requires
 first-requires c κs = search needs
+
+first-requires-2 : tie.Need-first-requires-2
+first-requires-2 c κs = search needs
 
 refuse-requires-3 : tie.Need-refuse-requires-3
 refuse-requires-3 c κs = search needs
 
 returns-3 : tie.Need-returns-3
 returns-3 c =
-    let refused = c .before .before in
-    let second = refused .before .before .before .before .before in
-    c .refuse3 .ensures ∙ merge-refused _ _ (first-well (second .before .before .before)) (second-well second) _ (number refused) (c .before .if3 .taken)
+    let f = c .before .before .before in
+    let w = second (fouled f) in
+    c .refuse3 .ensures ∙ merge-refused _ _ (first-well (first w)) (second-well w) _ (number f) (c .before .if3 .taken)
+
+kept-deal-requires : tie.Need-kept-deal-requires
+kept-deal-requires c κs = search needs
 
 empty-requires : tie.Need-empty-requires
 empty-requires c κs = search needs
 
 joined-requires : tie.Need-joined-requires
 joined-requires c κs =
-    let none = c .before .before in
-    let second = none .before .before .before .before .before in
-    let first = second .before .before .before in
-    merge-joinable _ _ (first-well first) (second-well second) _ _ (first-size first) (second-size second) _ (c .empty .ensures)
-    (sym (number none) ∙ c .before .if3 .left)
+    let e = c .before .before in
+    let w = second (fouled (e .before .before)) in
+    let v = first w in
+    merge-joinable _ _ (first-well v) (second-well w) _ _ (first-size v) (second-size w) _ _ (c .empty .ensures) (none e)
+
+accept-requires : tie.Need-accept-requires
+accept-requires c κs = search needs
 
 returns-4 : tie.Need-returns-4
 returns-4 c =
-    let empty = c .before in
-    let none = empty .before .before in
-    let second = none .before .before .before .before .before in
-    let first = second .before .before .before in
-    merge-accepted _ _ (first-well first) (second-well second) _ _ (first-size first) (second-size second) _ (empty .empty .ensures)
-    (sym (number none) ∙ empty .before .if3 .left) _ (c .joined .ensures)
+    let j = c .before in
+    let m = j .before in
+    let k = m .before in
+    let e = k .before in
+    let w = second (fouled (e .before .before)) in
+    let v = first w in
+    c .accept .ensures ∙ merge-accepted _ _ (first-well v) (second-well w) _ _ (first-size v) (second-size w) _ _ (m .empty .ensures) (none e)
+    (k .kept-deal .ensures) _ (j .joined .ensures)
 
 pub merge-spec : {M : Type 1} → statement M
 merge-spec =
@@ -113,10 +137,14 @@ merge-spec =
     refuse-requires-2
     returns-2
     boards-refusal-requires
+    fouled-refusal-requires
     room-refusal-requires
     first-requires
+    first-requires-2
     refuse-requires-3
     returns-3
+    kept-deal-requires
     empty-requires
     joined-requires
+    accept-requires
     returns-4)

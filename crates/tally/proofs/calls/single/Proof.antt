@@ -8,7 +8,7 @@ use Rattle.laws.specs.Padded.{padded}
 use mir.Facts.{toZ-ofZ}
 use Rattle.tally.specs.declared.Tally.{Tally}
 use Rattle.tally.specs.Entries.{entriesOf, enter}
-use Rattle.tally.specs.Tallies.{tallyWith, tallyOf}
+use Rattle.tally.specs.Tallies.{tallyWith, tallyFor}
 use Rattle.tally.proofs.calls.single.Statement.{statement}
 use Rattle.tally.proofs.calls.single.Tie as tie
 
@@ -18,10 +18,11 @@ element-set-from-score c = search needs
 element-write-u : tie.Need-element-write-u
 element-write-u c = search needs
 
-wrote-one : (none : Tally) (s : ℤ) → none ≡ tallyOf (none .board) []
-    → record { board = none .board; scores = set (none .scores) 0 s; counts = set (none .counts) 0 1 } ≡ tallyOf (none .board) (s ∷ [])
-unfolding tallyOf tallyWith entriesOf enter padded
-wrote-one none s e = ap (λ (t : Tally). record { board = none .board; scores = set (t .scores) 0 s; counts = set (t .counts) 0 1 }) e
+wrote-one : (none : Tally) (s : ℤ) → none ≡ tallyFor (none .board) (none .deal) []
+    → record { board = none .board; deal = none .deal; scores = set (none .scores) 0 s; counts = set (none .counts) 0 1 }
+    ≡ tallyFor (none .board) (none .deal) (s ∷ [])
+unfolding tallyFor tallyWith entriesOf enter padded
+wrote-one none s e = ap (λ (t : Tally). record { board = none .board; deal = none .deal; scores = set (t .scores) 0 s; counts = set (t .counts) 0 1 }) e
 
 returns : tie.Need-returns
 returns c = rw (toZ-ofZ (c .fits .score)) (wrote-one (c .args .none) (c .args .score) (c .pre))

@@ -1,0 +1,93 @@
+-- `sheet_text::answers::put_placed` meets its contract. Assumes nothing.
+use native.Mathlib.Omega.{arith}
+use Rattle.sheet_text.proofs.Puts.{then, put-length}
+use Rattle.sheet_text.proofs.Answering.{placed-length}
+use borrow.Author.Needs.{needs}
+use Rattle.sheet_text.proofs.answers.put_placed.Statement.{statement}
+use Rattle.sheet_text.proofs.answers.put_placed.Tie as tie
+
+slice-aggregate-put-bytes : tie.Need-slice-aggregate-put-bytes
+slice-aggregate-put-bytes c = search needs
+
+put-bytes-requires : tie.Need-put-bytes-requires
+put-bytes-requires c κs = search needs
+
+put-decimal-requires : tie.Need-put-decimal-requires
+put-decimal-requires c κs =
+    let w = c .before .before .before in
+    let st = w .before .before .before .before in
+    let p = w .put-bytes .ensures in
+    omega (arith, placed-length (st .args .n) (st .args .place), p .place, put-length p, st .pre)
+
+slice-aggregate-put-bytes-2 : tie.Need-slice-aggregate-put-bytes-2
+slice-aggregate-put-bytes-2 c = search needs
+
+put-bytes-requires-2 : tie.Need-put-bytes-requires-2
+put-bytes-requires-2 c κs =
+    let x = c .before .before .before .before in
+    let w = x .before .before .before .before in
+    let st = w .before .before .before .before in
+    let p = then (w .put-bytes .ensures) (x .put-decimal .ensures) in
+    omega (arith, placed-length (st .args .n) (st .args .place), w .put-bytes .ensures .place, x .put-decimal .ensures .place, put-length p, st .pre)
+
+put-decimal-requires-2 : tie.Need-put-decimal-requires-2
+put-decimal-requires-2 c κs =
+    let y = c .before .before .before in
+    let x = y .before .before .before .before .before in
+    let w = x .before .before .before .before in
+    let st = w .before .before .before .before in
+    let p = then (then (w .put-bytes .ensures) (x .put-decimal .ensures)) (y .put-bytes2 .ensures) in
+    omega (
+      arith,
+      placed-length (st .args .n) (st .args .place),
+      w .put-bytes .ensures .place,
+      x .put-decimal .ensures .place,
+      y .put-bytes2 .ensures .place,
+      put-length p,
+      st .pre,
+    )
+
+put-byte-requires : tie.Need-put-byte-requires
+put-byte-requires c κs =
+    let z = c .before .before .before in
+    let y = z .before .before .before .before in
+    let x = y .before .before .before .before .before in
+    let w = x .before .before .before .before in
+    let st = w .before .before .before .before in
+    let p = then (then (then (w .put-bytes .ensures) (x .put-decimal .ensures)) (y .put-bytes2 .ensures)) (z .put-decimal2 .ensures) in
+    omega (
+      arith,
+      placed-length (st .args .n) (st .args .place),
+      w .put-bytes .ensures .place,
+      x .put-decimal .ensures .place,
+      y .put-bytes2 .ensures .place,
+      z .put-decimal2 .ensures .place,
+      put-length p,
+      st .pre,
+    )
+
+same-length : tie.Need-same-length
+same-length c = search needs
+
+returns : tie.Need-returns
+returns c =
+    let e = c .before .before in
+    let z = e .before .before .before .before in
+    let y = z .before .before .before .before in
+    let x = y .before .before .before .before .before in
+    let w = x .before .before .before .before in
+    then (then (then (then (w .put-bytes .ensures) (x .put-decimal .ensures)) (y .put-bytes2 .ensures)) (z .put-decimal2 .ensures)) (e .put-byte .ensures)
+
+pub put-placed-spec : {M : Type 1} → statement M
+put-placed-spec =
+    tie.close
+    (tie.spec
+    slice-aggregate-put-bytes
+    put-bytes-requires
+    put-decimal-requires
+    slice-aggregate-put-bytes-2
+    put-bytes-requires-2
+    put-decimal-requires-2
+    put-byte-requires
+    same-length
+    returns)

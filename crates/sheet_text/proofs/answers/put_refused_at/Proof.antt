@@ -1,0 +1,39 @@
+-- `sheet_text::answers::put_refused_at` meets its contract, by its test. Assumes nothing.
+use borrow.Author.Needs.{needs}
+use borrow.Author.Tests.{eq-eqb, ne-eqb}
+use Rattle.sheet_text.specs.Answers.{refusedAtText}
+use Rattle.sheet_text.proofs.answers.put_refused_at.Statement.{statement}
+use Rattle.sheet_text.proofs.answers.put_refused_at.Tie as tie
+
+put-refused-requires : tie.Need-put-refused-requires
+unfolding refusedAtText
+put-refused-requires c κs =
+    let t = c .before in
+    rw (eq-eqb _ _ (t .if1 .taken)) at (t .before .before .pre)
+
+same-length : tie.Need-same-length
+same-length c = search needs
+
+returns : tie.Need-returns
+unfolding refusedAtText
+returns c =
+    let r = c .before .before in
+    rw (eq-eqb _ _ (r .before .before .if1 .taken)) (r .put-refused .ensures)
+
+put-placed-requires : tie.Need-put-placed-requires
+unfolding refusedAtText
+put-placed-requires c κs =
+    let e = c .before in
+    rw (ne-eqb _ _ (e .if1 .left)) at (e .before .before .pre)
+
+same-length-2 : tie.Need-same-length-2
+same-length-2 c = search needs
+
+returns-2 : tie.Need-returns-2
+unfolding refusedAtText
+returns-2 c =
+    let r = c .before .before in
+    rw (ne-eqb _ _ (r .before .before .if1 .left)) (r .put-placed .ensures)
+
+pub put-refused-at-spec : {M : Type 1} → statement M
+put-refused-at-spec = tie.close (tie.spec put-refused-requires same-length returns put-placed-requires same-length-2 returns-2)
