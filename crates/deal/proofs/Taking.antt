@@ -5,7 +5,7 @@ use native.Mathlib.Omega.{arith}
 use mathlib.Core.Path.{_≡_, refl, sym, ap, _∙_}
 use mathlib.Core.Bool.{Bool, true, false}
 use mathlib.Core.List.{List, []}
-use borrow.Author.Tests.{eq-eqb, ne-eqb, lt-ltb, le-ltb}
+use borrow.Author.Tests.{eq-eqb, ne-eqb, lt-ltb, le-ltb, eqb-true}
 use lib.Dec.{ltb, eqb}
 use lib.ListN.{length, getD, take, drop, drop-of-length-le}
 use lib.Seq.{drop-cons, take-length}
@@ -13,6 +13,7 @@ use Rattle.laws.specs.Choice.{some}
 use Rattle.laws.specs.Cards.{noSeat, seatWithoutThirteen}
 use Rattle.laws.specs.Reading.{refuse}
 use Rattle.laws.specs.Contents.{areSeats, takeDeal}
+use Rattle.laws.proofs.Tests.{and-left}
 use Rattle.deal.specs.Hands.{wordsOf, notThirteenFrom}
 use Rattle.deal.specs.Taking.{uneven, takenBy}
 use Rattle.deal.proofs.Thirteen.{by-hands}
@@ -49,6 +50,10 @@ module _ (l : List ℕ) where
       let most : length l ≤ 52 = omega (arith, n) in
       let none : over l ≡ false = sym (rw (drop-of-length-le l most) at e) in
       rw (eq-eqb (length l) 52 n, none)
+
+  pub seats-52 : areSeats l ≡ true → length l ≡ 52
+  unfolding areSeats
+  seats-52 e = eqb-true (length l) 52 (and-left (eqb (length l) 52) _ e)
 
   -- ---- the deal
   pub deal-no-seats : areSeats l ≡ false → uneven noSeat ≡ takenBy l (takeDeal l [] 0)

@@ -85,10 +85,13 @@ fn refuse(place: u8) -> Dealt
     }
 }
 
-// Whether each holder is a seat.
-fn are_seats(holders: [u8; 52]) -> bool
-    ensures { λ r. ⌜ r ≡ areSeats holders ⌝ }
+// Whether there are 52 holders, and each is a seat.
+fn are_seats(holders: &[u8]) -> bool
+    ensures { λ r. ⌜ r ≡ areSeats (now (holders .entry)) ⌝ }
 {
+    if holders.len() != 52 {
+        return false;
+    }
     let mut i: usize = 0;
     while i < 52 {
         if 3 < holders[i] {
@@ -97,26 +100,6 @@ fn are_seats(holders: [u8; 52]) -> bool
         i += 1;
     }
     true
-}
-
-// A deal of 52 holders.
-pub fn take_places(holders: [u8; 52]) -> Dealt
-    ensures { λ r. ⌜ r ≡ takenBy holders (takeDeal holders [] 0) ⌝ }
-{
-    if !are_seats(holders) {
-        return refuse(4);
-    }
-    let words = hands(holders);
-    let seat = seat_without_thirteen(words);
-    if seat != 4 {
-        return refuse(seat);
-    }
-    Dealt {
-        refusal: ACCEPTED,
-        place: 0,
-        holders: holders,
-        hands: words,
-    }
 }
 
 // The holders as an array.
@@ -137,9 +120,26 @@ fn places(holders: &[u8]) -> [u8; 52]
 pub fn take(holders: &[u8]) -> Dealt
     ensures { λ r. ⌜ r ≡ takenBy (now (holders .entry)) (takeDeal (now (holders .entry)) [] 0) ⌝ }
 {
-    if holders.len() != 52 {
+    if !are_seats(holders) {
         return refuse(4);
     }
     let row = places(holders);
-    take_places(row)
+    let words = hands(row);
+    let seat = seat_without_thirteen(words);
+    if seat != 4 {
+        return refuse(seat);
+    }
+    Dealt {
+        refusal: ACCEPTED,
+        place: 0,
+        holders: row,
+        hands: words,
+    }
+}
+
+// A deal of 52 holders.
+pub fn take_places(holders: [u8; 52]) -> Dealt
+    ensures { λ r. ⌜ r ≡ takenBy holders (takeDeal holders [] 0) ⌝ }
+{
+    take(&holders[..])
 }
