@@ -8,9 +8,9 @@ use borrow.Author.Tests.{eqb-true, eqb-false, le-ltb, ltb-false}
 use lib.Dec.{eqb, ltb}
 use lib.ListN.{length}
 use Rattle.laws.specs.Choice.{if_then_else_, some, howMany}
-use Rattle.laws.specs.Events.{Event, played, exposed, choice, forbid, cardsOf}
+use Rattle.laws.specs.Events.{Event, played, exposed, choice, forbid, exposureCode, choiceCode, beginsCode, cardsOf}
 use Rattle.laws.specs.CodeRefusal.{eventRefusal}
-use Rattle.laws.specs.FlatPlay.{exposureCode, choiceCode, beginsCode, Item, event, codeItem, lastItem, itemsOf, isCard, cardsIn, isBroken}
+use Rattle.laws.specs.FlatPlay.{Item, event, codeItem, lastItem, itemsOf, isCard, cardsIn, isBroken}
 use Rattle.laws.specs.FlatPlay.{eventsAmong, isMisplaced, itemRefusal, flatOf}
 use Rattle.laws.proofs.Tests.{by-test, not-both, or-left, or-right}
 

@@ -13,9 +13,9 @@ use Rattle.laws.specs.CardRefusal.{cardRefusal}
 use Rattle.laws.specs.Law50.{isExposable}
 use Rattle.laws.specs.Law51.{isOpen}
 use Rattle.laws.specs.CodeRefusal.{exposureRefusal, choiceRefusal}
-use Rattle.laws.specs.Events.{Event, played, exposed, choice, cardsOf, codesOf}
+use Rattle.laws.specs.Events.{Event, played, exposed, choice, beginsCode, cardsOf, codesOf}
 use Rattle.laws.specs.Reading.{numberAt, Reading, Reading.found, read}
-use Rattle.laws.specs.Plays.{isCode, eventFields, playFields, playPlace, readExposed, readChoice, readCode, readPlays}
+use Rattle.laws.specs.Plays.{eventFields, playFields, playPlace, readExposed, readChoice, readCode, readPlays}
 use Rattle.laws.specs.Plays.{MayStand, EachStands, cardsAmong, CardsFollow}
 use Rattle.laws.proofs.Tests.{by-test}
 use Rattle.laws.proofs.Bits.{number-lt}
@@ -41,7 +41,7 @@ next-of zero h = absurd (omega arith)
 next-of (suc m) h = (m, refl)
 
 -- a card is no code
-card-no-code : (c : ℕ) → c < 52 → isCode c ≡ false
+card-no-code : (c : ℕ) → c < 52 → beginsCode c ≡ false
 card-no-code c l = rw (ne-eqb c 52 (λ e. omega arith), ne-eqb c 53 (λ e. omega arith))
 
 module _ (trump opening : ℕ) (deal : List ℕ) where
@@ -165,7 +165,7 @@ module _ (trump opening : ℕ) (deal : List ℕ) (all : length deal ≡ 52) wher
       (b .0, sym is, sym stop, is-open trump opening deal e kind suit (eqb-true n accepted (not-false _ (t .0))))
 
   -- a code that is not an exposure's is a choice's
-  other-code : (code : ℕ) → isCode code ≡ true → eqb code 52 ≡ false → code ≡ 53
+  other-code : (code : ℕ) → beginsCode code ≡ true → eqb code 52 ≡ false → code ≡ 53
   other-code code i x = eqb-true code 53 (rw x at i)
 
   exposure-follows : (code : ℕ) (e : List Event) (bytes : List ℕ) (at : ℕ) {r : Reading (List Event)} → eqb code 52 ≡ true
@@ -191,14 +191,14 @@ module _ (trump opening : ℕ) (deal : List ℕ) (all : length deal ≡ 52) wher
   plays-read (suc n) zero e bytes at {g} {end} k q =
       let code : ℕ = numberAt bytes at 6 in
       let a = first-read 6 bytes at _ q in
-      let f = first-test tooManyCodes (playPlace e) (isCode code) bytes (at + 6) _ (a .1) in
+      let f = first-test tooManyCodes (playPlace e) (beginsCode code) bytes (at + 6) _ (a .1) in
       let t = first-test (ruled e code) (playPlace e) (not (eqb (ruled e code) accepted)) bytes (at + 6) _ (f .1) in
       with-card trump opening deal n zero e g bytes at end (may-card e code (t .0)) (plays-read n zero (played code ∷ e) bytes (at + 6) (a .0) (t .1))
   plays-read (suc n) (suc left) e bytes at {g} {end} k q =
       let code : ℕ = numberAt bytes at 6 in
       let a = first-read 6 bytes at _ q in
-      by-test (isCode code)
-      (λ (i : isCode code ≡ true).
+      by-test (beginsCode code)
+      (λ (i : beginsCode code ≡ true).
       let b = first-of (readCode trump opening deal code e bytes (at + 6)) _ (rw i at (a .1)) in
       by-test (eqb code 52)
       (λ (x : eqb code 52 ≡ true).
@@ -209,7 +209,7 @@ module _ (trump opening : ℕ) (deal : List ℕ) (all : length deal ≡ 52) wher
       let r = choice-read e bytes (at + 6) (choice-follows code e bytes (at + 6) x (b .2)) in
       with-choice trump opening deal n left e g bytes at end (numberAt bytes (at + 6) 2) (numberAt bytes (at + 6 + 2) 2) (other-code code i x) refl refl (r .3)
       (plays-read (suc n) left _ bytes (at + 6 + 2 + 2) (r .0) (go-on (suc n) left bytes (r .1) (r .2) (b .3)))))
-      (λ (i : isCode code ≡ false).
+      (λ (i : beginsCode code ≡ false).
       let t = first-test (ruled e code) (playPlace e) (not (eqb (ruled e code) accepted)) bytes (at + 6) _ (rw i at (a .1)) in
       with-card trump opening deal n (suc left) e g bytes at end (may-card e code (t .0))
       (plays-read n (suc left) (played code ∷ e) bytes (at + 6) (a .0) (t .1)))
@@ -242,7 +242,7 @@ module _ (trump opening : ℕ) (deal : List ℕ) (all : length deal ≡ 52) wher
       simp (r, s, test-is n (playPlace e) bytes (at + 2 + 2) passes)
 
   -- a code and what follows it, before a card
-  code-goes : (n left code : ℕ) (e after : List Event) (bytes : List ℕ) (at next : ℕ) → 1 ≤ n → isCode code ≡ true → read 6 bytes at ≡ found code (at + 6)
+  code-goes : (n left code : ℕ) (e after : List Event) (bytes : List ℕ) (at next : ℕ) → 1 ≤ n → beginsCode code ≡ true → read 6 bytes at ≡ found code (at + 6)
       → readCode trump opening deal code e bytes (at + 6) ≡ found after next
       → readPlays trump opening deal n (suc left) e bytes at ≡ readPlays trump opening deal n left after bytes next
   unfolding readPlays

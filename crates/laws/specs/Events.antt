@@ -2,8 +2,9 @@
 -- in `v ∷ e`, v came after the events of e. What Laws 44 and 61 say of the play is asked of the cards of a history, `cardsOf e`.
 -- Assumes nothing.
 use Prim.Native.Nat.{ℕ, suc}
-use mathlib.Core.Bool.{Bool}
+use mathlib.Core.Bool.{Bool, _||_}
 use mathlib.Core.List.{List, [], _∷_, _++_}
+use lib.Dec.{eqb}
 use Rattle.laws.specs.Choice.{if_then_else_}
 
 -- declarer's choice before a lead: a suit is required, or a suit is forbidden
@@ -18,6 +19,17 @@ pub data Event : Type 0 where
   played : ℕ → Event
   exposed : ℕ → Bool → Event
   choice : ℕ → ℕ → Event
+
+-- what stands in a card's place before an exposed card, and before a choice
+abbrev pub exposureCode : ℕ
+exposureCode = 52
+
+abbrev pub choiceCode : ℕ
+choiceCode = 53
+
+-- the number begins a code
+abbrev pub beginsCode : ℕ → Bool
+beginsCode n = eqb n exposureCode || eqb n choiceCode
 
 -- the cards played, latest first
 unfoldable pub cardsOf : List Event → List ℕ

@@ -2,24 +2,13 @@
 -- choice is 53, its kind and its suit.
 -- Assumes nothing.
 use Prim.Native.Nat.{ℕ}
-use mathlib.Core.Bool.{Bool, true, false, not, _||_}
+use mathlib.Core.Bool.{Bool, true, false, not}
 use mathlib.Core.List.{List, [], _∷_}
 use lib.Dec.{eqb, ltb}
 use Rattle.laws.specs.Choice.{if_then_else_, some, howMany}
 use Rattle.laws.specs.Refusals.{tooManyCodes, choiceNotOpen}
-use Rattle.laws.specs.Events.{Event, played, exposed, choice}
+use Rattle.laws.specs.Events.{Event, played, exposed, choice, exposureCode, choiceCode, beginsCode}
 use Rattle.laws.specs.CodeRefusal.{codesFull, eventRefusal}
-
--- the numbers that begin an exposure and a choice
-abbrev pub exposureCode : ℕ
-exposureCode = 52
-
-abbrev pub choiceCode : ℕ
-choiceCode = 53
-
--- a number begins a code
-abbrev pub beginsCode : ℕ → Bool
-beginsCode x = eqb x exposureCode || eqb x choiceCode
 
 -- what stands in the list: an event, or a code that is none, since it is cut short or its bit or its kind is over 1
 pub data Item : Type 0 where

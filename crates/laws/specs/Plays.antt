@@ -4,7 +4,7 @@
 -- Assumes nothing.
 use Prim.Native.Nat.{ℕ, zero, suc, _≤_}
 use mathlib.Core.Path.{_≡_}
-use mathlib.Core.Bool.{Bool, true, not, _||_}
+use mathlib.Core.Bool.{Bool, true, not}
 use mathlib.Core.List.{List, [], _∷_, _++_}
 use lib.Dec.{eqb}
 use lib.ListN.{length}
@@ -14,21 +14,10 @@ use Rattle.laws.specs.Law44.{cardsPlayed, playable}
 use Rattle.laws.specs.CardRefusal.{cardRefusal}
 use Rattle.laws.specs.Record.{Field, field}
 use Rattle.laws.specs.Reading.{Reader, _>>=_, _>>_, give, read, refuse}
-use Rattle.laws.specs.Events.{Event, played, exposed, choice, cardsOf}
+use Rattle.laws.specs.Events.{Event, played, exposed, choice, exposureCode, choiceCode, beginsCode, cardsOf}
 use Rattle.laws.specs.Law50.{isExposable}
 use Rattle.laws.specs.Law51.{isOpen}
 use Rattle.laws.specs.CodeRefusal.{exposureRefusal, choiceRefusal}
-
--- what stands in a card's place before an exposed card, and before a choice
-abbrev pub exposureCode : ℕ
-exposureCode = 52
-
-abbrev pub choiceCode : ℕ
-choiceCode = 53
-
--- a code stands in the card's place
-abbrev pub isCode : ℕ → Bool
-isCode n = eqb n exposureCode || eqb n choiceCode
 
 -- the fields of an event: a card; a code, the exposed card, and 1 for deliberately; a code, the kind of the choice, and its suit
 unfoldable pub eventFields : Event → List Field
@@ -75,12 +64,12 @@ module _ (trump opening : ℕ) (deal : List ℕ) where
   readPlays zero left e = give e
   readPlays (suc n) zero e = do
     code ← read 6
-    refuse tooManyCodes (playPlace e) (isCode code)
+    refuse tooManyCodes (playPlace e) (beginsCode code)
     refuseBy (cardRefusal trump opening deal (cardsOf e) code) e
     readPlays n zero (played code ∷ e)
   readPlays (suc n) (suc left) e = do
     code ← read 6
-    if isCode code then (readCode code e >>= readPlays (suc n) left)
+    if beginsCode code then (readCode code e >>= readPlays (suc n) left)
         else (refuseBy (cardRefusal trump opening deal (cardsOf e) code) e >> readPlays n (suc left) (played code ∷ e))
 
 -- ---- lawful plays

@@ -21,7 +21,8 @@ use Rattle.laws.proofs.Lengths.{at-most-296, at-most-440}
 use Rattle.promises.specs.Lengths.{ranksInTurn, longestParts, oneClubAgain, markedParts, Lengths}
 use Rattle.promises.proofs.Demand2Accepts.{accepted-lawful, by-judging}
 
-judged : judgeOf (encode longestParts) leastRooms ≡ accepted longestParts
+-- both records are accepted
+judged : (judgeOf (encode longestParts) leastRooms ≡ accepted longestParts) × (judgeOf (encode markedParts) leastRooms ≡ accepted markedParts)
 unfolding
     Choice.howMany Choice.some Cards.clockwise Cards.cardsDealt Cards.firstWithoutThirteen Law2.dealer
     Auction.strainOf Auction.codesBefore Auction.callsMade Auction.isMarked Auction.toCall Auction.lastBid Auction.lastBidder Auction.beforePasses
@@ -36,26 +37,8 @@ unfolding
     Reading.bitAt Reading.numberAt Reading.read Reading.refuse Reading.readRow Reading.readEach Reading.overfull Reading.ending
     Judge.readHeading Judge.readDeal Judge.readCalls Judge.readCards Judge.readNoClaim Judge.readMarkedClaim Judge.readClaim
     Judge.readRecord Judge.readLent Judge.judgeOf
-    Lengths.bidsInTurn Lengths.longestAuction ranksInTurn longestParts
-judged = refl
-
-marked : judgeOf (encode markedParts) leastRooms ≡ accepted markedParts
-unfolding
-    Choice.howMany Choice.some Cards.clockwise Cards.cardsDealt Cards.firstWithoutThirteen Law2.dealer
-    Auction.strainOf Auction.codesBefore Auction.callsMade Auction.isMarked Auction.toCall Auction.lastBid Auction.lastBidder Auction.beforePasses
-    Auction.bidByOpponents Auction.bidByOwnSide Auction.doubledOwnBid Auction.sufficient Auction.atOrBelow Auction.mayDouble Auction.mayRedouble
-    Auction.passesInARow Auction.hasBid Auction.isOver Auction.passedOut Auction.allowed
-    Auction.bidsStrain Auction.firstToBid Auction.declarer Auction.trumpAfter Auction.openingAfter CallRefusal.callRefusal
-    CallRefusal.placeOf CallRefusal.callPlace
-    Law44.cardsPlayed Law44.allPlayed Law44.tricksComplete Law44.tricksLeft Law44.cardsInTrick Law44.trickUnderWay
-    Law44.suitLed Law44.highest Law44.winningCard Law44.playerOf Law44.winner Law44.leader Law44.toPlay
-    Law44.isPlayed Law44.holds Law44.playable CardRefusal.cardRefusal Law68.atClaimPoint Law68.claimable
-    Record.row Record.claimFields Record.layout Record.bits Record.padding Record.padded Record.number Record.bytesOf Record.packed Record.encode
-    Reading.bitAt Reading.numberAt Reading.read Reading.refuse Reading.readRow Reading.readEach Reading.overfull Reading.ending
-    Judge.readHeading Judge.readDeal Judge.readCalls Judge.readCards Judge.readNoClaim Judge.readMarkedClaim Judge.readClaim
-    Judge.readRecord Judge.readLent Judge.judgeOf
-    ranksInTurn oneClubAgain markedParts
-marked = refl
+    Lengths.bidsInTurn Lengths.longestAuction ranksInTurn longestParts oneClubAgain markedParts
+judged = (refl, refl)
 
 bytes-296 : length (encode longestParts) ≡ 296
 unfolding
@@ -84,12 +67,12 @@ lengths =
       longest-calls = longest-length;
       most-bytes-unmarked = λ bytes small rooms p q n.
           let w = accepted-lawful bytes rooms small p q in rw (w .1) (omega (arith, at-most-296 p (w .0) n));
-      longest-record = judged;
-      longest-lawful = by-judging longestParts judged;
+      longest-record = judged .0;
+      longest-lawful = by-judging longestParts (judged .0);
       longest-bytes = bytes-296;
       most-bytes = λ bytes small rooms p q. let w = accepted-lawful bytes rooms small p q in rw (w .1) (omega (arith, at-most-440 p (w .0)));
-      marked-record = marked;
-      marked-lawful = by-judging markedParts marked;
+      marked-record = judged .1;
+      marked-lawful = by-judging markedParts (judged .1);
       marked-codes = codes-511;
       marked-bytes = bytes-440;
     }

@@ -42,6 +42,25 @@ most-at t = and 0 most-kinds.ps (is 0 most-kinds.ps μ-most t) most.Pre
 abbrev most-below : ℕ → In 0 most-kinds.ps
 most-below t = and 0 most-kinds.ps (falls 0 most-kinds.ps _<_ μ-most t) most.Pre
 
+-- what the calls in `least` ask and give; those of `most` and `least` with fewer cards left
+abbrev least-claims : ℕ → least-lts.Claims
+least-claims t = (
+  may-play-reads.Asked,
+  may-play-reads.Learnt,
+  play-reads.Asked,
+  play-reads.Learnt,
+  gain-reads.Asked,
+  gain-reads.Learnt,
+  is-ours-reads.Asked,
+  is-ours-reads.Learnt,
+  most-below t,
+  most.Post,
+  less-reads.Asked,
+  less-reads.Learnt,
+  least-below t,
+  least.Post,
+)
+
 abbrev least-Inv-loop : least-lts.InvT-loop
 least-Inv-loop p side left best₀ card₀ best card =
     (card ≤ 52) × (best ≡ smallest (mayIn p) (worthIn side (left - 1) p) card) × (best ≤ 13 + left)
@@ -49,238 +68,43 @@ least-Inv-loop p side left best₀ card₀ best card =
 abbrev least-μ-loop : least-lts.MeasureT-loop
 least-μ-loop p side left best₀ card₀ best card = 52 - card
 
-least-returns : (t : ℕ) → least-lts.Need-returns (
-  may-play-reads.Asked,
-  may-play-reads.Learnt,
-  play-reads.Asked,
-  play-reads.Learnt,
-  gain-reads.Asked,
-  gain-reads.Learnt,
-  is-ours-reads.Asked,
-  is-ours-reads.Learnt,
-  most-below t,
-  most.Post,
-  less-reads.Asked,
-  less-reads.Learnt,
-  least-below t,
-  least.Post,
-) (least-at t) least.Post least-Inv-loop least-μ-loop
+least-returns : (t : ℕ) → least-lts.Need-returns (least-claims t) (least-at t) least.Post least-Inv-loop least-μ-loop
 least-returns t c = (least-none _ _ _ (c .if1 .taken), omega arith)
 
-least-loop-holds : (t : ℕ) → least-lts.Need-loop-holds (
-  may-play-reads.Asked,
-  may-play-reads.Learnt,
-  play-reads.Asked,
-  play-reads.Learnt,
-  gain-reads.Asked,
-  gain-reads.Learnt,
-  is-ours-reads.Asked,
-  is-ours-reads.Learnt,
-  most-below t,
-  most.Post,
-  less-reads.Asked,
-  less-reads.Learnt,
-  least-below t,
-  least.Post,
-) (least-at t) least.Post least-Inv-loop least-μ-loop
+least-loop-holds : (t : ℕ) → least-lts.Need-loop-holds (least-claims t) (least-at t) least.Post least-Inv-loop least-μ-loop
 least-loop-holds t c = (omega arith, least-starts _ _, omega arith)
 
-least-add-card : (t : ℕ) → least-lts.Need-add-card (
-  may-play-reads.Asked,
-  may-play-reads.Learnt,
-  play-reads.Asked,
-  play-reads.Learnt,
-  gain-reads.Asked,
-  gain-reads.Learnt,
-  is-ours-reads.Asked,
-  is-ours-reads.Learnt,
-  most-below t,
-  most.Post,
-  less-reads.Asked,
-  less-reads.Learnt,
-  least-below t,
-  least.Post,
-) (least-at t) least.Post least-Inv-loop least-μ-loop
+least-add-card : (t : ℕ) → least-lts.Need-add-card (least-claims t) (least-at t) least.Post least-Inv-loop least-μ-loop
 least-add-card t c = search needs
 
-least-may-play-requires : (t : ℕ) → least-lts.Need-may-play-requires (
-  may-play-reads.Asked,
-  may-play-reads.Learnt,
-  play-reads.Asked,
-  play-reads.Learnt,
-  gain-reads.Asked,
-  gain-reads.Learnt,
-  is-ours-reads.Asked,
-  is-ours-reads.Learnt,
-  most-below t,
-  most.Post,
-  less-reads.Asked,
-  less-reads.Learnt,
-  least-below t,
-  least.Post,
-) (least-at t) least.Post least-Inv-loop least-μ-loop
+least-may-play-requires : (t : ℕ) → least-lts.Need-may-play-requires (least-claims t) (least-at t) least.Post least-Inv-loop least-μ-loop
 least-may-play-requires t c κs = search needs
 
-least-play-requires : (t : ℕ) → least-lts.Need-play-requires (
-  may-play-reads.Asked,
-  may-play-reads.Learnt,
-  play-reads.Asked,
-  play-reads.Learnt,
-  gain-reads.Asked,
-  gain-reads.Learnt,
-  is-ours-reads.Asked,
-  is-ours-reads.Learnt,
-  most-below t,
-  most.Post,
-  less-reads.Asked,
-  less-reads.Learnt,
-  least-below t,
-  least.Post,
-) (least-at t) least.Post least-Inv-loop least-μ-loop
+least-play-requires : (t : ℕ) → least-lts.Need-play-requires (least-claims t) (least-at t) least.Post least-Inv-loop least-μ-loop
 least-play-requires t c κs = search needs
 
-least-gain-requires : (t : ℕ) → least-lts.Need-gain-requires (
-  may-play-reads.Asked,
-  may-play-reads.Learnt,
-  play-reads.Asked,
-  play-reads.Learnt,
-  gain-reads.Asked,
-  gain-reads.Learnt,
-  is-ours-reads.Asked,
-  is-ours-reads.Learnt,
-  most-below t,
-  most.Post,
-  less-reads.Asked,
-  less-reads.Learnt,
-  least-below t,
-  least.Post,
-) (least-at t) least.Post least-Inv-loop least-μ-loop
+least-gain-requires : (t : ℕ) → least-lts.Need-gain-requires (least-claims t) (least-at t) least.Post least-Inv-loop least-μ-loop
 least-gain-requires t c κs = search needs
 
-least-is-ours-requires : (t : ℕ) → least-lts.Need-is-ours-requires (
-  may-play-reads.Asked,
-  may-play-reads.Learnt,
-  play-reads.Asked,
-  play-reads.Learnt,
-  gain-reads.Asked,
-  gain-reads.Learnt,
-  is-ours-reads.Asked,
-  is-ours-reads.Learnt,
-  most-below t,
-  most.Post,
-  less-reads.Asked,
-  less-reads.Learnt,
-  least-below t,
-  least.Post,
-) (least-at t) least.Post least-Inv-loop least-μ-loop
+least-is-ours-requires : (t : ℕ) → least-lts.Need-is-ours-requires (least-claims t) (least-at t) least.Post least-Inv-loop least-μ-loop
 least-is-ours-requires t c κs = search needs
 
-least-sub-most : (t : ℕ) → least-lts.Need-sub-most (
-  may-play-reads.Asked,
-  may-play-reads.Learnt,
-  play-reads.Asked,
-  play-reads.Learnt,
-  gain-reads.Asked,
-  gain-reads.Learnt,
-  is-ours-reads.Asked,
-  is-ours-reads.Learnt,
-  most-below t,
-  most.Post,
-  less-reads.Asked,
-  less-reads.Learnt,
-  least-below t,
-  least.Post,
-) (least-at t) least.Post least-Inv-loop least-μ-loop
+least-sub-most : (t : ℕ) → least-lts.Need-sub-most (least-claims t) (least-at t) least.Post least-Inv-loop least-μ-loop
 least-sub-most t c = search needs
 
-least-most-requires : (t : ℕ) → least-lts.Need-most-requires (
-  may-play-reads.Asked,
-  may-play-reads.Learnt,
-  play-reads.Asked,
-  play-reads.Learnt,
-  gain-reads.Asked,
-  gain-reads.Learnt,
-  is-ours-reads.Asked,
-  is-ours-reads.Learnt,
-  most-below t,
-  most.Post,
-  less-reads.Asked,
-  less-reads.Learnt,
-  least-below t,
-  least.Post,
-) (least-at t) least.Post least-Inv-loop least-μ-loop
+least-most-requires : (t : ℕ) → least-lts.Need-most-requires (least-claims t) (least-at t) least.Post least-Inv-loop least-μ-loop
 least-most-requires t c κs = search needs
 
-least-add-less : (t : ℕ) → least-lts.Need-add-less (
-  may-play-reads.Asked,
-  may-play-reads.Learnt,
-  play-reads.Asked,
-  play-reads.Learnt,
-  gain-reads.Asked,
-  gain-reads.Learnt,
-  is-ours-reads.Asked,
-  is-ours-reads.Learnt,
-  most-below t,
-  most.Post,
-  less-reads.Asked,
-  less-reads.Learnt,
-  least-below t,
-  least.Post,
-) (least-at t) least.Post least-Inv-loop least-μ-loop
+least-add-less : (t : ℕ) → least-lts.Need-add-less (least-claims t) (least-at t) least.Post least-Inv-loop least-μ-loop
 least-add-less t c = search needs
 
-least-less-requires : (t : ℕ) → least-lts.Need-less-requires (
-  may-play-reads.Asked,
-  may-play-reads.Learnt,
-  play-reads.Asked,
-  play-reads.Learnt,
-  gain-reads.Asked,
-  gain-reads.Learnt,
-  is-ours-reads.Asked,
-  is-ours-reads.Learnt,
-  most-below t,
-  most.Post,
-  less-reads.Asked,
-  less-reads.Learnt,
-  least-below t,
-  least.Post,
-) (least-at t) least.Post least-Inv-loop least-μ-loop
+least-less-requires : (t : ℕ) → least-lts.Need-less-requires (least-claims t) (least-at t) least.Post least-Inv-loop least-μ-loop
 least-less-requires t c κs = search needs
 
-least-loop-less : (t : ℕ) → least-lts.Need-loop-less (
-  may-play-reads.Asked,
-  may-play-reads.Learnt,
-  play-reads.Asked,
-  play-reads.Learnt,
-  gain-reads.Asked,
-  gain-reads.Learnt,
-  is-ours-reads.Asked,
-  is-ours-reads.Learnt,
-  most-below t,
-  most.Post,
-  less-reads.Asked,
-  less-reads.Learnt,
-  least-below t,
-  least.Post,
-) (least-at t) least.Post least-Inv-loop least-μ-loop
+least-loop-less : (t : ℕ) → least-lts.Need-loop-less (least-claims t) (least-at t) least.Post least-Inv-loop least-μ-loop
 least-loop-less t c = search needs
 
-least-loop-again : (t : ℕ) → least-lts.Need-loop-again (
-  may-play-reads.Asked,
-  may-play-reads.Learnt,
-  play-reads.Asked,
-  play-reads.Learnt,
-  gain-reads.Asked,
-  gain-reads.Learnt,
-  is-ours-reads.Asked,
-  is-ours-reads.Learnt,
-  most-below t,
-  most.Post,
-  less-reads.Asked,
-  less-reads.Learnt,
-  least-below t,
-  least.Post,
-) (least-at t) least.Post least-Inv-loop least-μ-loop
+least-loop-again : (t : ℕ) → least-lts.Need-loop-again (least-claims t) (least-at t) least.Post least-Inv-loop least-μ-loop
 least-loop-again t c =
     let m = c .before in
     let o = m .before .before in
@@ -295,112 +119,22 @@ least-loop-again t c =
       omega (arith, c .less .ensures, m .most .ensures .1, o .before .gain .ensures .1, l .loop .inv .2),
     )
 
-least-sub-least : (t : ℕ) → least-lts.Need-sub-least (
-  may-play-reads.Asked,
-  may-play-reads.Learnt,
-  play-reads.Asked,
-  play-reads.Learnt,
-  gain-reads.Asked,
-  gain-reads.Learnt,
-  is-ours-reads.Asked,
-  is-ours-reads.Learnt,
-  most-below t,
-  most.Post,
-  less-reads.Asked,
-  less-reads.Learnt,
-  least-below t,
-  least.Post,
-) (least-at t) least.Post least-Inv-loop least-μ-loop
+least-sub-least : (t : ℕ) → least-lts.Need-sub-least (least-claims t) (least-at t) least.Post least-Inv-loop least-μ-loop
 least-sub-least t c = search needs
 
-least-least-requires : (t : ℕ) → least-lts.Need-least-requires (
-  may-play-reads.Asked,
-  may-play-reads.Learnt,
-  play-reads.Asked,
-  play-reads.Learnt,
-  gain-reads.Asked,
-  gain-reads.Learnt,
-  is-ours-reads.Asked,
-  is-ours-reads.Learnt,
-  most-below t,
-  most.Post,
-  less-reads.Asked,
-  less-reads.Learnt,
-  least-below t,
-  least.Post,
-) (least-at t) least.Post least-Inv-loop least-μ-loop
+least-least-requires : (t : ℕ) → least-lts.Need-least-requires (least-claims t) (least-at t) least.Post least-Inv-loop least-μ-loop
 least-least-requires t c κs = search needs
 
-least-add-less-2 : (t : ℕ) → least-lts.Need-add-less-2 (
-  may-play-reads.Asked,
-  may-play-reads.Learnt,
-  play-reads.Asked,
-  play-reads.Learnt,
-  gain-reads.Asked,
-  gain-reads.Learnt,
-  is-ours-reads.Asked,
-  is-ours-reads.Learnt,
-  most-below t,
-  most.Post,
-  less-reads.Asked,
-  less-reads.Learnt,
-  least-below t,
-  least.Post,
-) (least-at t) least.Post least-Inv-loop least-μ-loop
+least-add-less-2 : (t : ℕ) → least-lts.Need-add-less-2 (least-claims t) (least-at t) least.Post least-Inv-loop least-μ-loop
 least-add-less-2 t c = search needs
 
-least-less-requires-2 : (t : ℕ) → least-lts.Need-less-requires-2 (
-  may-play-reads.Asked,
-  may-play-reads.Learnt,
-  play-reads.Asked,
-  play-reads.Learnt,
-  gain-reads.Asked,
-  gain-reads.Learnt,
-  is-ours-reads.Asked,
-  is-ours-reads.Learnt,
-  most-below t,
-  most.Post,
-  less-reads.Asked,
-  less-reads.Learnt,
-  least-below t,
-  least.Post,
-) (least-at t) least.Post least-Inv-loop least-μ-loop
+least-less-requires-2 : (t : ℕ) → least-lts.Need-less-requires-2 (least-claims t) (least-at t) least.Post least-Inv-loop least-μ-loop
 least-less-requires-2 t c κs = search needs
 
-least-loop-less-2 : (t : ℕ) → least-lts.Need-loop-less-2 (
-  may-play-reads.Asked,
-  may-play-reads.Learnt,
-  play-reads.Asked,
-  play-reads.Learnt,
-  gain-reads.Asked,
-  gain-reads.Learnt,
-  is-ours-reads.Asked,
-  is-ours-reads.Learnt,
-  most-below t,
-  most.Post,
-  less-reads.Asked,
-  less-reads.Learnt,
-  least-below t,
-  least.Post,
-) (least-at t) least.Post least-Inv-loop least-μ-loop
+least-loop-less-2 : (t : ℕ) → least-lts.Need-loop-less-2 (least-claims t) (least-at t) least.Post least-Inv-loop least-μ-loop
 least-loop-less-2 t c = search needs
 
-least-loop-again-2 : (t : ℕ) → least-lts.Need-loop-again-2 (
-  may-play-reads.Asked,
-  may-play-reads.Learnt,
-  play-reads.Asked,
-  play-reads.Learnt,
-  gain-reads.Asked,
-  gain-reads.Learnt,
-  is-ours-reads.Asked,
-  is-ours-reads.Learnt,
-  most-below t,
-  most.Post,
-  less-reads.Asked,
-  less-reads.Learnt,
-  least-below t,
-  least.Post,
-) (least-at t) least.Post least-Inv-loop least-μ-loop
+least-loop-again-2 : (t : ℕ) → least-lts.Need-loop-again-2 (least-claims t) (least-at t) least.Post least-Inv-loop least-μ-loop
 least-loop-again-2 t c =
     let m = c .before in
     let o = m .before .before in
@@ -415,40 +149,10 @@ least-loop-again-2 t c =
       omega (arith, c .less2 .ensures, m .least .ensures .1, o .before .gain .ensures .1, l .loop .inv .2),
     )
 
-least-loop-less-3 : (t : ℕ) → least-lts.Need-loop-less-3 (
-  may-play-reads.Asked,
-  may-play-reads.Learnt,
-  play-reads.Asked,
-  play-reads.Learnt,
-  gain-reads.Asked,
-  gain-reads.Learnt,
-  is-ours-reads.Asked,
-  is-ours-reads.Learnt,
-  most-below t,
-  most.Post,
-  less-reads.Asked,
-  less-reads.Learnt,
-  least-below t,
-  least.Post,
-) (least-at t) least.Post least-Inv-loop least-μ-loop
+least-loop-less-3 : (t : ℕ) → least-lts.Need-loop-less-3 (least-claims t) (least-at t) least.Post least-Inv-loop least-μ-loop
 least-loop-less-3 t c = search needs
 
-least-loop-again-3 : (t : ℕ) → least-lts.Need-loop-again-3 (
-  may-play-reads.Asked,
-  may-play-reads.Learnt,
-  play-reads.Asked,
-  play-reads.Learnt,
-  gain-reads.Asked,
-  gain-reads.Learnt,
-  is-ours-reads.Asked,
-  is-ours-reads.Learnt,
-  most-below t,
-  most.Post,
-  less-reads.Asked,
-  less-reads.Learnt,
-  least-below t,
-  least.Post,
-) (least-at t) least.Post least-Inv-loop least-μ-loop
+least-loop-again-3 : (t : ℕ) → least-lts.Need-loop-again-3 (least-claims t) (least-at t) least.Post least-Inv-loop least-μ-loop
 least-loop-again-3 t c =
     let q = c .before in
     let l = q .before .before in
@@ -456,7 +160,17 @@ least-loop-again-3 t c =
     let same = less-without (a .side) (a .left - 1) (a .p) (l .loop .card) (l .loop .best) (l .loop .inv .1) (q .may-play .ensures) (c .if2 .left) in
     (omega arith, same, l .loop .inv .2)
 
-least-returns-2 : (t : ℕ) → least-lts.Need-returns-2 (
+least-returns-2 : (t : ℕ) → least-lts.Need-returns-2 (least-claims t) (least-at t) least.Post least-Inv-loop least-μ-loop
+least-returns-2 t c =
+    let l = c .before in
+    let a = l .before .before .args in
+    let e : l .loop .card ≡ 52 = omega arith in
+    let all = l .loop .inv .1 ∙ ap (smallest (mayIn (a .p)) (worthIn (a .side) (a .left - 1) (a .p))) e in
+    (all ∙ least-all (a .side) (a .left) (a .p) (l .before .if1 .left), l .loop .inv .2)
+
+-- what the calls in `most` ask and give; those of `most` and `least` with fewer cards left
+abbrev most-claims : ℕ → most-lts.Claims
+most-claims t = (
   may-play-reads.Asked,
   may-play-reads.Learnt,
   play-reads.Asked,
@@ -467,17 +181,11 @@ least-returns-2 : (t : ℕ) → least-lts.Need-returns-2 (
   is-ours-reads.Learnt,
   most-below t,
   most.Post,
-  less-reads.Asked,
-  less-reads.Learnt,
+  more-reads.Asked,
+  more-reads.Learnt,
   least-below t,
   least.Post,
-) (least-at t) least.Post least-Inv-loop least-μ-loop
-least-returns-2 t c =
-    let l = c .before in
-    let a = l .before .before .args in
-    let e : l .loop .card ≡ 52 = omega arith in
-    let all = l .loop .inv .1 ∙ ap (smallest (mayIn (a .p)) (worthIn (a .side) (a .left - 1) (a .p))) e in
-    (all ∙ least-all (a .side) (a .left) (a .p) (l .before .if1 .left), l .loop .inv .2)
+)
 
 abbrev most-Inv-loop : most-lts.InvT-loop
 most-Inv-loop p side left best₀ card₀ best card =
@@ -486,238 +194,43 @@ most-Inv-loop p side left best₀ card₀ best card =
 abbrev most-μ-loop : most-lts.MeasureT-loop
 most-μ-loop p side left best₀ card₀ best card = 52 - card
 
-most-returns : (t : ℕ) → most-lts.Need-returns (
-  may-play-reads.Asked,
-  may-play-reads.Learnt,
-  play-reads.Asked,
-  play-reads.Learnt,
-  gain-reads.Asked,
-  gain-reads.Learnt,
-  is-ours-reads.Asked,
-  is-ours-reads.Learnt,
-  most-below t,
-  most.Post,
-  more-reads.Asked,
-  more-reads.Learnt,
-  least-below t,
-  least.Post,
-) (most-at t) most.Post most-Inv-loop most-μ-loop
+most-returns : (t : ℕ) → most-lts.Need-returns (most-claims t) (most-at t) most.Post most-Inv-loop most-μ-loop
 most-returns t c = (most-none _ _ _ (c .if1 .taken), omega arith)
 
-most-loop-holds : (t : ℕ) → most-lts.Need-loop-holds (
-  may-play-reads.Asked,
-  may-play-reads.Learnt,
-  play-reads.Asked,
-  play-reads.Learnt,
-  gain-reads.Asked,
-  gain-reads.Learnt,
-  is-ours-reads.Asked,
-  is-ours-reads.Learnt,
-  most-below t,
-  most.Post,
-  more-reads.Asked,
-  more-reads.Learnt,
-  least-below t,
-  least.Post,
-) (most-at t) most.Post most-Inv-loop most-μ-loop
+most-loop-holds : (t : ℕ) → most-lts.Need-loop-holds (most-claims t) (most-at t) most.Post most-Inv-loop most-μ-loop
 most-loop-holds t c = (omega arith, most-starts _ _, omega arith)
 
-most-add-card : (t : ℕ) → most-lts.Need-add-card (
-  may-play-reads.Asked,
-  may-play-reads.Learnt,
-  play-reads.Asked,
-  play-reads.Learnt,
-  gain-reads.Asked,
-  gain-reads.Learnt,
-  is-ours-reads.Asked,
-  is-ours-reads.Learnt,
-  most-below t,
-  most.Post,
-  more-reads.Asked,
-  more-reads.Learnt,
-  least-below t,
-  least.Post,
-) (most-at t) most.Post most-Inv-loop most-μ-loop
+most-add-card : (t : ℕ) → most-lts.Need-add-card (most-claims t) (most-at t) most.Post most-Inv-loop most-μ-loop
 most-add-card t c = search needs
 
-most-may-play-requires : (t : ℕ) → most-lts.Need-may-play-requires (
-  may-play-reads.Asked,
-  may-play-reads.Learnt,
-  play-reads.Asked,
-  play-reads.Learnt,
-  gain-reads.Asked,
-  gain-reads.Learnt,
-  is-ours-reads.Asked,
-  is-ours-reads.Learnt,
-  most-below t,
-  most.Post,
-  more-reads.Asked,
-  more-reads.Learnt,
-  least-below t,
-  least.Post,
-) (most-at t) most.Post most-Inv-loop most-μ-loop
+most-may-play-requires : (t : ℕ) → most-lts.Need-may-play-requires (most-claims t) (most-at t) most.Post most-Inv-loop most-μ-loop
 most-may-play-requires t c κs = search needs
 
-most-play-requires : (t : ℕ) → most-lts.Need-play-requires (
-  may-play-reads.Asked,
-  may-play-reads.Learnt,
-  play-reads.Asked,
-  play-reads.Learnt,
-  gain-reads.Asked,
-  gain-reads.Learnt,
-  is-ours-reads.Asked,
-  is-ours-reads.Learnt,
-  most-below t,
-  most.Post,
-  more-reads.Asked,
-  more-reads.Learnt,
-  least-below t,
-  least.Post,
-) (most-at t) most.Post most-Inv-loop most-μ-loop
+most-play-requires : (t : ℕ) → most-lts.Need-play-requires (most-claims t) (most-at t) most.Post most-Inv-loop most-μ-loop
 most-play-requires t c κs = search needs
 
-most-gain-requires : (t : ℕ) → most-lts.Need-gain-requires (
-  may-play-reads.Asked,
-  may-play-reads.Learnt,
-  play-reads.Asked,
-  play-reads.Learnt,
-  gain-reads.Asked,
-  gain-reads.Learnt,
-  is-ours-reads.Asked,
-  is-ours-reads.Learnt,
-  most-below t,
-  most.Post,
-  more-reads.Asked,
-  more-reads.Learnt,
-  least-below t,
-  least.Post,
-) (most-at t) most.Post most-Inv-loop most-μ-loop
+most-gain-requires : (t : ℕ) → most-lts.Need-gain-requires (most-claims t) (most-at t) most.Post most-Inv-loop most-μ-loop
 most-gain-requires t c κs = search needs
 
-most-is-ours-requires : (t : ℕ) → most-lts.Need-is-ours-requires (
-  may-play-reads.Asked,
-  may-play-reads.Learnt,
-  play-reads.Asked,
-  play-reads.Learnt,
-  gain-reads.Asked,
-  gain-reads.Learnt,
-  is-ours-reads.Asked,
-  is-ours-reads.Learnt,
-  most-below t,
-  most.Post,
-  more-reads.Asked,
-  more-reads.Learnt,
-  least-below t,
-  least.Post,
-) (most-at t) most.Post most-Inv-loop most-μ-loop
+most-is-ours-requires : (t : ℕ) → most-lts.Need-is-ours-requires (most-claims t) (most-at t) most.Post most-Inv-loop most-μ-loop
 most-is-ours-requires t c κs = search needs
 
-most-sub-most : (t : ℕ) → most-lts.Need-sub-most (
-  may-play-reads.Asked,
-  may-play-reads.Learnt,
-  play-reads.Asked,
-  play-reads.Learnt,
-  gain-reads.Asked,
-  gain-reads.Learnt,
-  is-ours-reads.Asked,
-  is-ours-reads.Learnt,
-  most-below t,
-  most.Post,
-  more-reads.Asked,
-  more-reads.Learnt,
-  least-below t,
-  least.Post,
-) (most-at t) most.Post most-Inv-loop most-μ-loop
+most-sub-most : (t : ℕ) → most-lts.Need-sub-most (most-claims t) (most-at t) most.Post most-Inv-loop most-μ-loop
 most-sub-most t c = search needs
 
-most-most-requires : (t : ℕ) → most-lts.Need-most-requires (
-  may-play-reads.Asked,
-  may-play-reads.Learnt,
-  play-reads.Asked,
-  play-reads.Learnt,
-  gain-reads.Asked,
-  gain-reads.Learnt,
-  is-ours-reads.Asked,
-  is-ours-reads.Learnt,
-  most-below t,
-  most.Post,
-  more-reads.Asked,
-  more-reads.Learnt,
-  least-below t,
-  least.Post,
-) (most-at t) most.Post most-Inv-loop most-μ-loop
+most-most-requires : (t : ℕ) → most-lts.Need-most-requires (most-claims t) (most-at t) most.Post most-Inv-loop most-μ-loop
 most-most-requires t c κs = search needs
 
-most-add-more : (t : ℕ) → most-lts.Need-add-more (
-  may-play-reads.Asked,
-  may-play-reads.Learnt,
-  play-reads.Asked,
-  play-reads.Learnt,
-  gain-reads.Asked,
-  gain-reads.Learnt,
-  is-ours-reads.Asked,
-  is-ours-reads.Learnt,
-  most-below t,
-  most.Post,
-  more-reads.Asked,
-  more-reads.Learnt,
-  least-below t,
-  least.Post,
-) (most-at t) most.Post most-Inv-loop most-μ-loop
+most-add-more : (t : ℕ) → most-lts.Need-add-more (most-claims t) (most-at t) most.Post most-Inv-loop most-μ-loop
 most-add-more t c = search needs
 
-most-more-requires : (t : ℕ) → most-lts.Need-more-requires (
-  may-play-reads.Asked,
-  may-play-reads.Learnt,
-  play-reads.Asked,
-  play-reads.Learnt,
-  gain-reads.Asked,
-  gain-reads.Learnt,
-  is-ours-reads.Asked,
-  is-ours-reads.Learnt,
-  most-below t,
-  most.Post,
-  more-reads.Asked,
-  more-reads.Learnt,
-  least-below t,
-  least.Post,
-) (most-at t) most.Post most-Inv-loop most-μ-loop
+most-more-requires : (t : ℕ) → most-lts.Need-more-requires (most-claims t) (most-at t) most.Post most-Inv-loop most-μ-loop
 most-more-requires t c κs = search needs
 
-most-loop-less : (t : ℕ) → most-lts.Need-loop-less (
-  may-play-reads.Asked,
-  may-play-reads.Learnt,
-  play-reads.Asked,
-  play-reads.Learnt,
-  gain-reads.Asked,
-  gain-reads.Learnt,
-  is-ours-reads.Asked,
-  is-ours-reads.Learnt,
-  most-below t,
-  most.Post,
-  more-reads.Asked,
-  more-reads.Learnt,
-  least-below t,
-  least.Post,
-) (most-at t) most.Post most-Inv-loop most-μ-loop
+most-loop-less : (t : ℕ) → most-lts.Need-loop-less (most-claims t) (most-at t) most.Post most-Inv-loop most-μ-loop
 most-loop-less t c = search needs
 
-most-loop-again : (t : ℕ) → most-lts.Need-loop-again (
-  may-play-reads.Asked,
-  may-play-reads.Learnt,
-  play-reads.Asked,
-  play-reads.Learnt,
-  gain-reads.Asked,
-  gain-reads.Learnt,
-  is-ours-reads.Asked,
-  is-ours-reads.Learnt,
-  most-below t,
-  most.Post,
-  more-reads.Asked,
-  more-reads.Learnt,
-  least-below t,
-  least.Post,
-) (most-at t) most.Post most-Inv-loop most-μ-loop
+most-loop-again : (t : ℕ) → most-lts.Need-loop-again (most-claims t) (most-at t) most.Post most-Inv-loop most-μ-loop
 most-loop-again t c =
     let m = c .before in
     let o = m .before .before in
@@ -732,112 +245,22 @@ most-loop-again t c =
       omega (arith, c .more .ensures, m .most .ensures .1, o .before .gain .ensures .1, l .loop .inv .2),
     )
 
-most-sub-least : (t : ℕ) → most-lts.Need-sub-least (
-  may-play-reads.Asked,
-  may-play-reads.Learnt,
-  play-reads.Asked,
-  play-reads.Learnt,
-  gain-reads.Asked,
-  gain-reads.Learnt,
-  is-ours-reads.Asked,
-  is-ours-reads.Learnt,
-  most-below t,
-  most.Post,
-  more-reads.Asked,
-  more-reads.Learnt,
-  least-below t,
-  least.Post,
-) (most-at t) most.Post most-Inv-loop most-μ-loop
+most-sub-least : (t : ℕ) → most-lts.Need-sub-least (most-claims t) (most-at t) most.Post most-Inv-loop most-μ-loop
 most-sub-least t c = search needs
 
-most-least-requires : (t : ℕ) → most-lts.Need-least-requires (
-  may-play-reads.Asked,
-  may-play-reads.Learnt,
-  play-reads.Asked,
-  play-reads.Learnt,
-  gain-reads.Asked,
-  gain-reads.Learnt,
-  is-ours-reads.Asked,
-  is-ours-reads.Learnt,
-  most-below t,
-  most.Post,
-  more-reads.Asked,
-  more-reads.Learnt,
-  least-below t,
-  least.Post,
-) (most-at t) most.Post most-Inv-loop most-μ-loop
+most-least-requires : (t : ℕ) → most-lts.Need-least-requires (most-claims t) (most-at t) most.Post most-Inv-loop most-μ-loop
 most-least-requires t c κs = search needs
 
-most-add-more-2 : (t : ℕ) → most-lts.Need-add-more-2 (
-  may-play-reads.Asked,
-  may-play-reads.Learnt,
-  play-reads.Asked,
-  play-reads.Learnt,
-  gain-reads.Asked,
-  gain-reads.Learnt,
-  is-ours-reads.Asked,
-  is-ours-reads.Learnt,
-  most-below t,
-  most.Post,
-  more-reads.Asked,
-  more-reads.Learnt,
-  least-below t,
-  least.Post,
-) (most-at t) most.Post most-Inv-loop most-μ-loop
+most-add-more-2 : (t : ℕ) → most-lts.Need-add-more-2 (most-claims t) (most-at t) most.Post most-Inv-loop most-μ-loop
 most-add-more-2 t c = search needs
 
-most-more-requires-2 : (t : ℕ) → most-lts.Need-more-requires-2 (
-  may-play-reads.Asked,
-  may-play-reads.Learnt,
-  play-reads.Asked,
-  play-reads.Learnt,
-  gain-reads.Asked,
-  gain-reads.Learnt,
-  is-ours-reads.Asked,
-  is-ours-reads.Learnt,
-  most-below t,
-  most.Post,
-  more-reads.Asked,
-  more-reads.Learnt,
-  least-below t,
-  least.Post,
-) (most-at t) most.Post most-Inv-loop most-μ-loop
+most-more-requires-2 : (t : ℕ) → most-lts.Need-more-requires-2 (most-claims t) (most-at t) most.Post most-Inv-loop most-μ-loop
 most-more-requires-2 t c κs = search needs
 
-most-loop-less-2 : (t : ℕ) → most-lts.Need-loop-less-2 (
-  may-play-reads.Asked,
-  may-play-reads.Learnt,
-  play-reads.Asked,
-  play-reads.Learnt,
-  gain-reads.Asked,
-  gain-reads.Learnt,
-  is-ours-reads.Asked,
-  is-ours-reads.Learnt,
-  most-below t,
-  most.Post,
-  more-reads.Asked,
-  more-reads.Learnt,
-  least-below t,
-  least.Post,
-) (most-at t) most.Post most-Inv-loop most-μ-loop
+most-loop-less-2 : (t : ℕ) → most-lts.Need-loop-less-2 (most-claims t) (most-at t) most.Post most-Inv-loop most-μ-loop
 most-loop-less-2 t c = search needs
 
-most-loop-again-2 : (t : ℕ) → most-lts.Need-loop-again-2 (
-  may-play-reads.Asked,
-  may-play-reads.Learnt,
-  play-reads.Asked,
-  play-reads.Learnt,
-  gain-reads.Asked,
-  gain-reads.Learnt,
-  is-ours-reads.Asked,
-  is-ours-reads.Learnt,
-  most-below t,
-  most.Post,
-  more-reads.Asked,
-  more-reads.Learnt,
-  least-below t,
-  least.Post,
-) (most-at t) most.Post most-Inv-loop most-μ-loop
+most-loop-again-2 : (t : ℕ) → most-lts.Need-loop-again-2 (most-claims t) (most-at t) most.Post most-Inv-loop most-μ-loop
 most-loop-again-2 t c =
     let m = c .before in
     let o = m .before .before in
@@ -852,40 +275,10 @@ most-loop-again-2 t c =
       omega (arith, c .more2 .ensures, m .least .ensures .1, o .before .gain .ensures .1, l .loop .inv .2),
     )
 
-most-loop-less-3 : (t : ℕ) → most-lts.Need-loop-less-3 (
-  may-play-reads.Asked,
-  may-play-reads.Learnt,
-  play-reads.Asked,
-  play-reads.Learnt,
-  gain-reads.Asked,
-  gain-reads.Learnt,
-  is-ours-reads.Asked,
-  is-ours-reads.Learnt,
-  most-below t,
-  most.Post,
-  more-reads.Asked,
-  more-reads.Learnt,
-  least-below t,
-  least.Post,
-) (most-at t) most.Post most-Inv-loop most-μ-loop
+most-loop-less-3 : (t : ℕ) → most-lts.Need-loop-less-3 (most-claims t) (most-at t) most.Post most-Inv-loop most-μ-loop
 most-loop-less-3 t c = search needs
 
-most-loop-again-3 : (t : ℕ) → most-lts.Need-loop-again-3 (
-  may-play-reads.Asked,
-  may-play-reads.Learnt,
-  play-reads.Asked,
-  play-reads.Learnt,
-  gain-reads.Asked,
-  gain-reads.Learnt,
-  is-ours-reads.Asked,
-  is-ours-reads.Learnt,
-  most-below t,
-  most.Post,
-  more-reads.Asked,
-  more-reads.Learnt,
-  least-below t,
-  least.Post,
-) (most-at t) most.Post most-Inv-loop most-μ-loop
+most-loop-again-3 : (t : ℕ) → most-lts.Need-loop-again-3 (most-claims t) (most-at t) most.Post most-Inv-loop most-μ-loop
 most-loop-again-3 t c =
     let q = c .before in
     let l = q .before .before in
@@ -893,22 +286,7 @@ most-loop-again-3 t c =
     let same = more-without (a .side) (a .left - 1) (a .p) (l .loop .card) (l .loop .best) (l .loop .inv .1) (q .may-play .ensures) (c .if2 .left) in
     (omega arith, same, l .loop .inv .2)
 
-most-returns-2 : (t : ℕ) → most-lts.Need-returns-2 (
-  may-play-reads.Asked,
-  may-play-reads.Learnt,
-  play-reads.Asked,
-  play-reads.Learnt,
-  gain-reads.Asked,
-  gain-reads.Learnt,
-  is-ours-reads.Asked,
-  is-ours-reads.Learnt,
-  most-below t,
-  most.Post,
-  more-reads.Asked,
-  more-reads.Learnt,
-  least-below t,
-  least.Post,
-) (most-at t) most.Post most-Inv-loop most-μ-loop
+most-returns-2 : (t : ℕ) → most-lts.Need-returns-2 (most-claims t) (most-at t) most.Post most-Inv-loop most-μ-loop
 most-returns-2 t c =
     let l = c .before in
     let a = l .before .before .args in
