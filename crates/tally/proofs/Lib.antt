@@ -14,3 +14,5 @@ pub mod Told
 pub mod Checking
 pub mod Dealing
 pub mod Kept
+pub mod InBytes
+pub mod Ranges

@@ -3,3 +3,4 @@ pub mod Tallies
 pub mod Steps
 pub mod Points
 pub mod Shape
+pub mod InBytes
