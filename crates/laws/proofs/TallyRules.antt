@@ -101,16 +101,16 @@ deal-turned d e =
 
 -- ---- the refusal of a deal, by its tests
 module _ (d : List ℕ) where
-  no-seats : areSeats d ≡ false → dealRefusal d ≡ record { number = 4; place = 4 }
+  pub no-seats : areSeats d ≡ false → dealRefusal d ≡ record { number = 4; place = 4 }
   unfolding dealRefusal takeDeal refuse
   no-seats e = rw e
 
   module _ (e : areSeats d ≡ true) where
-    uneven : eqb (seatWithoutThirteen d) noSeat ≡ false → dealRefusal d ≡ record { number = 4; place = seatWithoutThirteen d }
+    pub uneven : eqb (seatWithoutThirteen d) noSeat ≡ false → dealRefusal d ≡ record { number = 4; place = seatWithoutThirteen d }
     unfolding dealRefusal takeDeal refuse
     uneven n = rw (e, n)
 
-    even : eqb (seatWithoutThirteen d) noSeat ≡ true → dealRefusal d ≡ refusal 0
+    pub even : eqb (seatWithoutThirteen d) noSeat ≡ true → dealRefusal d ≡ refusal 0
     unfolding dealRefusal takeDeal refuse
     even n = rw (e, n)
 

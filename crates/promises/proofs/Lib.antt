@@ -22,3 +22,8 @@ pub mod TeamMatchReached
 pub mod TeamMatch
 pub mod Slip
 pub mod BestPlay
+pub mod TallyNumbers
+pub mod TallyInRecord
+pub mod TallyBytes
+pub mod Demand3Bytes
+pub mod Reduction

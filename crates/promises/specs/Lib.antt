@@ -15,3 +15,6 @@ pub mod UnfinishedTrick
 pub mod TeamMatch
 pub mod Slip
 pub mod BestPlay
+pub mod TallyBytes
+pub mod Demand3Bytes
+pub mod Reduction

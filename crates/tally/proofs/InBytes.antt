@@ -14,6 +14,7 @@ use lib.Signed.{mag}
 use Rattle.laws.specs.Bytes.{Bytes}
 use Rattle.laws.specs.Judgement.{twosComplement}
 use Rattle.laws.specs.Record.{bytesOf}
+use Rattle.laws.proofs.Bytes.{bytes-of}
 use Rattle.laws.proofs.Tests.{by-test}
 use Rattle.tally.specs.declared.Tally.{Tally}
 use Rattle.tally.specs.InBytes.{dealBytes, scoreBytes, tallyBytes, dealIn, signed, scoresInBytes, tallyFrom, tallyIn, InRange}
@@ -153,6 +154,33 @@ module _ (t : Tally) (r : InRange t) where
   pub tally-back : tallyIn (tallyBytes t) ≡ t
   unfolding tallyIn
   tally-back = rw (eq-eqb (length (tallyBytes t)) 398 length-tally-bytes) from-back
+
+-- ---- each is a byte
+pub bytes-append : (a b : List ℕ) → Bytes a → Bytes b → Bytes (a ++ b)
+bytes-append [] b f g i = g i
+bytes-append (x ∷ a) b f g zero = f 0
+bytes-append (x ∷ a) b f g (suc i) = bytes-append a b (λ k. f (suc k)) g i
+
+deal-are-bytes : (deal : List ℕ) → Bytes (dealBytes deal)
+unfolding dealBytes
+deal-are-bytes [] i = lit< tt
+deal-are-bytes (a ∷ []) i = lit< tt
+deal-are-bytes (a ∷ b ∷ []) i = lit< tt
+deal-are-bytes (a ∷ b ∷ c ∷ []) i = lit< tt
+deal-are-bytes (a ∷ b ∷ c ∷ d ∷ deal) zero = omega arith
+deal-are-bytes (a ∷ b ∷ c ∷ d ∷ deal) (suc i) = deal-are-bytes deal i
+
+scores-are-bytes : (scores : List ℤ) → Bytes (scoreBytes scores)
+unfolding scoreBytes
+scores-are-bytes [] i = lit< tt
+scores-are-bytes (s ∷ scores) i = bytes-append (bytesOf 2 (twosComplement s)) (scoreBytes scores) (bytes-of 2 (twosComplement s)) (scores-are-bytes scores) i
+
+pub bytes-tally : (t : Tally) → InRange t → Bytes (tallyBytes t)
+unfolding tallyBytes
+bytes-tally t r zero = r .board
+bytes-tally t r (suc i) =
+    bytes-append (dealBytes (t .deal)) (scoreBytes (t .scores) ++ t .counts) (deal-are-bytes (t .deal))
+    (bytes-append (scoreBytes (t .scores)) (t .counts) (scores-are-bytes (t .scores)) (r .count)) i
 
 -- ---- whole lists of bytes
 -- a list cut at two places

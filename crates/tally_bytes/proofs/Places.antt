@@ -12,11 +12,11 @@ use Rattle.laws.specs.Record.{bytesOf}
 use Rattle.tally.specs.InBytes.{dealBytes, scoreBytes, dealIn, signed, scoresInBytes}
 
 -- a place between two others
-slice-at : (n m : ℕ) (l : List ℕ) (i : ℕ) → n + i < m → getD (slice n m l) i 0 ≡ getD l (n + i) 0
+pub slice-at : (n m : ℕ) (l : List ℕ) (i : ℕ) → n + i < m → getD (slice n m l) i 0 ≡ getD l (n + i) 0
 slice-at n m l i h = getD-drop n (take m l) i 0 ∙ getD-take m l (n + i) 0 h
 
 -- ---- reading
-holder-in : (bytes : List ℕ) (i : ℕ) → i < 4 * length bytes → getD (dealIn bytes) i 0 ≡ getD bytes (i / 4) 0 / 2 ^ (6 - 2 * (i % 4)) % 4
+pub holder-in : (bytes : List ℕ) (i : ℕ) → i < 4 * length bytes → getD (dealIn bytes) i 0 ≡ getD bytes (i / 4) 0 / 2 ^ (6 - 2 * (i % 4)) % 4
 unfolding dealIn
 holder-in [] i h = absurd (omega arith)
 holder-in (x ∷ bytes) zero h = refl
