@@ -1,8 +1,8 @@
 # make test      the whole gate; its last line is that of `rt ci`
-# make demo      judges the records in samples/, prints a sheet and a slip
-# make install   puts header, archive and pkg-config file under PREFIX
-# make bench     the proved judge's speed beside the Rust judge's
-# make fuzz      compares on random records, contents, trees, sheets, slips and team matches for FUZZ_SECONDS, from SEED where it is given
+# make demo      judges the records in samples/, prints a sheet and a slip, and merges two sections both ways
+# make install   puts headers, archives and pkg-config files under PREFIX
+# make bench     the proved judge's speed beside the Rust judge's, and that of merges
+# make fuzz      compares on random records, contents, tallies, trees, sheets, slips and team matches for FUZZ_SECONDS, from SEED where it is given
 # What is built beside the proofs stands in build/, since `rt ci` removes target/.
 .PHONY: test demo install install-files bench fuzz outside clean tools rt-tool FORCE
 
@@ -11,6 +11,7 @@ FUZZ_SECONDS = 60
 SEED =
 RECORDS = 1000000
 WRITES = 300000
+TALLIES = 1000000
 TREES = 20000
 SHEETS = 3000
 SLIPS = 10000
@@ -19,6 +20,7 @@ BLOCKS = 20000
 
 # The archive that judges and writes, a member for each; build/stand-in/libjudge.a has the Rust judge and writer behind the same interface.
 ARCHIVE = build/libjudge.a
+TALLY_ARCHIVE = build/libtally.a
 TREE = target/bin/tree
 SHEET = target/bin/sheet
 CELLS = target/bin/cells
@@ -33,7 +35,7 @@ CFLAGS = -std=c99 -O2 $(WARNINGS)
 CXXFLAGS = -std=c++11 -O2 $(WARNINGS)
 
 RUST = build/rust/release
-CARGO = cd tests && JUDGE_ARCHIVE=$(abspath $(ARCHIVE)) CARGO_TARGET_DIR=$(abspath build/rust) cargo
+CARGO = cd tests && JUDGE_ARCHIVE=$(abspath $(ARCHIVE)) TALLY_ARCHIVE=$(abspath $(TALLY_ARCHIVE)) CARGO_TARGET_DIR=$(abspath build/rust) cargo
 SEED_WORDS = $(if $(SEED),--seed $(SEED))
 
 test: outside
@@ -49,7 +51,7 @@ rt-tool:
 tools: rt-tool
 	$(call need,$(CC) $(CXX) cargo valgrind)
 
-$(ARCHIVE) $(TREE) $(SHEET) $(CELLS) $(SLIP) $(TEAM) $(MERGES): | rt-tool
+$(ARCHIVE) $(TALLY_ARCHIVE) $(TREE) $(SHEET) $(CELLS) $(SLIP) $(TEAM) $(MERGES): | rt-tool
 
 SOURCES = crates.txt $(shell find crates -name '*.rt' -o -name '*.antt')
 
@@ -62,6 +64,11 @@ build/libjudge.a: target/staticlib/libjudge.a target/staticlib/libwriter.a
 	@mkdir -p build
 	@rm -f $@
 	printf 'create $@\n$(^:%=addlib %\n)save\nend\n' | $(AR) -M
+
+# The calls on tallies have a crate of their own, tally_calls, that exports them.
+build/libtally.a: target/staticlib/libtally_calls.a
+	@mkdir -p build
+	cp $< $@
 
 target/bin/%: $(SOURCES)
 	rt check $*
@@ -76,7 +83,20 @@ build/terminal: $(ARCHIVE) $(wildcard terminal/*) include/judge.h
 	@mkdir -p build
 	$(CC) $(CFLAGS) -Iinclude terminal/*.c $(ARCHIVE) -o $@
 
-demo: build/terminal $(SHEET) $(CELLS) $(SLIP)
+# From records to standings: `section` judges and tallies, `standings` merges.
+SCORING = scoring/tally_words.c terminal/input.c
+
+build/section: $(ARCHIVE) $(TALLY_ARCHIVE) $(wildcard scoring/* terminal/*) include/judge.h include/tally.h
+	$(call need,$(CC))
+	@mkdir -p build
+	$(CC) $(CFLAGS) -Iinclude -Iterminal scoring/section.c scoring/judged.c terminal/words.c $(SCORING) $(ARCHIVE) $(TALLY_ARCHIVE) -o $@
+
+build/standings: $(TALLY_ARCHIVE) $(wildcard scoring/* terminal/*) include/tally.h
+	$(call need,$(CC))
+	@mkdir -p build
+	$(CC) $(CFLAGS) -Iinclude -Iterminal scoring/standings.c $(SCORING) $(TALLY_ARCHIVE) -o $@
+
+demo: build/terminal build/section build/standings $(SHEET) $(CELLS) $(SLIP)
 	@echo "Records that are accepted:"
 	@build/terminal $(sort $(filter-out samples/refused-%,$(wildcard samples/*.hex)))
 	@echo "Records that are refused:"
@@ -87,38 +107,58 @@ demo: build/terminal $(SHEET) $(CELLS) $(SLIP)
 	@$(CELLS) <samples/scores
 	@echo "The slip of a record:"
 	@$(SLIP) <crates/try_slip/data/east-west
+	@mkdir -p build/work/demo
+	@for text in samples/sections/*.txt; do build/terminal -w $$text >build/work/demo/$$(basename $$text .txt) || exit 1; done
+	@build/section build/work/demo/A build/work/demo/a-*
+	@build/section build/work/demo/B build/work/demo/b-*
+	@echo "Two sections, A before B:"
+	@build/standings build/work/demo/A build/work/demo/B; test $$? = 1
+	@echo "And B before A:"
+	@build/standings build/work/demo/B build/work/demo/A; test $$? = 1
 
-install: $(ARCHIVE)
+install: $(ARCHIVE) $(TALLY_ARCHIVE)
 	@$(MAKE) --no-print-directory install-files
 
 # The version is the header's.
-version = $(shell sed -n 's/^.define JUDGE_VERSION_$(1) //p' include/judge.h)
-VERSION = $(call version,MAJOR).$(call version,MINOR).0
+number = $(shell sed -n 's/^.define [A-Z]*_VERSION_$(2) //p' include/$(1).h)
+version = $(call number,$(1),MAJOR).$(call number,$(1),MINOR).0
+pc = sed 's|@PREFIX@|$(abspath $(PREFIX))|; s|@VERSION@|$(call version,$(1))|' include/$(1).pc.in >$(DESTDIR)$(PREFIX)/lib/pkgconfig/$(1).pc
 
 install-files:
 	mkdir -p $(DESTDIR)$(PREFIX)/include $(DESTDIR)$(PREFIX)/lib/pkgconfig
-	cp include/judge.h $(DESTDIR)$(PREFIX)/include/judge.h
+	cp include/judge.h include/tally.h $(DESTDIR)$(PREFIX)/include
 	cp $(ARCHIVE) $(DESTDIR)$(PREFIX)/lib/libjudge.a
-	sed 's|@PREFIX@|$(abspath $(PREFIX))|; s|@VERSION@|$(VERSION)|' include/judge.pc.in >$(DESTDIR)$(PREFIX)/lib/pkgconfig/judge.pc
+	cp $(TALLY_ARCHIVE) $(DESTDIR)$(PREFIX)/lib/libtally.a
+	$(call pc,judge)
+	$(call pc,tally)
 
-# The Rust programs, linked with the archive.
-build/rust-built: $(ARCHIVE) FORCE | tools
+# The Rust programs, linked with the archives.
+build/rust-built: $(ARCHIVE) $(TALLY_ARCHIVE) FORCE | tools
 	$(CARGO) build --release --offline --locked --quiet
 
-outside: tools build/rust-built build/terminal $(TREE) $(SHEET) $(CELLS) $(SLIP) $(TEAM)
+outside: tools build/rust-built build/terminal build/section build/standings $(TREE) $(SHEET) $(CELLS) $(SLIP) $(TEAM)
 	$(CC) $(CFLAGS) -Iinclude tests/c/header.c $(ARCHIVE) -o build/header-c
 	valgrind --quiet --error-exitcode=1 build/header-c
 	$(CXX) $(CXXFLAGS) -Iinclude -x c++ tests/c/header.c -x none $(ARCHIVE) -o build/header-c++
 	build/header-c++
+	$(CC) $(CFLAGS) -Iinclude tests/c/tally_header.c $(TALLY_ARCHIVE) -o build/tally-header-c
+	valgrind --quiet --error-exitcode=1 build/tally-header-c
+	$(CXX) $(CXXFLAGS) -Iinclude -x c++ tests/c/tally_header.c -x none $(TALLY_ARCHIVE) -o build/tally-header-c++
+	build/tally-header-c++
 	tests/samples.sh $(RUST)/write_record
 	@mkdir -p build/work
 	tests/terminal.sh build/terminal build/work
+	@rm -rf build/work/sections
+	@mkdir -p build/work/sections/records
+	$(RUST)/sections $(or $(SEED),87) build/work/sections
+	tests/standings.sh build/section build/standings build/terminal build/work/sections
 	rm -rf build/installed
 	@$(MAKE) --no-print-directory install-files PREFIX=$(abspath build/installed)
 	tests/install.sh $(abspath build/installed) $(CC)
-	$(CARGO) test --release --offline --locked --quiet --test examples --test refusals --test faults --test write_refusals --test write_faults
+	$(CARGO) test --release --offline --locked --quiet --test examples --test refusals --test faults --test write_refusals --test write_faults --test tally_bytes --test tally_faults
 	$(RUST)/records --count $(RECORDS) $(SEED_WORDS)
 	$(RUST)/writes --count $(WRITES) $(SEED_WORDS)
+	$(RUST)/tallies --count $(TALLIES) $(SEED_WORDS)
 	$(RUST)/trees --program $(TREE) --count $(TREES) $(SEED_WORDS)
 	$(RUST)/sheets --program $(SHEET) --cells $(CELLS) --count $(SHEETS) $(SEED_WORDS)
 	$(RUST)/slips --program $(SLIP) --count $(SLIPS) $(SEED_WORDS)
@@ -129,13 +169,17 @@ outside: tools build/rust-built build/terminal $(TREE) $(SHEET) $(CELLS) $(SLIP)
 	$(RUST)/write_blocks $(or $(SEED),64) $(BLOCKS) >build/blocks.contents
 	$(CC) $(CFLAGS) -g -Iinclude tests/c/write_blocks.c $(ARCHIVE) -o build/write_blocks
 	valgrind --quiet --error-exitcode=1 --leak-check=full build/write_blocks build/blocks.contents
+	$(RUST)/tally_blocks $(or $(SEED),64) $(BLOCKS) >build/blocks.tallies
+	$(CC) $(CFLAGS) -g -Iinclude tests/c/tally_blocks.c $(TALLY_ARCHIVE) -o build/tally_blocks
+	valgrind --quiet --error-exitcode=1 --leak-check=full build/tally_blocks build/blocks.tallies
 	$(CC) $(CFLAGS) -Iinclude tests/c/stack.c $(ARCHIVE) -o build/stack
 	build/stack build/blocks.records
 
-# A quarter of the time each for records and contents, an eighth each for trees, sheets, slips and team matches.
+# A quarter of the time for records, an eighth each for contents, tallies, trees, sheets, slips and team matches.
 fuzz: build/rust-built $(TREE) $(SHEET) $(CELLS) $(SLIP) $(TEAM)
 	$(RUST)/records --seconds $$(($(FUZZ_SECONDS) / 4)) $(SEED_WORDS)
-	$(RUST)/writes --seconds $$(($(FUZZ_SECONDS) / 4)) $(SEED_WORDS)
+	$(RUST)/writes --seconds $$(($(FUZZ_SECONDS) / 8)) $(SEED_WORDS)
+	$(RUST)/tallies --seconds $$(($(FUZZ_SECONDS) / 8)) $(SEED_WORDS)
 	$(RUST)/trees --program $(TREE) --seconds $$(($(FUZZ_SECONDS) / 8)) $(SEED_WORDS)
 	$(RUST)/sheets --program $(SHEET) --cells $(CELLS) --seconds $$(($(FUZZ_SECONDS) / 8)) $(SEED_WORDS)
 	$(RUST)/slips --program $(SLIP) --seconds $$(($(FUZZ_SECONDS) / 8)) $(SEED_WORDS)

@@ -5,6 +5,7 @@
 
 static const char NO_MEMORY[] = "no memory for the record";
 static const char NOT_READ[] = "cannot be read to its end";
+static const char NOT_HEX[] = "is not hexadecimal, two digits a byte";
 
 FILE *open_input(const char *name, const char **shown) {
     int standard = strcmp(name, "-") == 0;
@@ -68,8 +69,48 @@ const char *read_hex(FILE *file, struct bytes *record) {
     for (int c = next(file); c != EOF; c = next(file)) {
         int high = digit(c);
         int low = high < 0 ? -1 : digit(getc(file));
-        if (low < 0) return "is not hexadecimal, two digits a byte";
+        if (low < 0) return NOT_HEX;
         if (!put_byte(record, 16 * high + low)) return NO_MEMORY;
     }
     return ferror(file) ? NOT_READ : NULL;
+}
+
+int ends_in_hex(const char *name) {
+    size_t length = strlen(name);
+    return length >= 4 && strcmp(name + length - 4, ".hex") == 0;
+}
+
+/* The next character of a line that is neither blank nor in a comment: one of a digit's place, a newline or the end. */
+static int next_in_line(FILE *file) {
+    int c = getc(file);
+    while (c == ' ' || c == '\t' || c == '\r') c = getc(file);
+    if (c == '#')
+        while (c != '\n' && c != EOF) c = getc(file);
+    return c;
+}
+
+/* The digits up to the line's end, `c` being the first; the newline or the end behind them, or -2 and why not. */
+static int bytes_in_line(FILE *file, int c, struct bytes *record, const char **fault) {
+    for (; c != '\n' && c != EOF; c = next_in_line(file)) {
+        int high = digit(c);
+        int second = high < 0 ? c : getc(file);
+        int low = high < 0 ? -1 : digit(second);
+        *fault = low < 0 ? NOT_HEX : put_byte(record, 16 * high + low) ? NULL : NO_MEMORY;
+        if (!*fault) continue;
+        for (c = second; c != '\n' && c != EOF; c = getc(file)) {}
+        return -2;
+    }
+    return c;
+}
+
+enum line_read read_hex_line(FILE *file, struct bytes *record, const char **fault) {
+    int first = next_in_line(file);
+    if (!first_room(record)) {
+        *fault = NO_MEMORY;
+        return LINE_BAD;
+    }
+    int last = bytes_in_line(file, first, record, fault);
+    if (last == -2) return LINE_BAD;
+    if (record->length > 0) return LINE_RECORD;
+    return last == EOF ? LINE_NONE : LINE_BLANK;
 }

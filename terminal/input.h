@@ -26,4 +26,11 @@ const char *read_binary(FILE *file, struct bytes *record);
 /* Reads two hexadecimal digits a byte, with blanks and newlines between bytes, and comments from # to the line's end. */
 const char *read_hex(FILE *file, struct bytes *record);
 
+/* Whether a file of this name is read as hexadecimal. */
+int ends_in_hex(const char *name);
+
+/* Reads one line of such digits: a record; nothing but blanks and a comment; no line, at the end; or a line that cannot be read, and why. */
+enum line_read { LINE_RECORD, LINE_BLANK, LINE_NONE, LINE_BAD };
+enum line_read read_hex_line(FILE *file, struct bytes *record, const char **fault);
+
 #endif

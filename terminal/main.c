@@ -19,11 +19,6 @@ static const char USAGE[] =
 
 enum form { BY_NAME, BINARY, HEX, WORDS };
 
-static int ends_in_hex(const char *name) {
-    size_t length = strlen(name);
-    return length >= 4 && strcmp(name + length - 4, ".hex") == 0;
-}
-
 static enum status judge(const char *name, const struct bytes *record) {
     uint8_t answer[JUDGE_ANSWER_BYTES], revokes[JUDGE_REVOKE_BYTES];
     uint32_t number = judge_record(record->at, record->length, answer, sizeof answer, revokes, sizeof revokes);

@@ -4,4 +4,6 @@
 
 enum status { ACCEPTED = 0, REFUSED = 1, NOT_READ = 2 };
 
+static inline enum status worse(enum status a, enum status b) { return a > b ? a : b; }
+
 #endif

@@ -1,5 +1,6 @@
 //! A judge, a writer, a tally, a sheet, a slip and a team match for duplicate bridge, written from docs/RULES.md alone, and what is needed to compare
-//! the proved library with them: records of all shapes, damaged records, their contents, trees of tally calls, sheets, team matches.
+//! the proved library with them: records of all shapes, damaged records, their contents, tallies in bytes and forged
+//! ones, trees of tally calls, sheets, team matches.
 
 pub mod auction;
 pub mod compare;
@@ -18,7 +19,11 @@ pub mod score;
 pub mod scripts;
 pub mod sheet;
 pub mod slip;
+pub mod standings;
 pub mod tally;
+pub mod tally_calls;
+pub mod tally_cases;
+pub mod tally_trial;
 pub mod team;
 pub mod team_scripts;
 pub mod tree;
@@ -28,5 +33,7 @@ pub mod writer;
 
 #[cfg(not(feature = "stand_in"))]
 pub mod proved;
+#[cfg(not(feature = "stand_in"))]
+pub mod proved_tally;
 #[cfg(feature = "stand_in")]
 pub mod stand_in;

@@ -115,3 +115,17 @@ fn most_revokes(random: &mut Random) -> Made {
     made.parts.count();
     made
 }
+
+/// A record of a board with a given deal: a short auction, the first tricks and a claim.
+pub fn with_deal(random: &mut Random, board: u64, deal: &[u64]) -> Made {
+    let calls = calls::short(score::dealer(board as u8), random.below(4) as u8, random.between(3, 37) as u64, random.below(3) as u8);
+    let mut made = Made::new(board, random.between(1, 511) as u64, deal.to_vec(), calls);
+    let tricks = random.between(1, 12);
+    cards::fill_up_to(random, &mut made, 4 * tricks);
+    made
+}
+
+/// A deal.
+pub fn deal(random: &mut Random) -> Vec<u64> {
+    cards::deal(random)
+}

@@ -52,7 +52,7 @@ pub fn sheet(input: &[u8]) -> String {
 }
 
 /// A percentage to two decimals, rounded half up from the exact fraction: half of the divisor or more left over rounds up.
-fn share(points: u32, results: usize) -> String {
+pub fn share(points: u32, results: usize) -> String {
     if results == 1 {
         return "ALONE".to_string();
     }

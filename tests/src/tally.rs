@@ -3,6 +3,9 @@ use crate::score;
 
 pub const MOST_RESULTS: usize = 128;
 
+/// How many bytes a tally has.
+pub const TALLY_BYTES: usize = 398;
+
 /// The holders of the 52 cards.
 pub type Deal = [u8; 52];
 
@@ -42,6 +45,11 @@ impl Tally {
             1..=127 => Ok(Tally::empty(board as u8, None)),
             _ => Err((3, 0)),
         }
+    }
+
+    /// The deal of the results, where there is one.
+    pub fn deal(&self) -> Option<Deal> {
+        self.deal
     }
 
     /// Scores and counts, highest first.
@@ -132,6 +140,31 @@ impl Tally {
             && self.results() <= MOST_RESULTS
             && unused.iter().all(|&s| s == 0)
             && uncounted.iter().all(|&c| c == 0)
+    }
+
+    /// The 398 bytes: board, deal at two bits a card, scores in two's complement, counts.
+    pub fn bytes(&self) -> [u8; TALLY_BYTES] {
+        let mut bytes = [0; TALLY_BYTES];
+        bytes[0] = self.board;
+        for (card, holder) in self.deal.iter().flatten().enumerate() {
+            bytes[1 + card / 4] |= holder << (6 - 2 * (card % 4));
+        }
+        for (two, score) in bytes[14..270].chunks_exact_mut(2).zip(self.scores) {
+            two.copy_from_slice(&score.to_be_bytes());
+        }
+        bytes[270..].copy_from_slice(&self.counts);
+        bytes
+    }
+
+    /// The tally in some bytes; none where they are not 398, or not a tally as docs/RULES.md describes it.
+    pub fn read(bytes: &[u8]) -> Option<Tally> {
+        let bytes: &[u8; TALLY_BYTES] = bytes.try_into().ok()?;
+        let holders: Deal = std::array::from_fn(|card| bytes[1 + card / 4] >> (6 - 2 * (card % 4)) & 3);
+        let scores = std::array::from_fn(|k| i16::from_be_bytes([bytes[14 + 2 * k], bytes[15 + 2 * k]]));
+        let counts: [u8; MOST_RESULTS] = std::array::from_fn(|k| bytes[270 + k]);
+        let used = counts.iter().position(|&c| c == 0).unwrap_or(MOST_RESULTS);
+        let tally = Tally { board: bytes[0], deal: (used > 0).then_some(holders), used, scores, counts };
+        (tally.described() && (used > 0 || holders == [0; 52])).then_some(tally)
     }
 
     /// The matchpoints, NS and EW, of one result with a score and its deal.

@@ -1,0 +1,63 @@
+//! The proved calls on tallies in bytes, as the archive exports them.
+use crate::tally_calls::Calls;
+
+extern "C" {
+    fn tally_fresh(board: u32, out: *mut u8, out_len: usize) -> u32;
+    fn tally_add(
+        tally: *const u8,
+        tally_len: usize,
+        score: i32,
+        holders: *const u8,
+        holders_len: usize,
+        out: *mut u8,
+        out_len: usize,
+    ) -> u32;
+    fn tally_merge(a: *const u8, a_len: usize, b: *const u8, b_len: usize, out: *mut u8, out_len: usize) -> u32;
+    fn tally_matchpoints(
+        tally: *const u8,
+        tally_len: usize,
+        score: i32,
+        holders: *const u8,
+        holders_len: usize,
+        points: *mut u8,
+        points_len: usize,
+    ) -> u32;
+    fn tally_award(percent: u32, cell: *mut u8, cell_len: usize) -> u32;
+    fn tally_cell(
+        tally: *const u8,
+        tally_len: usize,
+        score: i32,
+        holders: *const u8,
+        holders_len: usize,
+        cell: *mut u8,
+        cell_len: usize,
+    ) -> u32;
+}
+
+pub const CALLS: Calls = Calls { fresh, add, merge, matchpoints, award, cell };
+
+// Rust's slices keep what the C interface trusts: true lengths and no overlap with what is written.
+
+fn fresh(board: u32, out: &mut [u8]) -> u32 {
+    unsafe { tally_fresh(board, out.as_mut_ptr(), out.len()) }
+}
+
+fn add(tally: &[u8], score: i32, holders: &[u8], out: &mut [u8]) -> u32 {
+    unsafe { tally_add(tally.as_ptr(), tally.len(), score, holders.as_ptr(), holders.len(), out.as_mut_ptr(), out.len()) }
+}
+
+pub fn merge(a: &[u8], b: &[u8], out: &mut [u8]) -> u32 {
+    unsafe { tally_merge(a.as_ptr(), a.len(), b.as_ptr(), b.len(), out.as_mut_ptr(), out.len()) }
+}
+
+fn matchpoints(tally: &[u8], score: i32, holders: &[u8], points: &mut [u8]) -> u32 {
+    unsafe { tally_matchpoints(tally.as_ptr(), tally.len(), score, holders.as_ptr(), holders.len(), points.as_mut_ptr(), points.len()) }
+}
+
+fn award(percent: u32, cell: &mut [u8]) -> u32 {
+    unsafe { tally_award(percent, cell.as_mut_ptr(), cell.len()) }
+}
+
+fn cell(tally: &[u8], score: i32, holders: &[u8], cell: &mut [u8]) -> u32 {
+    unsafe { tally_cell(tally.as_ptr(), tally.len(), score, holders.as_ptr(), holders.len(), cell.as_mut_ptr(), cell.len()) }
+}
