@@ -4,10 +4,10 @@ use outside::contents::Contents;
 use outside::making::{self, Made};
 use outside::random::Random;
 use outside::run::{output_of, stop, Words};
-use outside::tally::Tally;
+use outside::tally::{Tally, TALLY_BYTES};
 use outside::tree::numbered;
 use outside::writer::Writer;
-use outside::{judge, proved, writer};
+use outside::{judge, proved, proved_tally, tally_calls, writer};
 use std::ffi::c_long;
 use std::hint::black_box;
 
@@ -55,6 +55,12 @@ fn main() {
     written("all shapes that are accepted", &set(&mut random, making::lawful));
     written("52 cards, 319 calls", &set(&mut random, |r| full(r, 319, 319)));
     written("4 cards and a claim, 4 to 7 calls", &set(&mut random, |r| making::with_claim_after(r, 1)));
+    println!("\n| tallies merged in bytes | proved, a second | Rust, a second | proved / Rust |");
+    println!("|---|---|---|---|");
+    for results in [1, 8, 32, 64] {
+        merged(&format!("results each: {results}, of any score"), &pairs(&mut random, results, 1521));
+    }
+    merged("results each: 64, of 16 scores", &pairs(&mut random, 64, 16));
     let program = words.text("--merges").unwrap_or_else(|| stop("--merges needs the path of the program try_merges"));
     merges(program);
 }
@@ -85,6 +91,29 @@ fn written(what: &str, made: &[Made]) {
         let mut record = [0; 440];
         let number = black_box(write)(black_box(contents), black_box(&mut record));
         assert!(number < 1024, "contents that are written");
+    });
+}
+
+/// Pairs of tallies in bytes, each of so many results whose scores are drawn from so many, all of one deal.
+fn pairs(random: &mut Random, results: usize, scores: usize) -> Vec<[[u8; TALLY_BYTES]; 2]> {
+    let mut one = || {
+        let mut tally = Tally::fresh(1).expect("board 1 has a tally");
+        for _ in 0..results {
+            let score = 10 * (random.below(scores) as i32 - scores as i32 / 2);
+            tally.add(score, &numbered(0)).expect("a valid score");
+        }
+        tally.bytes()
+    };
+    (0..RECORDS).map(|_| [one(), one()]).collect()
+}
+
+/// Merges a second through the archive and by the Rust calls, which read, check and write the same bytes.
+fn merged(what: &str, pairs: &[[[u8; TALLY_BYTES]; 2]]) {
+    type Merge = fn(&[u8], &[u8], &mut [u8]) -> u32;
+    line(what, [proved_tally::merge as Merge, tally_calls::merge], pairs, |merge, [a, b]| {
+        let mut out = [0; TALLY_BYTES];
+        let number = black_box(merge)(black_box(a), black_box(b), black_box(&mut out));
+        assert_eq!(number, 0, "tallies that are merged");
     });
 }
 
