@@ -4,7 +4,7 @@ use crate::tally::{Deal, Tally, MOST_RESULTS, TALLY_BYTES};
 use crate::tally_calls::Calls;
 
 /// A call with its arguments, but for the lent buffer.
-#[derive(Clone, Debug, PartialEq, Eq)]
+#[derive(Clone, Debug)]
 pub enum Call {
     Fresh(u32),
     Add(Vec<u8>, i32, Vec<u8>),
@@ -48,13 +48,18 @@ impl Call {
     }
 
     pub fn made_by(&self, calls: &Calls, out: &mut [u8]) -> u32 {
+        self.made_on(self.parts().1, calls, out)
+    }
+
+    /// The call with its slices where they are given, of the same bytes.
+    pub fn made_on(&self, [a, b]: [&[u8]; 2], calls: &Calls, out: &mut [u8]) -> u32 {
         match self {
             Call::Fresh(board) => (calls.fresh)(*board, out),
-            Call::Add(t, s, h) => (calls.add)(t, *s, h, out),
-            Call::Merge(a, b) => (calls.merge)(a, b, out),
-            Call::Matchpoints(t, s, h) => (calls.matchpoints)(t, *s, h, out),
+            Call::Add(_, score, _) => (calls.add)(a, *score, b, out),
+            Call::Merge(..) => (calls.merge)(a, b, out),
+            Call::Matchpoints(_, score, _) => (calls.matchpoints)(a, *score, b, out),
             Call::Award(percent) => (calls.award)(*percent, out),
-            Call::Cell(t, s, h) => (calls.cell)(t, *s, h, out),
+            Call::Cell(_, score, _) => (calls.cell)(a, *score, b, out),
         }
     }
 }

@@ -55,21 +55,30 @@ impl TallyTrial {
         Ok(())
     }
 
-    /// One call by both, each lent buffer between other bytes.
+    /// One call by both, each slice between other bytes.
     fn compare(&mut self, call: &Call, room: usize) -> Result<u32, String> {
         let mut lent = self.random.bytes(room + 2 * AROUND);
         let mut due = lent.clone();
         let own = call.made_by(&CALLS, &mut due[AROUND..AROUND + room]);
-        let given = call.clone();
-        let returned = given.made_by(&self.calls, &mut lent[AROUND..AROUND + room]);
+        let given = call.parts().1.map(|slice| self.between(slice));
+        let before = given.clone();
+        let slices = [0, 1].map(|k| &given[k][AROUND..given[k].len() - AROUND]);
+        let returned = call.made_on(slices, &self.calls, &mut lent[AROUND..AROUND + room]);
         let shown = || format!("a buffer of {room} bytes: {call:02x?}");
         if returned != own {
             return Err(format!("returned {returned}, to be {own}\n{}", shown()));
         }
-        if lent != due || given != *call {
+        if lent != due {
             return Err(format!("returned {returned}, but other bytes\n{lent:02x?}\nto be\n{due:02x?}\n{}", shown()));
         }
+        if given != before {
+            return Err(format!("returned {returned}, and changed what it was given\n{}", shown()));
+        }
         Ok(own)
+    }
+
+    fn between(&mut self, slice: &[u8]) -> Vec<u8> {
+        [self.random.bytes(AROUND), slice.to_vec(), self.random.bytes(AROUND)].concat()
     }
 
     /// What occurred, in words.
