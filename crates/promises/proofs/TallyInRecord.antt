@@ -6,14 +6,16 @@ use mathlib.Core.Path.{_≡_, sym, ap, _∙_}
 use mathlib.Core.List.{List, [], _∷_}
 use lib.ListN.{length, getD}
 use lib.Seq.{slice, length-slice, ext-getD}
+use Rattle.laws.specs.Bytes.{Bytes}
 use Rattle.laws.specs.Lawful.{Lawful}
 use Rattle.laws.specs.Reading.{numberAt}
-use Rattle.laws.specs.Record.{Parts, row, bits, layout, encode}
+use Rattle.laws.specs.Record.{Parts, row, bits, padded, number, layout, packed, encode}
+use Rattle.laws.proofs.Bytes.{bytes-of}
 use Rattle.laws.proofs.Exact.{stands-here, stands-rest}
 use Rattle.laws.proofs.LawfulParts.{lawful-fits}
 use Rattle.laws.proofs.Spelled.{Stands, holds, stands-front}
-use Rattle.tally.specs.InBytes.{dealIn}
-use Rattle.tally.proofs.InBytes.{length-deal-in}
+use Rattle.tally.specs.InBytes.{dealBytes, dealIn}
+use Rattle.tally.proofs.InBytes.{length-deal-in, bytes-deal-back, slice-bytes}
 use Rattle.tally_bytes.proofs.Places.{slice-at, holder-in}
 use Rattle.judge.proofs.Dealing.{holder-is}
 
@@ -40,8 +42,8 @@ module _ (p : Parts) (ok : Lawful p) where
   enough : 15 ≤ length (encode p)
   enough = omega (arith, deal-stands .whole, row-bits 2 (p .deal), ok .layout .holders)
 
-  pub as-in-record : dealIn (slice 2 15 (encode p)) ≡ p .deal
-  as-in-record =
+  read-there : dealIn (slice 2 15 (encode p)) ≡ p .deal
+  read-there =
       let s = slice 2 15 (encode p) in
       let thirteen : length s ≡ 13 = length-slice 2 15 (encode p) enough in
       let many : length (dealIn s) ≡ 52 = omega (arith, length-deal-in s) in
@@ -50,3 +52,12 @@ module _ (p : Parts) (ok : Lawful p) where
       holder-in s i (omega arith)
       ∙ rw (slice-at 2 15 (encode p) (i / 4) (omega arith)) (holder-is (encode p) i)
       ∙ sym (row-at 2 (encode p) 16 (p .deal) deal-stands i (omega (arith, ok .layout .holders))))
+
+  record-bytes : Bytes (encode p)
+  unfolding encode packed
+  record-bytes = bytes-of (bits (padded (layout p)) / 8) (number (padded (layout p)))
+
+  pub as-in-record : (slice 2 15 (encode p) ≡ dealBytes (p .deal)) × (dealIn (slice 2 15 (encode p)) ≡ p .deal)
+  as-in-record =
+      let s = slice 2 15 (encode p) in
+      (sym (bytes-deal-back s (slice-bytes 2 15 (encode p) record-bytes)) ∙ ap dealBytes read-there, read-there)

@@ -16,7 +16,7 @@ use Rattle.laws.specs.Lawful.{Lawful}
 use Rattle.laws.specs.Record.{Parts, encode}
 use Rattle.laws.specs.Refusals.{Placed, refusedAt, given, shortBuffer, noBoardOrTable, malformedTally, invalidScore}
 use Rattle.tally.specs.declared.Tally.{Tally}
-use Rattle.tally.specs.InBytes.{dealIn, tallyBytes, tallyIn, InRange}
+use Rattle.tally.specs.InBytes.{dealBytes, dealIn, tallyBytes, tallyIn, InRange}
 use Rattle.tally.specs.Tallies.{wellFormed, noTally}
 use Rattle.tally_calls.specs.Calls.{numberOf, bufferLeft, freshCall, addCall, mergeCall, matchpointsCall, awardCall, cellCall}
 
@@ -33,8 +33,8 @@ pub record OfTallyBytes : Type 0 where
   pub zeros : tallyBytes noTally ≡ replicate 398 0
   -- any other number of bytes is read as the all-zero one
   pub other-length : (bytes : List ℕ) → (length bytes ≡ 398 → ⊥) → tallyIn bytes ≡ noTally
-  -- the deal's thirteen bytes are those that a record has behind board and table
-  pub as-in-record : (p : Parts) → Lawful p → dealIn (slice 2 15 (encode p)) ≡ p .deal
+  -- the deal's thirteen bytes are those that a record has behind board and table, written and read
+  pub as-in-record : (p : Parts) → Lawful p → (slice 2 15 (encode p) ≡ dealBytes (p .deal)) × (dealIn (slice 2 15 (encode p)) ≡ p .deal)
 
 -- ---- the number and the buffer
 -- the refusals of the calls

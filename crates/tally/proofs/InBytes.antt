@@ -50,7 +50,7 @@ byte-back : (x : ℕ) → x < 256 → x / 64 % 4 % 4 * 64 + x / 16 % 4 % 4 * 16 
 byte-back x h =
     digits _ _ _ _ (x / 64) (x / 16) (x / 4) x (omega arith) (omega arith) (omega arith) (omega arith)
 
-bytes-deal-back : (bytes : List ℕ) → Bytes bytes → dealBytes (dealIn bytes) ≡ bytes
+pub bytes-deal-back : (bytes : List ℕ) → Bytes bytes → dealBytes (dealIn bytes) ≡ bytes
 unfolding dealIn dealBytes
 bytes-deal-back [] h = refl
 bytes-deal-back (x ∷ bytes) h = ap₂ (λ (y : ℕ) (l : List ℕ). y ∷ l) (byte-back x (h 0)) (bytes-deal-back bytes (λ k. h (suc k)))
@@ -197,7 +197,7 @@ take-bytes (suc n) [] h i = lit< tt
 take-bytes (suc n) (x ∷ l) h zero = h 0
 take-bytes (suc n) (x ∷ l) h (suc i) = take-bytes n l (λ k. h (suc k)) i
 
-slice-bytes : (n m : ℕ) (l : List ℕ) → Bytes l → Bytes (slice n m l)
+pub slice-bytes : (n m : ℕ) (l : List ℕ) → Bytes l → Bytes (slice n m l)
 slice-bytes n m l h i = rw (getD-drop n (take m l) i 0) (take-bytes m l h (n + i))
 
 pub bytes-back : (bytes : List ℕ) → length bytes ≡ 398 → Bytes bytes → tallyBytes (tallyIn bytes) ≡ bytes
