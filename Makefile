@@ -18,7 +18,8 @@ SLIPS = 10000
 TEAMS = 3000
 BLOCKS = 20000
 
-# The archive that judges and writes, a member for each; build/stand-in/libjudge.a has the Rust judge and writer behind the same interface.
+# The archive that judges and writes, a member for each; build/stand-in/libjudge.a has the Rust judge and writer behind the same interface,
+# as build/stand-in/libtally.a has the Rust tally behind that of build/libtally.a.
 ARCHIVE = build/libjudge.a
 TALLY_ARCHIVE = build/libtally.a
 TREE = target/bin/tree
@@ -73,7 +74,7 @@ build/libtally.a: target/staticlib/libtally_calls.a
 target/bin/%: $(SOURCES)
 	rt check $*
 
-build/stand-in/libjudge.a: FORCE
+build/stand-in/libjudge.a build/stand-in/libtally.a: FORCE
 	$(CARGO) rustc --release --offline --locked --quiet --lib --crate-type staticlib --features stand_in
 	mkdir -p $(@D)
 	cp $(RUST)/liboutside.a $@

@@ -52,9 +52,9 @@ done
 same "boards refused" "$(grep -c ' refused$' "$work/standings")" 4
 
 # The two sections of samples/, both ways.
-for text in samples/sections/*.txt; do "$terminal" -w "$text" >"$work/records/$(basename "$text" .txt)"; done
+for text in samples/sections/*.txt; do "$terminal" -w "$text" >"$work/sample-$(basename "$text" .txt)"; done
 for k in a b; do
-    "$section" "$work/tallies-$k" "$work/records/$k"-*
+    "$section" "$work/tallies-$k" "$work/sample-$k"-*
     same "section $k of the samples" $? 0
 done
 for order in "a b" "b a"; do

@@ -1,5 +1,6 @@
-//! The judge and the writer written here behind the C interface of the proved ones, to try the C side with others.
+//! The judge, the writer and the calls on tallies written here behind the C interfaces of the proved ones, to try the C side with others.
 use crate::contents::Contents;
+use crate::tally_calls;
 
 /// # Safety
 /// Each pointer has as many bytes as its length says, and no two slices overlap. A null pointer has no bytes.
@@ -52,4 +53,65 @@ unsafe fn lent<'a>(at: *mut u8, length: usize) -> &'a mut [u8] {
     } else {
         std::slice::from_raw_parts_mut(at, length)
     }
+}
+
+/// # Safety
+/// As for `judge_record`, here and below.
+#[no_mangle]
+pub unsafe extern "C" fn tally_fresh(board: u32, out: *mut u8, out_len: usize) -> u32 {
+    tally_calls::fresh(board, lent(out, out_len))
+}
+
+/// # Safety
+#[no_mangle]
+pub unsafe extern "C" fn tally_add(
+    tally: *const u8,
+    tally_len: usize,
+    score: i32,
+    holders: *const u8,
+    holders_len: usize,
+    out: *mut u8,
+    out_len: usize,
+) -> u32 {
+    tally_calls::add(given(tally, tally_len), score, given(holders, holders_len), lent(out, out_len))
+}
+
+/// # Safety
+#[no_mangle]
+pub unsafe extern "C" fn tally_merge(a: *const u8, a_len: usize, b: *const u8, b_len: usize, out: *mut u8, out_len: usize) -> u32 {
+    tally_calls::merge(given(a, a_len), given(b, b_len), lent(out, out_len))
+}
+
+/// # Safety
+#[no_mangle]
+pub unsafe extern "C" fn tally_matchpoints(
+    tally: *const u8,
+    tally_len: usize,
+    score: i32,
+    holders: *const u8,
+    holders_len: usize,
+    points: *mut u8,
+    points_len: usize,
+) -> u32 {
+    tally_calls::matchpoints(given(tally, tally_len), score, given(holders, holders_len), lent(points, points_len))
+}
+
+/// # Safety
+#[no_mangle]
+pub unsafe extern "C" fn tally_award(percent: u32, cell: *mut u8, cell_len: usize) -> u32 {
+    tally_calls::award(percent, lent(cell, cell_len))
+}
+
+/// # Safety
+#[no_mangle]
+pub unsafe extern "C" fn tally_cell(
+    tally: *const u8,
+    tally_len: usize,
+    score: i32,
+    holders: *const u8,
+    holders_len: usize,
+    cell: *mut u8,
+    cell_len: usize,
+) -> u32 {
+    tally_calls::cell(given(tally, tally_len), score, given(holders, holders_len), lent(cell, cell_len))
 }
