@@ -10,7 +10,8 @@ PREFIX = /usr/local
 FUZZ_SECONDS = 60
 SEED =
 RECORDS = 1000000
-WRITES = 300000
+PENALTIES = 400000
+WRITES = 500000
 TALLIES = 1000000
 TREES = 20000
 SHEETS = 3000
@@ -156,8 +157,10 @@ outside: tools build/rust-built build/terminal build/section build/standings $(T
 	rm -rf build/installed
 	@$(MAKE) --no-print-directory install-files PREFIX=$(abspath build/installed)
 	tests/install.sh $(abspath build/installed) $(CC)
-	$(CARGO) test --release --offline --locked --quiet --test examples --test refusals --test faults --test write_refusals --test write_faults --test tally_bytes --test tally_faults
+	$(CARGO) test --release --offline --locked --quiet --test examples --test refusals --test faults --test write_refusals --test write_faults \
+	    --test penalty_cards --test penalty_bounds --test penalty_faults --test tally_bytes --test tally_faults
 	$(RUST)/records --count $(RECORDS) $(SEED_WORDS)
+	$(RUST)/penalties --count $(PENALTIES) $(SEED_WORDS)
 	$(RUST)/writes --count $(WRITES) $(SEED_WORDS)
 	$(RUST)/tallies --count $(TALLIES) $(SEED_WORDS)
 	$(RUST)/trees --program $(TREE) --count $(TREES) $(SEED_WORDS)
@@ -176,15 +179,16 @@ outside: tools build/rust-built build/terminal build/section build/standings $(T
 	$(CC) $(CFLAGS) -Iinclude tests/c/stack.c $(ARCHIVE) -o build/stack
 	build/stack build/blocks.records
 
-# A quarter of the time for records, an eighth each for contents, tallies, trees, sheets, slips and team matches.
+# A fifth of the time for records, a tenth each for records with penalty cards, contents, tallies, trees, sheets, slips and team matches.
 fuzz: build/rust-built $(TREE) $(SHEET) $(CELLS) $(SLIP) $(TEAM)
-	$(RUST)/records --seconds $$(($(FUZZ_SECONDS) / 4)) $(SEED_WORDS)
-	$(RUST)/writes --seconds $$(($(FUZZ_SECONDS) / 8)) $(SEED_WORDS)
-	$(RUST)/tallies --seconds $$(($(FUZZ_SECONDS) / 8)) $(SEED_WORDS)
-	$(RUST)/trees --program $(TREE) --seconds $$(($(FUZZ_SECONDS) / 8)) $(SEED_WORDS)
-	$(RUST)/sheets --program $(SHEET) --cells $(CELLS) --seconds $$(($(FUZZ_SECONDS) / 8)) $(SEED_WORDS)
-	$(RUST)/slips --program $(SLIP) --seconds $$(($(FUZZ_SECONDS) / 8)) $(SEED_WORDS)
-	$(RUST)/teams --program $(TEAM) --seconds $$(($(FUZZ_SECONDS) / 8)) $(SEED_WORDS)
+	$(RUST)/records --seconds $$(($(FUZZ_SECONDS) / 5)) $(SEED_WORDS)
+	$(RUST)/penalties --seconds $$(($(FUZZ_SECONDS) / 10)) $(SEED_WORDS)
+	$(RUST)/writes --seconds $$(($(FUZZ_SECONDS) / 10)) $(SEED_WORDS)
+	$(RUST)/tallies --seconds $$(($(FUZZ_SECONDS) / 10)) $(SEED_WORDS)
+	$(RUST)/trees --program $(TREE) --seconds $$(($(FUZZ_SECONDS) / 10)) $(SEED_WORDS)
+	$(RUST)/sheets --program $(SHEET) --cells $(CELLS) --seconds $$(($(FUZZ_SECONDS) / 10)) $(SEED_WORDS)
+	$(RUST)/slips --program $(SLIP) --seconds $$(($(FUZZ_SECONDS) / 10)) $(SEED_WORDS)
+	$(RUST)/teams --program $(TEAM) --seconds $$(($(FUZZ_SECONDS) / 10)) $(SEED_WORDS)
 
 bench: build/rust-built $(MERGES)
 	$(RUST)/bench --merges $(MERGES)

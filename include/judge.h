@@ -11,33 +11,40 @@
 #include <stdint.h>
 
 /* The version of this interface. A changed signature or size raises the first number, a function more the second. */
-#define JUDGE_VERSION_MAJOR 2
+#define JUDGE_VERSION_MAJOR 3
 #define JUDGE_VERSION_MINOR 0
 
 #ifdef __cplusplus
 extern "C" {
 #endif
 
-/* The least lengths of the two buffers, and the most bytes that an accepted record has: this too is proved. */
-enum { JUDGE_ANSWER_BYTES = 7, JUDGE_REVOKE_BYTES = 36, JUDGE_RECORD_MOST = 440 };
+/* The least lengths of the three buffers, and a number of bytes that no accepted record exceeds: this too is proved. */
+enum { JUDGE_ANSWER_BYTES = 7, JUDGE_REVOKE_BYTES = 48, JUDGE_FAILURE_BYTES = 52, JUDGE_RECORD_MOST = 505 };
 
 /* Judges one table record.
  *
- * Returns 0 if the record is accepted: seven bytes of `answer` are filled, and one byte of `revokes` for each revoke, in order of play.
- * Their other bytes stay as they were. Otherwise returns refusal * 1024 + place, and no byte of either buffer is changed. The record
- * is never changed. Nothing is kept between calls, so calls may run at the same time.
+ * Returns 0 if the record is accepted. Then
+ *   - seven bytes of `answer` are filled;
+ *   - one byte of `revokes` is filled for each revoke, in order of play;
+ *   - 52 bytes of `failures` are written: two for each play against Law 50C or 50D1, which Law 52 calls a failure to play a penalty
+ *     card, in order of play, and zeros behind them, also where there is none;
+ *   - the other bytes of the three buffers stay as they were.
+ * Otherwise returns refusal * 1024 + place, and no byte of any buffer is changed. The record is never changed. Nothing is kept between
+ * calls, so calls may run at the same time.
  *
  * No record and no length is trusted. What C has to see to is this, and nothing else:
- *   - each pointer has as many bytes as the length beside it says, the two buffers writable;
- *   - no two of the three overlap.
+ *   - each pointer has as many bytes as the length beside it says, the three buffers writable;
+ *   - no two of the four overlap.
  * A null pointer beside the length 0 meets both: nothing is read or written through it. A null record is refused with 2, a null buffer
  * with 1. */
 uint32_t judge_record(const uint8_t *record, size_t record_len, uint8_t *answer, size_t answer_len, uint8_t *revokes,
-                      size_t revokes_len);
+                      size_t revokes_len, uint8_t *failures, size_t failures_len);
 
 /* Writes one table record from its contents: the board, the table, the seat that was dealt card 0, 1, .. 51, the codes of the calls and
  * of the cards in their order, and a claim. Among the calls, code 38 marks the next one as an insufficient bid that was accepted.
- * `marked` 0 is no claim, anything else a claim of `claim` tricks for declarer's side.
+ * Among the cards, 52, a card and a bit say that a defender's card was exposed before the next card was played, 1 for deliberately; 53, a
+ * kind and a suit that declarer requires (0) or forbids (1) the suit for the defender's lead that is the next card. `marked` 0 is no
+ * claim, anything else a claim of `claim` tricks for declarer's side.
  *
  * Returns the number of bytes written, at most JUDGE_RECORD_MOST: the record stands at the front of `record`, and the bytes behind it
  * stay as they were. judge_record accepts what is written; and the contents of any record that it accepts are written as the same bytes
@@ -46,8 +53,10 @@ uint32_t judge_record(const uint8_t *record, size_t record_len, uint8_t *answer,
  * No number and no length is trusted. Contents that judge_record would refuse are refused as it does, with the same number and place in
  * the same order; 1, 2 and 16 do not occur. Of numbers that no record can hold: a board over 127 or a table over 511 is 3; a holder over 3,
  * or another number of holders than 52, is 4 with place 4, before the cards of each seat are counted; more than 511 codes of calls are 33
- * with place 511, before any of them is looked at; a code over 63 is 5 or 11; over 63 cards are 10 with place 63; a claim over 15 is 15
- * with place 15. Last comes 22, for a buffer that is too short.
+ * with place 511, before any of them is looked at; a code over 63 is 5 or 11; over 63 cards are 10 with place 63; an exposed number over
+ * 51 is 25, and a suit over 3 is 26; a claim over 15 is 15 with place 15. A 52 or 53 with fewer than two numbers behind it, with a bit or
+ * kind over 1, or with no card after it in the list is 26 with the number of cards before it as its place, directly after 27. Last comes
+ * 22, for a buffer that is too short.
  *
  * What C has to see to is what it has to for judge_record, of these four slices: true lengths, the buffer writable and apart from the
  * other three. A null pointer beside the length 0 is taken. Nothing is kept between calls. */
@@ -55,21 +64,23 @@ uint32_t judge_write_record(uint32_t board, uint32_t table, const uint8_t *holde
                             size_t calls_len, const uint8_t *cards, size_t cards_len, uint32_t marked, uint32_t claim,
                             uint8_t *record, size_t record_len);
 
-/* The refusals by number. Calls and plays count from 0; a mark counts among the calls, and takes no turn.
+/* The refusals by number. Calls and plays count from 0; a mark counts among the calls, and takes no turn; an exposure or a choice does not
+ * count among the plays, and its place is that of the card that it stands before.
  *
  * The number is no rank. One refusal is returned, the first that applies in this order:
- *   - the buffers: 1, for the answer, then for the revokes;
+ *   - the buffers: 1, for the answer, then for the revokes, then for the failures;
  *   - board and table: both are read (2 where the record ends), then 3, for the board, then for the table;
  *   - the deal: it is read whole (2), then 4;
  *   - the number of calls (2); then for each code in turn: it is read (2), then 5, then 8, then 24 after a mark, else 6 or 7;
  *     after the last code 9;
- *   - the number of cards (2), then 10; then for each card in turn: it is read (2), then 11, then 12 or 23;
+ *   - the number of cards (2), then 10; then for each card in turn, with the exposures and choices before it: six bits are read (2), then
+ *     11; of a 52 or 53, 27, then its other bits are read (2), then 25 or 26; of a card, 12 or 23;
  *   - the claim's mark (2); unmarked, 13; marked, 14, then the claim is read (2), then 15;
  *   - 16.
  * So the record 00 01 is refused with 3 and not with 2, and a bid after the end that is too low as well with 8 and not with 6. */
 enum judge_refusal {
     JUDGE_ACCEPTED = 0,
-    JUDGE_BUFFER_TOO_SHORT = 1,      /* place 0: answer under 7 bytes; 1: revokes under 36 */
+    JUDGE_BUFFER_TOO_SHORT = 1,      /* place 0: answer under 7 bytes; 1: revokes under 48; 2: failures under 52 */
     JUDGE_RECORD_ENDS = 2,           /* the record ends before a field is whole; place 0 */
     JUDGE_NO_BOARD_OR_TABLE = 3,     /* place 0: board 0, or over 127; 1: table 0, or over 511 */
     JUDGE_NOT_THIRTEEN_CARDS = 4,    /* Law 1; place: the first such seat; 4: not 52 holders from 0 to 3 */
@@ -79,7 +90,7 @@ enum judge_refusal {
     JUDGE_CALL_AFTER_END = 8,        /* Law 39; place: the call */
     JUDGE_AUCTION_NOT_OVER = 9,      /* Law 22; place: the number of calls */
     JUDGE_PLAY_COUNT = 10,           /* over 52, or over 0 when passed out; place: the play count, at most 63 */
-    JUDGE_NO_SUCH_CARD = 11,         /* card code from 52 on; place: the play */
+    JUDGE_NO_SUCH_CARD = 11,         /* card code from 54 on; place: the play */
     JUDGE_CARD_NOT_HELD = 12,        /* Law 44: card dealt to another seat; place: the play */
     JUDGE_CARDS_MISSING = 13,        /* a contract, no claim, under 52 cards; place: the play count */
     JUDGE_CLAIM_NOT_ALLOWED = 14,    /* Law 68: claim after no card or all 52, or passed out; place: the play count */
@@ -88,6 +99,9 @@ enum judge_refusal {
     JUDGE_NO_ROOM_FOR_RECORD = 22,   /* judge_write_record alone: the buffer is too short for the record; place 0 */
     JUDGE_CARD_ALREADY_PLAYED = 23,  /* Law 44: card that this seat has played already; place: the play */
     JUDGE_MARK_NOT_ALLOWED = 24,     /* Law 27A: mark not followed by a bid at or below a last bid; place: the mark */
+    JUDGE_EXPOSURE_NOT_ALLOWED = 25, /* Law 48: exposed is no card in a defender's hand, or is faced already; place: the play */
+    JUDGE_CHOICE_NOT_OPEN = 26,      /* Law 50D2: choice for a lead that is not open; writing, a code that is broken or has no card after it; place: the play */
+    JUDGE_TOO_MANY_CODES = 27,       /* more than 40 exposures and choices; place: the play */
     JUDGE_TOO_MANY_CALLS = 33        /* judge_write_record alone: more than 511 codes of calls; place 511 */
 };
 
@@ -132,7 +146,7 @@ static inline struct judge_judgement judge_unpack(const uint8_t answer[JUDGE_ANS
 struct judge_revoke {
     unsigned trick; /* 1 to 13 */
     unsigned seat;
-    unsigned suit;  /* the suit led */
+    unsigned suit;  /* following, the suit led; leading, the suit required, or the forbidden suit that was led */
 };
 
 /* One byte of the list of revokes, apart. */
@@ -142,6 +156,30 @@ static inline struct judge_revoke judge_unpack_revoke(uint8_t byte) {
     r.seat = byte >> 2 & 3u;
     r.suit = byte & 3u;
     return r;
+}
+
+/* A play against Law 50C or 50D1. Cards: 13 * suit + rank, rank 0 for the two. */
+struct judge_failure {
+    unsigned trick; /* 1 to 13; 0 behind the last entry, and then all is 0 */
+    unsigned seat;
+    unsigned card;  /* the card played */
+};
+
+/* Entry 0, 1, .. 25 of the failures of an accepted record, apart. */
+static inline struct judge_failure judge_unpack_failure(const uint8_t failures[JUDGE_FAILURE_BYTES], unsigned entry) {
+    struct judge_failure f;
+    unsigned word = (unsigned)failures[2 * entry] << 8 | failures[2 * entry + 1];
+    f.trick = word >> 12;
+    f.seat = word >> 10 & 3u;
+    f.card = word >> 4 & 63u;
+    return f;
+}
+
+/* The number of entries: those before the first with trick 0. */
+static inline unsigned judge_count_failures(const uint8_t failures[JUDGE_FAILURE_BYTES]) {
+    unsigned count = 0;
+    while (count < JUDGE_FAILURE_BYTES / 2 && judge_unpack_failure(failures, count).trick > 0) count++;
+    return count;
 }
 
 #ifdef __cplusplus

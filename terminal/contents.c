@@ -68,20 +68,58 @@ static int call(const char *name) {
     return -1;
 }
 
+/* The number of a suit, `S` for spades; -1 for any other word. */
+static int suit(const char *name) { return name[0] && !name[1] ? place(SUITS, name[0]) : -1; }
+
 /* The code of a card, `SA` for the ace of spades; -1 for any other word. */
 static int card(const char *name) {
-    int suit = place(SUITS, name[0]), rank = suit < 0 ? -1 : place(RANKS, name[1]);
-    return rank < 0 || name[2] ? -1 : 13 * suit + rank;
+    int of_suit = place(SUITS, name[0]), rank = of_suit < 0 ? -1 : place(RANKS, name[1]);
+    return rank < 0 || name[2] ? -1 : 13 * of_suit + rank;
 }
 
-/* The words of a line, each a code. */
-static const char *codes(struct bytes *list, char *rest, int (*code_of)(const char *), const char *fault) {
-    for (const char *name = word(&rest); *name; name = word(&rest)) {
-        int code = code_of(name);
-        if (code < 0) return fault;
-        if (!put_byte(list, code)) return NO_MEMORY;
+static const char *put_call(struct bytes *list, const char *name) {
+    int code = call(name);
+    if (code < 0) return "no such call";
+    return put_byte(list, code) ? NULL : NO_MEMORY;
+}
+
+static const char *put_card(struct bytes *list, const char *name) {
+    int code = card(name);
+    if (code < 0) return "no such card";
+    return put_byte(list, code) ? NULL : NO_MEMORY;
+}
+
+/* An exposure: 52, the card, and 1 where it was deliberate. */
+static const char *put_exposure(struct bytes *list, const char *name, int deliberate) {
+    if (!put_byte(list, 52)) return NO_MEMORY;
+    const char *fault = put_card(list, name);
+    if (fault) return fault;
+    return put_byte(list, deliberate) ? NULL : NO_MEMORY;
+}
+
+/* A choice for a lead: 53, 1 where the suit is forbidden, and the suit. */
+static const char *put_choice(struct bytes *list, const char *name, int forbidden) {
+    int code = suit(name);
+    if (code < 0) return "no such suit";
+    return put_byte(list, 53) && put_byte(list, forbidden) && put_byte(list, code) ? NULL : NO_MEMORY;
+}
+
+/* A card; `?SA`, it was exposed by accident; `!SA`, deliberately; `+S`, spades are required of the lead; `-S`, they are forbidden. */
+static const char *put_play(struct bytes *list, const char *name) {
+    switch (name[0]) {
+    case '?': return put_exposure(list, name + 1, 0);
+    case '!': return put_exposure(list, name + 1, 1);
+    case '+': return put_choice(list, name + 1, 0);
+    case '-': return put_choice(list, name + 1, 1);
+    default: return put_card(list, name);
     }
-    return NULL;
+}
+
+/* Puts what each word of a line says at the end of a list. */
+static const char *put_each(struct bytes *list, char *rest, const char *(*put)(struct bytes *, const char *)) {
+    const char *fault = NULL;
+    for (const char *name = word(&rest); *name && !fault; name = word(&rest)) fault = put(list, name);
+    return fault;
 }
 
 static const char *read_line(struct contents *c, char *rest) {
@@ -91,8 +129,8 @@ static const char *read_line(struct contents *c, char *rest) {
     if (strcmp(what, "board") == 0) return number(word(&rest), &c->board);
     if (strcmp(what, "table") == 0) return number(word(&rest), &c->table);
     if (strcmp(what, "hand") == 0) return hand(c->holders, rest);
-    if (strcmp(what, "calls") == 0) return codes(&c->calls, rest, call, "no such call");
-    if (strcmp(what, "trick") == 0) return codes(&c->cards, rest, card, "no such card");
+    if (strcmp(what, "calls") == 0) return put_each(&c->calls, rest, put_call);
+    if (strcmp(what, "trick") == 0) return put_each(&c->cards, rest, put_play);
     if (strcmp(what, "missing") == 0) return "a record is written whole";
     if (strcmp(what, "claim") != 0) return "this says nothing of a record";
     c->marked = 1;

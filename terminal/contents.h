@@ -13,7 +13,7 @@ enum { NO_HAND = 4 };
 struct contents {
     uint32_t board, table;
     uint8_t holders[52];
-    struct bytes calls, cards; /* the caller frees both */
+    struct bytes calls, cards; /* as the writer takes them, exposures and choices among the cards; the caller frees both */
     uint32_t marked, claim;
 };
 

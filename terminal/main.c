@@ -15,15 +15,17 @@ static const char USAGE[] =
     "Judges the table record in each FILE, or in standard input where there is none or it is -.\n"
     "A file is read as bytes, or as hexadecimal where its name ends in .hex; -b and -x say so for all.\n"
     "With -w, writes the bytes of the record that FILE, or standard input, has in words, as samples/README.md describes them.\n"
+    "Among the cards ?C7 is the seven of clubs exposed by accident, !C7 deliberately, +C clubs required of the lead, -C forbidden.\n"
     "Calls and plays count from 0. Exits 0 if all were accepted, 1 if one was refused, 2 if one could not be read.\n";
 
 enum form { BY_NAME, BINARY, HEX, WORDS };
 
 static enum status judge(const char *name, const struct bytes *record) {
-    uint8_t answer[JUDGE_ANSWER_BYTES], revokes[JUDGE_REVOKE_BYTES];
-    uint32_t number = judge_record(record->at, record->length, answer, sizeof answer, revokes, sizeof revokes);
+    uint8_t answer[JUDGE_ANSWER_BYTES], revokes[JUDGE_REVOKE_BYTES], failures[JUDGE_FAILURE_BYTES];
+    uint32_t number =
+        judge_record(record->at, record->length, answer, sizeof answer, revokes, sizeof revokes, failures, sizeof failures);
     if (number == 0) {
-        print_judgement(stdout, answer, revokes);
+        print_judgement(stdout, answer, revokes, failures);
         return ACCEPTED;
     }
     printf("%s: refused, ", name);

@@ -5,6 +5,8 @@
 static const char *const SEATS[] = {"N", "E", "S", "W"};
 static const char *const STRAINS[] = {"C", "D", "H", "S", "NT"};
 static const char *const SUITS[] = {"clubs", "diamonds", "hearts", "spades"};
+static const char SUIT_LETTERS[] = "CDHS";
+static const char RANKS[] = "23456789TJQKA";
 static const char *const DOUBLINGS[] = {"", " doubled", " redoubled"};
 
 static void print_revokes(FILE *out, const uint8_t *revokes, unsigned count) {
@@ -15,7 +17,16 @@ static void print_revokes(FILE *out, const uint8_t *revokes, unsigned count) {
     }
 }
 
-void print_judgement(FILE *out, const uint8_t *answer, const uint8_t *revokes) {
+static void print_failures(FILE *out, const uint8_t *failures) {
+    unsigned count = judge_count_failures(failures);
+    const char *before = count > 1 ? "; failures to play a penalty card: " : "; failure to play a penalty card: ";
+    for (unsigned k = 0; k < count; k++) {
+        struct judge_failure f = judge_unpack_failure(failures, k);
+        fprintf(out, "%strick %u, %s plays %c%c", k > 0 ? "; " : before, f.trick, SEATS[f.seat], SUIT_LETTERS[f.card / 13], RANKS[f.card % 13]);
+    }
+}
+
+void print_judgement(FILE *out, const uint8_t *answer, const uint8_t *revokes, const uint8_t *failures) {
     struct judge_judgement j = judge_unpack(answer);
     fprintf(out, "Board %u table %u: ", j.board, j.table);
     if (j.level == 0) {
@@ -27,14 +38,17 @@ void print_judgement(FILE *out, const uint8_t *answer, const uint8_t *revokes) {
     if (j.revokes > 0) fprintf(out, "%u after Law 64, ", j.tricks_after_64);
     fprintf(out, "NS %d", j.score);
     print_revokes(out, revokes, j.revokes);
+    print_failures(out, failures);
     fprintf(out, "\n");
 }
+
+static const char *const SHORT_BUFFERS[] = {"answer under 7 bytes", "list of revokes under 48 bytes", "list of failures under 52 bytes"};
 
 void print_refusal(FILE *out, uint32_t number) {
     unsigned place = judge_place_of(number);
     switch (judge_refusal_of(number)) {
     case JUDGE_ACCEPTED: fprintf(out, "accepted\n"); return;
-    case JUDGE_BUFFER_TOO_SHORT: fprintf(out, place ? "list of revokes under 36 bytes\n" : "answer under 7 bytes\n"); return;
+    case JUDGE_BUFFER_TOO_SHORT: fprintf(out, "%s\n", SHORT_BUFFERS[place]); return;
     case JUDGE_RECORD_ENDS: fprintf(out, "the record ends before a field is whole\n"); return;
     case JUDGE_NO_BOARD_OR_TABLE: fprintf(out, place ? "table not 1 to 511\n" : "board not 1 to 127\n"); return;
     case JUDGE_NOT_THIRTEEN_CARDS:
@@ -57,6 +71,9 @@ void print_refusal(FILE *out, uint32_t number) {
     case JUDGE_CLAIM_TOO_HIGH: fprintf(out, "claim of %u%s: more tricks than are left\n", place, place < 15 ? "" : " or more"); return;
     case JUDGE_NO_ROOM_FOR_RECORD: fprintf(out, "no room for the record\n"); return;
     case JUDGE_MARK_NOT_ALLOWED: fprintf(out, "call %u: mark not followed by a bid at or below a last bid\n", place); return;
+    case JUDGE_EXPOSURE_NOT_ALLOWED: fprintf(out, "play %u: exposed is no card in a defender's hand, or is faced already\n", place); return;
+    case JUDGE_CHOICE_NOT_OPEN: fprintf(out, "play %u: choice of a lead not open, or no card after an exposure or choice\n", place); return;
+    case JUDGE_TOO_MANY_CODES: fprintf(out, "play %u: more than 40 exposures and choices\n", place); return;
     case JUDGE_TOO_MANY_CALLS: fprintf(out, "more than %u calls and marks\n", place); return;
     case JUDGE_CARD_ALREADY_PLAYED: fprintf(out, "play %u: card already played\n", place); return;
     case JUDGE_NOT_ENDED: fprintf(out, "a padding bit is 1, or a byte follows the record\n"); return;

@@ -5,8 +5,9 @@
 #include <stdint.h>
 #include <stdio.h>
 
-/* `Board 7 table 12: 4S doubled by N, 10 tricks, 9 after Law 64, NS -200; revoke: trick 5, N, hearts`, and a newline. */
-void print_judgement(FILE *out, const uint8_t *answer, const uint8_t *revokes);
+/* `Board 7 table 12: 4S doubled by N, 10 tricks, 9 after Law 64, NS -200; revoke: trick 5, N, hearts`, and a newline. Behind the revokes
+ * stand the plays against Law 50: `; failure to play a penalty card: trick 6, E plays C8`. */
+void print_judgement(FILE *out, const uint8_t *answer, const uint8_t *revokes, const uint8_t *failures);
 
 /* `call 7: bid not above the last bid`, and a newline. */
 void print_refusal(FILE *out, uint32_t number);

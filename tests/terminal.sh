@@ -105,6 +105,14 @@ echo 's/^calls.*/calls P P 8C/' | refused_words "no call" ", line 8: no such cal
 2"
 echo '$a trick SA S1' | refused_words "no card" ", line 9: no such card
 2"
+echo '$a trick ?S1 SA' | refused_words "no card exposed" ", line 9: no such card
+2"
+echo '$a trick !SA +NT SA' | refused_words "no suit required" ", line 9: no such suit
+2"
+echo '$a trick - SA' | refused_words "no suit forbidden" ", line 9: no such suit
+2"
+echo '$a trick ?S9' | refused_words "an exposure without a card" ": refused, play 0: choice of a lead not open, or no card after an exposure or choice
+1"
 echo 's/^board.*/board/' | refused_words "no number" ", line 2: a number is missing
 2"
 echo '$a tricks SA' | refused_words "an unknown line" ", line 9: this says nothing of a record
@@ -112,6 +120,24 @@ echo '$a tricks SA' | refused_words "an unknown line" ", line 9: this says nothi
 same "two files to write" "$("$terminal" -w samples/claim.txt samples/slam.txt 2>/dev/null; echo $?)" "2"
 sed 's/^claim.*/claim 16/' samples/claim.txt >"$work/changed.txt"
 same "a claim of 16" "$("$terminal" -w "$work/changed.txt" 2>&1; echo $?)" "$work/changed.txt: refused, claim of 15 or more: more tricks than are left
+1"
+
+# changed_trick WHAT CARDS LINE: what is said of samples/penalty-major.txt, written and judged, with other cards in its trick.
+changed_trick() {
+    sed "s/^trick.*/trick $2/" samples/penalty-major.txt >"$work/changed.txt"
+    same "$1" "$({ "$terminal" -w "$work/changed.txt" | "$terminal"; } 2>&1)" "$3"
+}
+board='Board 1 table 6: 1NT by N,'
+failures='failures to play a penalty card: trick 1, E plays H3; trick 1, W plays D6'
+# The ten of hearts was due from W, the four of hearts, faced too, from E; both revokes and failures are told.
+changed_trick "two failures" '!H4 !HT H3 H2 D6 H6' "$board 7 tricks, 7 after Law 64, NS 90; revoke: trick 1, W, hearts; $failures"
+# Clubs are required and a heart is led: a revoke, and W has picked the queen of clubs up. E did not win, and EW have six tricks: 1 changes sides.
+changed_trick "a suit required" '!CQ +C H3 HA H9 H6' "$board 7 tricks, 8 after Law 64, NS 120; revoke: trick 1, E, clubs"
+# Twenty times W's ten of hearts is faced and hearts are forbidden: forty codes. W wins, and N has the six tricks that he claims, one down.
+forty=$(printf '!HT -H %.0s' 1 2 3 4 5 6 7 8 9 10 11 12 13 14 15 16 17 18 19 20)
+changed_trick "forty codes" "$forty C8 C3 CA C2" "$board 6 tricks, NS -50"
+sed "s/^trick.*/trick $forty !HT C8 C3 CA C2/" samples/penalty-major.txt >"$work/changed.txt"
+same "a 41st code" "$("$terminal" -w "$work/changed.txt" 2>&1; echo $?)" "$work/changed.txt: refused, play 0: more than 40 exposures and choices
 1"
 [ $failed = 0 ] && echo "terminal: every sample and form as it should be"
 exit $failed

@@ -1,5 +1,5 @@
 /* Tries include/judge.h as C99 and as C++: the helpers on bytes worked out by hand, null pointers, short buffers, the order of the
- * checks, and the passed-out board of docs/RULES.md, judged and written. */
+ * checks, the passed-out board of docs/RULES.md, judged and written, and a record with a penalty card. */
 #include "judge.h"
 
 #include <stdio.h>
@@ -35,11 +35,11 @@ static void unpacks_the_answer(void) {
     expect_unpacked(bytes, due);
 }
 
-/* Board 127 table 511: 7NT redoubled by W, 13 tricks, 0 after, 36 revokes, NS 7600:
- * 1111111 111111111 111 100 10 11 1101 0000 100100 0001110110110000 */
+/* Board 127 table 511: 7NT redoubled by W, 13 tricks, 0 after, 48 revokes, NS 7600:
+ * 1111111 111111111 111 100 10 11 1101 0000 110000 0001110110110000 */
 static void unpacks_the_largest(void) {
-    const uint8_t bytes[JUDGE_ANSWER_BYTES] = {0xFF, 0xFF, 0xF2, 0xF4, 0x24, 0x1D, 0xB0};
-    const struct judge_judgement due = {127, 511, 7, 4, 2, 3, 13, 0, 36, 7600};
+    const uint8_t bytes[JUDGE_ANSWER_BYTES] = {0xFF, 0xFF, 0xF2, 0xF4, 0x30, 0x1D, 0xB0};
+    const struct judge_judgement due = {127, 511, 7, 4, 2, 3, 13, 0, 48, 7600};
     expect_unpacked(bytes, due);
 }
 
@@ -55,6 +55,27 @@ static void unpacks_a_revoke(void) {
     expect("suit", (long)r.suit, 3);
 }
 
+/* Trick 1, E, D3: 0001 01 001110 0000; trick 13, W, SA: 1101 11 110011 0000; trick 8, N, C2: 1000 00 000000 0000. */
+static void unpacks_failures(void) {
+    uint8_t bytes[JUDGE_FAILURE_BYTES] = {0x14, 0xE0, 0xDF, 0x30};
+    struct judge_failure f = judge_unpack_failure(bytes, 0);
+    expect("trick", (long)f.trick, 1);
+    expect("seat", (long)f.seat, 1);
+    expect("card", (long)f.card, 14);
+    f = judge_unpack_failure(bytes, 1);
+    expect("trick", (long)f.trick, 13);
+    expect("seat", (long)f.seat, 3);
+    expect("card", (long)f.card, 51);
+    f = judge_unpack_failure(bytes, 2);
+    expect("trick behind the last entry", (long)f.trick, 0);
+    expect("two failures", (long)judge_count_failures(bytes), 2);
+    for (size_t k = 0; k < 26; k++) bytes[2 * k] = 0x80;
+    expect("26 failures", (long)judge_count_failures(bytes), 26);
+    expect("trick of the last", (long)judge_unpack_failure(bytes, 25).trick, 8);
+    memset(bytes, 0, sizeof bytes);
+    expect("no failure", (long)judge_count_failures(bytes), 0);
+}
+
 static void unpacks_a_number(void) {
     expect("refusal of 6151", judge_refusal_of(6151), JUDGE_BID_NOT_ABOVE);
     expect("place of 6151", (long)judge_place_of(6151), 7);
@@ -62,11 +83,16 @@ static void unpacks_a_number(void) {
     expect("no room", JUDGE_NO_ROOM_FOR_RECORD, 22);
     expect("a card again", JUDGE_CARD_ALREADY_PLAYED, 23);
     expect("a wrong mark", JUDGE_MARK_NOT_ALLOWED, 24);
-    expect("too many codes", JUDGE_TOO_MANY_CALLS, 33);
-    expect("the longest record", JUDGE_RECORD_MOST, 440);
+    expect("a wrong exposure", JUDGE_EXPOSURE_NOT_ALLOWED, 25);
+    expect("a choice that is not open", JUDGE_CHOICE_NOT_OPEN, 26);
+    expect("too many exposures and choices", JUDGE_TOO_MANY_CODES, 27);
+    expect("too many calls", JUDGE_TOO_MANY_CALLS, 33);
+    expect("the list of revokes", JUDGE_REVOKE_BYTES, 48);
+    expect("the list of failures", JUDGE_FAILURE_BYTES, 52);
+    expect("the longest record", JUDGE_RECORD_MOST, 505);
     expect("a length is no refusal", judge_is_refusal(1023), 0);
     expect("a refusal", judge_is_refusal(3 * 1024), 1);
-    expect("the version's first number", JUDGE_VERSION_MAJOR, 2);
+    expect("the version's first number", JUDGE_VERSION_MAJOR, 3);
     expect("the version's second number", JUDGE_VERSION_MINOR >= 0, 1);
 }
 
@@ -75,47 +101,82 @@ static const uint8_t PASSED_OUT[21] = {0x02, 0x01, 0x00, 0x00, 0x00, 0x15, 0x55,
                                        0xAB, 0xFF, 0xFF, 0xFF, 0x02, 0x00, 0x00, 0x00, 0x00, 0x00};
 static const uint8_t PASSED_OUT_ANSWER[7] = {0x02, 0x01, 0, 0, 0, 0, 0};
 
-static uint8_t answer[40], revokes[80], all_fives[80];
+static const uint8_t ZEROS[52] = {0};
+
+static uint8_t answer[40], revokes[80], failures[80], all_fives[80];
 
 static void fill(void) {
     memset(answer, 0x55, sizeof answer);
     memset(revokes, 0x55, sizeof revokes);
+    memset(failures, 0x55, sizeof failures);
     memset(all_fives, 0x55, sizeof all_fives);
 }
 
 static void expect_untouched(const char *what) {
-    expect(what, memcmp(answer, all_fives, sizeof answer) != 0 || memcmp(revokes, all_fives, sizeof revokes) != 0, 0);
+    expect(what, memcmp(answer, all_fives, sizeof answer) != 0, 0);
+    expect(what, memcmp(revokes, all_fives, sizeof revokes) != 0, 0);
+    expect(what, memcmp(failures, all_fives, sizeof failures) != 0, 0);
+}
+
+/* Judges a record with the three buffers, of so many bytes each. */
+static long judged(const uint8_t *bytes, size_t length, size_t answer_len, size_t revokes_len, size_t failures_len) {
+    return (long)judge_record(bytes, length, answer, answer_len, revokes, revokes_len, failures, failures_len);
 }
 
 static void judges_the_example(void) {
     fill();
-    expect("the example", (long)judge_record(PASSED_OUT, 20, answer, 40, revokes, 80), 0);
+    expect("the example", judged(PASSED_OUT, 20, 40, 80, 80), 0);
     expect("its answer", memcmp(answer, PASSED_OUT_ANSWER, 7), 0);
     expect("the bytes after it", memcmp(answer + 7, all_fives, 33), 0);
     expect("its list", memcmp(revokes, all_fives, 80), 0);
+    expect("its failures", memcmp(failures, ZEROS, 52), 0);
+    expect("the bytes after them", memcmp(failures + 52, all_fives, 28), 0);
     fill();
-    expect("one byte less", (long)judge_record(PASSED_OUT, 19, answer, 40, revokes, 80), 2 * 1024);
-    expect("one byte more", (long)judge_record(PASSED_OUT, 21, answer, 40, revokes, 80), 16 * 1024);
-    expect("no byte", (long)judge_record(PASSED_OUT, 0, answer, 40, revokes, 80), 2 * 1024);
+    expect("one byte less", judged(PASSED_OUT, 19, 40, 80, 80), 2 * 1024);
+    expect("one byte more", judged(PASSED_OUT, 21, 40, 80, 80), 16 * 1024);
+    expect("no byte", judged(PASSED_OUT, 0, 40, 80, 80), 2 * 1024);
     expect_untouched("buffers after a refusal");
+}
+
+/* One club by N, E to lead. D4 is faced by accident, and D3 led in its place, against Law 50C; then S, W, N, and a claim of 12 of the 12 tricks left:
+ * 000000100 000011 000000 000000 000000 000100 110100 001111 0 001110 011010 100111 000000 1 1100 0000000 after the deal. N ruffs: 20 + 50 + 6 x 20. */
+static const uint8_t LOW_CARD[26] = {0x02, 0x01, 0x00, 0x00, 0x00, 0x15, 0x55, 0x55, 0x5A, 0xAA, 0xAA, 0xAB, 0xFF,
+                                     0xFF, 0xFF, 0x02, 0x06, 0x00, 0x00, 0x09, 0xA1, 0xE3, 0x9A, 0x9C, 0x0E, 0x00};
+/* Trick 1, E, D3: 0001 01 001110 0000. */
+static const uint8_t LOW_CARD_FAILURE[2] = {0x14, 0xE0};
+
+static void judges_a_failure(void) {
+    fill();
+    expect("a low card", judged(LOW_CARD, 26, 7, 48, 52), 0);
+    expect("its score", judge_unpack(answer).score, 190);
+    expect("no revoke", (long)judge_unpack(answer).revokes, 0);
+    expect("the list", memcmp(revokes, all_fives, 80), 0);
+    expect("the failure", memcmp(failures, LOW_CARD_FAILURE, 2), 0);
+    expect("one failure", (long)judge_count_failures(failures), 1);
+    expect("zeros behind it", memcmp(failures + 2, ZEROS, 50), 0);
+    expect("the bytes behind them", memcmp(failures + 52, all_fives, 28), 0);
 }
 
 static void refuses_short_buffers(void) {
     fill();
-    expect("answer of 6", (long)judge_record(PASSED_OUT, 20, answer, 6, revokes, 36), 1024);
-    expect("answer of 0", (long)judge_record(PASSED_OUT, 20, answer, 0, revokes, 36), 1024);
-    expect("list of 35", (long)judge_record(PASSED_OUT, 20, answer, 7, revokes, 35), 1025);
-    expect("both short", (long)judge_record(PASSED_OUT, 20, answer, 6, revokes, 35), 1024);
+    expect("answer of 6", judged(PASSED_OUT, 20, 6, 48, 52), 1024);
+    expect("answer of 0", judged(PASSED_OUT, 20, 0, 48, 52), 1024);
+    expect("list of 47", judged(PASSED_OUT, 20, 7, 47, 52), 1025);
+    expect("failures of 51", judged(PASSED_OUT, 20, 7, 48, 51), 1026);
+    expect("answer and list short", judged(PASSED_OUT, 20, 6, 47, 52), 1024);
+    expect("list and failures short", judged(PASSED_OUT, 20, 7, 47, 51), 1025);
+    expect("all short", judged(PASSED_OUT, 20, 6, 47, 51), 1024);
     expect_untouched("buffers that are too short");
 }
 
 static void takes_null_pointers(void) {
     fill();
-    expect("null record", (long)judge_record(NULL, 0, answer, 40, revokes, 80), 2 * 1024);
-    expect("null answer", (long)judge_record(PASSED_OUT, 20, NULL, 0, revokes, 80), 1024);
-    expect("null list", (long)judge_record(PASSED_OUT, 20, answer, 40, NULL, 0), 1025);
-    expect("null record and list", (long)judge_record(NULL, 0, answer, 40, NULL, 0), 1025);
-    expect("all null", (long)judge_record(NULL, 0, NULL, 0, NULL, 0), 1024);
+    expect("null record", judged(NULL, 0, 40, 80, 80), 2 * 1024);
+    expect("null answer", (long)judge_record(PASSED_OUT, 20, NULL, 0, revokes, 80, failures, 80), 1024);
+    expect("null list", (long)judge_record(PASSED_OUT, 20, answer, 40, NULL, 0, failures, 80), 1025);
+    expect("null failures", (long)judge_record(PASSED_OUT, 20, answer, 40, revokes, 80, NULL, 0), 1026);
+    expect("null record and list", (long)judge_record(NULL, 0, answer, 40, NULL, 0, failures, 80), 1025);
+    expect("all null", (long)judge_record(NULL, 0, NULL, 0, NULL, 0, NULL, 0), 1024);
     expect_untouched("buffers beside null pointers");
 }
 
@@ -127,8 +188,8 @@ static const uint8_t LOW_AFTER_END[20] = {0x02, 0x01, 0x00, 0x00, 0x00, 0x15, 0x
 static void checks_in_order(void) {
     const uint8_t board_0[2] = {0x00, 0x01};
     fill();
-    expect("board 0", (long)judge_record(board_0, 2, answer, 40, revokes, 80), 3 * 1024);
-    expect("a low bid after the end", (long)judge_record(LOW_AFTER_END, 20, answer, 40, revokes, 80), 8 * 1024 + 4);
+    expect("board 0", judged(board_0, 2, 40, 80, 80), 3 * 1024);
+    expect("a low bid after the end", judged(LOW_AFTER_END, 20, 40, 80, 80), 8 * 1024 + 4);
     expect_untouched("buffers after a refusal in order");
 }
 
@@ -155,6 +216,14 @@ static void writes_the_example(void) {
     expect("the longer buffer", memcmp(record, PASSED_OUT, 20) != 0 || memcmp(record + 20, all_fives, 20) != 0, 0);
 }
 
+/* The contents of LOW_CARD, with the code among the cards. */
+static void writes_a_code(void) {
+    const uint8_t one_club[4] = {3, 0, 0, 0}, cards[7] = {52, 15, 0, 14, 26, 39, 0};
+    fill_to_write();
+    expect("a code written", (long)judge_write_record(1, 1, holders, 52, one_club, 4, cards, 7, 1, 12, record, 26), 26);
+    expect("its bytes", memcmp(record, LOW_CARD, 26), 0);
+}
+
 static void refuses_to_write(void) {
     fill_to_write();
     expect("a buffer of 19", passed_out(1, 1, 19), 22 * 1024);
@@ -170,6 +239,10 @@ static void refuses_to_write(void) {
     expect("a claim when passed out", (long)judge_write_record(1, 1, holders, 52, four_passes, 4, NULL, 0, 256, 0, record, 40), 14 * 1024);
     expect("null holders", (long)judge_write_record(1, 1, NULL, 0, four_passes, 4, NULL, 0, 0, 0, record, 40), 4 * 1024 + 4);
     expect("null calls", (long)judge_write_record(1, 1, holders, 52, NULL, 0, NULL, 0, 0, 0, record, 40), 9 * 1024);
+    /* A code without a card after it is 26; with a card, that is one too many here. */
+    const uint8_t codes[4] = {52, 13, 1, 13};
+    expect("a code when passed out", (long)judge_write_record(1, 1, holders, 52, four_passes, 4, codes, 3, 0, 0, record, 40), 26 * 1024);
+    expect("a code and a card", (long)judge_write_record(1, 1, holders, 52, four_passes, 4, codes, 4, 0, 0, record, 40), 10 * 1024 + 1);
     expect("null buffer", (long)judge_write_record(1, 1, holders, 52, four_passes, 4, NULL, 0, 0, 0, NULL, 0), 22 * 1024);
     expect("the buffer after a refusal", memcmp(record, all_fives, sizeof record), 0);
 }
@@ -178,12 +251,15 @@ int main(void) {
     unpacks_the_answer();
     unpacks_the_largest();
     unpacks_a_revoke();
+    unpacks_failures();
     unpacks_a_number();
     judges_the_example();
+    judges_a_failure();
     refuses_short_buffers();
     takes_null_pointers();
     checks_in_order();
     writes_the_example();
+    writes_a_code();
     refuses_to_write();
     return failed;
 }

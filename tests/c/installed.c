@@ -2,9 +2,9 @@
 #include <stdio.h>
 
 int main(void) {
-    uint8_t record[512], answer[JUDGE_ANSWER_BYTES], revokes[JUDGE_REVOKE_BYTES];
+    uint8_t record[512], answer[JUDGE_ANSWER_BYTES], revokes[JUDGE_REVOKE_BYTES], failures[JUDGE_FAILURE_BYTES];
     size_t length = fread(record, 1, sizeof record, stdin);
-    uint32_t number = judge_record(record, length, answer, sizeof answer, revokes, sizeof revokes);
+    uint32_t number = judge_record(record, length, answer, sizeof answer, revokes, sizeof revokes, failures, sizeof failures);
     if (number != 0) {
         printf("refused: number %d, place %u\n", judge_refusal_of(number), judge_place_of(number));
         return 1;

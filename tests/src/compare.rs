@@ -1,36 +1,38 @@
-//! A judge is compared with the one written here: the number, every byte of both buffers, and the bytes on both sides of them.
-use crate::judge::{self, ANSWER_BYTES};
+//! A judge is compared with the one written here: the number, every byte of the three buffers, and the bytes on both sides of them.
+use crate::judge::{self, Judgement, ANSWER_BYTES, FAILURE_BYTES};
 use crate::play::MOST_REVOKES;
 use crate::random::Random;
 use crate::score;
 
-/// A judge as C sees it: the record, the answer, the list of revokes.
-pub type Judge = fn(&[u8], &mut [u8], &mut [u8]) -> u32;
+/// A judge as C sees it: the record, the answer, the list of revokes, the list of plays against Laws 50C and 50D1.
+pub type Judge = fn(&[u8], &mut [u8], &mut [u8], &mut [u8]) -> u32;
 
 /// Bytes on each side of a buffer that no judge may change.
 const AROUND: usize = 24;
 
-/// The lengths of the two buffers.
+/// The lengths of the three buffers.
 #[derive(Clone, Copy, Debug)]
 pub struct Room {
     pub answer: usize,
     pub list: usize,
+    pub failures: usize,
 }
 
 impl Room {
-    pub const EXACT: Room = Room { answer: ANSWER_BYTES, list: MOST_REVOKES };
+    pub const EXACT: Room = Room { answer: ANSWER_BYTES, list: MOST_REVOKES, failures: FAILURE_BYTES };
 
     pub fn longer(random: &mut Random) -> Room {
-        Room { answer: random.between(7, 60), list: random.between(36, 100) }
+        Room { answer: random.between(7, 60), list: random.between(48, 100), failures: random.between(52, 110) }
     }
 
-    /// At least one buffer too short.
+    /// At least one buffer too short: each alone, two of them, all three.
     pub fn shorter(random: &mut Random) -> Room {
-        match random.below(3) {
-            0 => Room { answer: random.below(7), list: random.between(36, 60) },
-            1 => Room { answer: random.between(7, 20), list: random.below(36) },
-            _ => Room { answer: random.below(7), list: random.below(36) },
-        }
+        let (which, enough) = (random.between(1, 7), Room::longer(random));
+        let mut length = |k: usize, least: usize, enough: usize| {
+            let below = random.below(least);
+            *random.pick(&if which >> k & 1 == 0 { [least, enough] } else { [least - 1, below] })
+        };
+        Room { answer: length(0, 7, enough.answer), list: length(1, 48, enough.list), failures: length(2, 52, enough.failures) }
     }
 
     fn refusal(self) -> Option<u32> {
@@ -38,6 +40,8 @@ impl Room {
             Some(1024)
         } else if self.list < MOST_REVOKES {
             Some(1025)
+        } else if self.failures < FAILURE_BYTES {
+            Some(1026)
         } else {
             None
         }
@@ -46,13 +50,31 @@ impl Room {
 
 /// What accepted records have shown so far.
 pub struct Seen {
-    pub refusals: [u64; 25],
+    pub refusals: [u64; 28],
+    /// Of refusal 1, by place.
+    pub short: [u64; 3],
     pub cases: u64,
     /// By level, strain, doubling and vulnerability of declarer.
     pub contracts: Vec<u64>,
     pub revokes: [u64; MOST_REVOKES + 1],
     /// By the number of tricks that changed sides.
     pub changed: [u64; 14],
+    /// By the number of plays against Laws 50C and 50D1.
+    pub failures: [u64; FAILURE_BYTES / 2 + 1],
+}
+
+impl Default for Seen {
+    fn default() -> Self {
+        Seen {
+            refusals: [0; 28],
+            short: [0; 3],
+            cases: 0,
+            contracts: vec![0; 7 * 5 * 3 * 2],
+            revokes: [0; MOST_REVOKES + 1],
+            changed: [0; 14],
+            failures: [0; FAILURE_BYTES / 2 + 1],
+        }
+    }
 }
 
 pub struct Comparison {
@@ -63,8 +85,7 @@ pub struct Comparison {
 
 impl Comparison {
     pub fn new(judge: Judge, random: &mut Random) -> Self {
-        let seen = Seen { refusals: [0; 25], cases: 0, contracts: vec![0; 7 * 5 * 3 * 2], revokes: [0; 37], changed: [0; 14] };
-        Comparison { judge, sentinels: random.bytes(4096), seen }
+        Comparison { judge, sentinels: random.bytes(4096), seen: Seen::default() }
     }
 
     /// A buffer of random bytes, with such bytes on both sides.
@@ -84,21 +105,26 @@ impl Comparison {
 
     /// Judges a record with both judges. `number` is what has to be returned, where it is known from how the record was made.
     pub fn case(&mut self, random: &mut Random, record: &[u8], room: Room, number: Option<u32>) -> Result<(), String> {
-        let mut answer = self.lent(random, room.answer);
-        let mut list = self.lent(random, room.list);
-        let (mut answer_due, mut list_due) = (answer.clone(), list.clone());
+        let mut lent = [room.answer, room.list, room.failures].map(|length| self.lent(random, length));
+        let mut lent_due = lent.clone();
         let (given, at) = self.given(random, record);
         let before = given.clone();
         let own = match (room.refusal(), judge::read(record)) {
             (Some(refusal), _) | (None, Err(refusal)) => refusal,
             (None, Ok(judgement)) => {
-                answer_due[AROUND..][..ANSWER_BYTES].copy_from_slice(&judgement.answer);
-                list_due[AROUND..][..judgement.revokes().len()].copy_from_slice(judgement.revokes());
+                let written = [&judgement.answer[..], judgement.revokes(), &judgement.failures];
+                for (buffer, bytes) in lent_due.iter_mut().zip(written) {
+                    buffer[AROUND..][..bytes.len()].copy_from_slice(bytes);
+                }
+                self.seen.accepted(&judgement);
                 0
             }
         };
-        let inside = |length: usize| AROUND..AROUND + length;
-        let returned = (self.judge)(&given[at..at + record.len()], &mut answer[inside(room.answer)], &mut list[inside(room.list)]);
+        let [answer, list, failures] = lent.each_mut().map(|buffer| {
+            let end = buffer.len() - AROUND;
+            &mut buffer[AROUND..end]
+        });
+        let returned = (self.judge)(&given[at..at + record.len()], answer, list, failures);
         let due = room.refusal().or(number).unwrap_or(own);
         if due != own {
             return Err(format!("the independent judge returns {own}, the record was made for {due}\n{}", shown(record, room)));
@@ -106,26 +132,32 @@ impl Comparison {
         if returned != own {
             return Err(format!("returned {returned}, to be {own}\n{}", shown(record, room)));
         }
-        if answer != answer_due || list != list_due || given != before {
-            let bytes = format!("answer {answer:02x?}\n to be {answer_due:02x?}\nlist {list:02x?}\nto be {list_due:02x?}");
-            return Err(format!("returned {returned}, but other bytes\n{bytes}\n{}", shown(record, room)));
+        if lent != lent_due || given != before {
+            let names = ["answer", "list", "failures"];
+            let each = names.iter().zip(lent.iter().zip(&lent_due));
+            let bytes: String = each.map(|(name, (is, due))| format!("{name} {is:02x?}\n to be {due:02x?}\n")).collect();
+            return Err(format!("returned {returned}, but other bytes\n{bytes}{}", shown(record, room)));
         }
-        self.seen.note(own, &answer_due[inside(ANSWER_BYTES.min(room.answer))]);
+        self.seen.note(own);
         Ok(())
     }
 }
 
 impl Seen {
-    fn note(&mut self, number: u32, answer: &[u8]) {
+    fn note(&mut self, number: u32) {
         self.cases += 1;
         self.refusals[(number / 1024) as usize] += 1;
-        if number != 0 {
-            return;
+        if number / 1024 == 1 {
+            self.short[(number % 1024) as usize] += 1;
         }
-        let word = answer.iter().fold(0u64, |word, &byte| word << 8 | u64::from(byte));
+    }
+
+    fn accepted(&mut self, judgement: &Judgement) {
+        let word = judgement.answer.iter().fold(0u64, |word, &byte| word << 8 | u64::from(byte));
         let part = |low: u32, width: u32| (word >> low) as usize & ((1 << width) - 1);
         let (board, level, strain, doubling, declarer) = (part(49, 7), part(37, 3), part(34, 3), part(32, 2), part(30, 2));
         self.revokes[part(16, 6)] += 1;
+        self.failures[judgement.failures.chunks(2).filter(|entry| entry[0] != 0).count()] += 1;
         self.changed[part(26, 4).abs_diff(part(22, 4))] += 1;
         if level > 0 {
             let vulnerable = usize::from(score::vulnerable(board as u8, declarer as u8));
@@ -136,5 +168,5 @@ impl Seen {
 
 fn shown(record: &[u8], room: Room) -> String {
     let hex: String = record.iter().map(|byte| format!("{byte:02x}")).collect();
-    format!("buffers of {} and {} bytes, record of {}: {hex}", room.answer, room.list, record.len())
+    format!("{room:?}, record of {}: {hex}", record.len())
 }

@@ -1,8 +1,10 @@
 //! Damage to a lawful record, of each kind that a refusal names. Where the damage alone decides the answer, it is given too.
 use crate::auction::{Auction, Fault, DOUBLE, MARK, NO_CALL, REDOUBLE};
 use crate::making::Made;
-use crate::play::Play;
+use crate::penalty::NO_CODE;
 use crate::random::Random;
+
+pub mod codes;
 
 /// A record's bytes, and the number that the judge has to return for them where it is known from how they were made.
 pub struct Damaged {
@@ -154,18 +156,13 @@ fn some_card(random: &mut Random, m: &Made) -> Option<usize> {
 
 fn card_code(random: &mut Random, m: &mut Made) -> Option<u64> {
     let k = some_card(random, m)?;
-    m.parts.cards[k] = random.between(52, 63) as u64;
+    m.parts.cards[k] = random.between(NO_CODE as usize, 63) as u64;
     Some(k as u64)
 }
 
 /// The seat at turn before card k.
 fn turn_before(m: &Made, k: usize) -> Option<usize> {
-    let contract = m.contract?;
-    let mut play = Play::new(m.hands, contract.strain, contract.declarer);
-    for &card in &m.parts.cards[..k] {
-        assert!(play.card(card), "a lawful card");
-    }
-    Some(usize::from(play.turn()))
+    m.position(k).map(|play| usize::from(play.turn()))
 }
 
 /// A card that was dealt to another seat; half of the time, where there is one, a card that this seat has played.
@@ -195,19 +192,17 @@ fn own_card_again(random: &mut Random, m: &mut Made) -> Option<u64> {
 fn no_claim(random: &mut Random, m: &mut Made) -> Option<u64> {
     m.contract?;
     let most = m.parts.cards.len().min(51);
-    m.parts.cards.truncate(random.between(0, most));
+    m.parts.keep_cards(random.between(0, most));
     m.parts.claim = None;
-    m.parts.count();
     Some(m.parts.play_count)
 }
 
 fn claim_elsewhere(random: &mut Random, m: &mut Made) -> u64 {
     if m.contract.is_some() {
         let end = if m.parts.cards.len() == 52 && random.percent(50) { 52 } else { 0 };
-        m.parts.cards.truncate(end);
+        m.parts.keep_cards(end);
     }
     m.parts.claim = Some(random.below(16) as u64);
-    m.parts.count();
     m.parts.play_count
 }
 
@@ -232,7 +227,7 @@ fn past_the_end(random: &mut Random, m: &mut Made) -> u64 {
 pub fn mixed(random: &mut Random, made: &Made, other: &Made) -> Vec<u8> {
     let mut m = made.clone();
     for _ in 0..random.between(1, 3) {
-        match random.below(8) {
+        match random.below(9) {
             0 => m.parts.call_count = random.below(512) as u64,
             1 => m.parts.play_count = random.below(64) as u64,
             2 => m.parts.deal = other.parts.deal.clone(),
@@ -240,6 +235,7 @@ pub fn mixed(random: &mut Random, made: &Made, other: &Made) -> Vec<u8> {
             4 => m.parts.cards = other.parts.cards.clone(),
             5 => m.parts.claim = other.parts.claim,
             6 => m.parts.board = random.below(128) as u64,
+            7 => m.parts.codes = other.parts.codes.clone(),
             _ => m.parts.count(),
         }
     }

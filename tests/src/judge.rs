@@ -2,11 +2,14 @@
 use crate::auction::{Auction, Contract, NO_CALL};
 use crate::deal::{self, Hands};
 use crate::law64;
+use crate::penalty::{Code, Rules, CHOICE, EXPOSED, MOST_CODES, RIGHT};
 use crate::play::{Play, MOST_REVOKES, NO_CARD};
 use crate::reader::Reader;
 use crate::score;
 
 pub const ANSWER_BYTES: usize = 7;
+/// Two bytes for each play against Law 50C or 50D1, and zeros behind them.
+pub const FAILURE_BYTES: usize = 52;
 
 /// What is returned for a refusal: its number times 1024, and its place.
 pub type Refused = u32;
@@ -20,26 +23,42 @@ pub struct Judgement {
     pub answer: [u8; ANSWER_BYTES],
     revokes: usize,
     list: [u8; MOST_REVOKES],
+    pub failures: [u8; FAILURE_BYTES],
 }
 
 impl Judgement {
     pub fn revokes(&self) -> &[u8] {
         &self.list[..self.revokes]
     }
+
+    /// Whether tricks change sides by Law 64.
+    pub fn transferred(&self) -> bool {
+        let (tricks, after) = (self.answer[3] >> 2 & 15, (self.answer[3] & 3) << 2 | self.answer[4] >> 6);
+        tricks != after
+    }
 }
 
 /// Judges a record: 0 and the bytes written, or a refusal and nothing written.
-pub fn judge(record: &[u8], answer: &mut [u8], list: &mut [u8]) -> u32 {
+pub fn judge(record: &[u8], answer: &mut [u8], list: &mut [u8], failures: &mut [u8]) -> u32 {
+    judge_by(&RIGHT, record, answer, list, failures)
+}
+
+/// The same with these rules for penalty cards.
+pub fn judge_by(rules: &'static Rules, record: &[u8], answer: &mut [u8], list: &mut [u8], failures: &mut [u8]) -> u32 {
     if answer.len() < ANSWER_BYTES {
         return refused(1, 0);
     }
     if list.len() < MOST_REVOKES {
         return refused(1, 1);
     }
-    match read(record) {
+    if failures.len() < FAILURE_BYTES {
+        return refused(1, 2);
+    }
+    match read_by(rules, record) {
         Ok(judgement) => {
             answer[..ANSWER_BYTES].copy_from_slice(&judgement.answer);
             list[..judgement.revokes].copy_from_slice(judgement.revokes());
+            failures[..FAILURE_BYTES].copy_from_slice(&judgement.failures);
             0
         }
         Err(number) => number,
@@ -53,6 +72,10 @@ fn field(bits: &mut Reader, width: u32) -> Result<u64, Refused> {
 
 /// A record's judgement, with buffers of the sizes that it needs.
 pub fn read(record: &[u8]) -> Result<Judgement, Refused> {
+    read_by(&RIGHT, record)
+}
+
+fn read_by(rules: &'static Rules, record: &[u8]) -> Result<Judgement, Refused> {
     let mut bits = Reader::new(record);
     let place = field(&mut bits, 16)?;
     let (board, table) = ((place >> 9) as u8, place & 511);
@@ -68,9 +91,9 @@ pub fn read(record: &[u8]) -> Result<Judgement, Refused> {
     }
     let Some(contract) = calls(&mut bits, score::dealer(board))? else {
         passed_out(&mut bits)?;
-        return Ok(Judgement { answer: answer_bytes(place, 0), revokes: 0, list: [0; MOST_REVOKES] });
+        return Ok(Judgement { answer: answer_bytes(place, 0), revokes: 0, list: [0; MOST_REVOKES], failures: [0; FAILURE_BYTES] });
     };
-    let mut play = Play::new(hands, contract.strain, contract.declarer);
+    let mut play = Play::by(rules, hands, contract.strain, contract.declarer);
     let claimed = cards(&mut bits, &hands, &mut play)?;
     padding(&bits)?;
     Ok(judgement(place, &contract, &play, claimed))
@@ -105,19 +128,27 @@ fn passed_out(bits: &mut Reader) -> Result<(), Refused> {
     padding(bits)
 }
 
-/// The cards and the claim: the tricks claimed for declarer's side, 0 where there is no claim.
+/// The cards with their codes, and the claim: the tricks claimed for declarer's side, 0 where there is no claim.
 fn cards(bits: &mut Reader, dealt: &Hands, play: &mut Play) -> Result<u8, Refused> {
     let count = field(bits, 6)?;
     if count > 52 {
         return Err(refused(10, count));
     }
     let mut trick = play.trick;
+    let mut coded = false;
     for k in 0..count {
-        let card = field(bits, 6)?;
-        if card >= NO_CARD {
-            return Err(refused(11, k));
-        }
-        if !trick.card(&mut play.cards, card) {
+        let mut card = field(bits, 6)?;
+        coded |= card >= NO_CARD;
+        let held = if coded {
+            play.trick = trick;
+            card = codes(bits, play, card, k)?;
+            let held = play.card(card);
+            trick = play.trick;
+            held
+        } else {
+            trick.card(&mut play.cards, card)
+        };
+        if !held {
             let own = dealt[usize::from(trick.turn())] >> card & 1 == 1;
             return Err(refused(if own { 23 } else { 12 }, k));
         }
@@ -136,6 +167,34 @@ fn cards(bits: &mut Reader, dealt: &Hands, play: &mut Play) -> Result<u8, Refuse
     Ok(claim as u8)
 }
 
+/// Takes the codes that stand before card k, if any, the first number of which has been read, and gives the card.
+#[cold]
+fn codes(bits: &mut Reader, play: &mut Play, first: u64, k: u64) -> Result<u64, Refused> {
+    let mut number = first;
+    while number >= NO_CARD {
+        if number != EXPOSED && number != CHOICE {
+            return Err(refused(11, k));
+        }
+        let one_too_many = play.penalty.codes() == MOST_CODES;
+        if one_too_many && play.penalty.rules.counts_first {
+            return Err(refused(27, k));
+        }
+        let code = if number == EXPOSED {
+            Code::Exposed(field(bits, 6)?, field(bits, 1)?)
+        } else {
+            Code::Choice(field(bits, 2)?, field(bits, 2)?)
+        };
+        if one_too_many {
+            return Err(refused(27, k));
+        }
+        if !play.code(code) {
+            return Err(refused(code.refusal(), k));
+        }
+        number = field(bits, 6)?;
+    }
+    Ok(number)
+}
+
 fn padding(bits: &Reader) -> Result<(), Refused> {
     if bits.only_padding_left() {
         Ok(())
@@ -150,7 +209,7 @@ fn judgement(place: u64, contract: &Contract, play: &Play, claim: u8) -> Judgeme
     let left = 13 - winners.len() as u8;
     let tricks = claim + winners.iter().map(|w| u8::from(w & 1 == side)).sum::<u8>();
     let claimed = if side == 0 { [claim, left - claim] } else { [left - claim, claim] };
-    let after = match law64::transferred(play.revokes(), winners, contract.declarer, claimed) {
+    let after = match law64::transferred(play.revokes(), play.excused, winners, contract.declarer, claimed) {
         None => tricks,
         Some((loser, n)) if loser == side => tricks - n,
         Some((_, n)) => tricks + n,
@@ -173,7 +232,17 @@ fn judgement(place: u64, contract: &Contract, play: &Play, claim: u8) -> Judgeme
     .fold(0, |word, &(value, width)| word << width | value);
     let mut list = [0; MOST_REVOKES];
     list[..revokes.len()].copy_from_slice(revokes);
-    Judgement { answer: answer_bytes(place, from_level), revokes: revokes.len(), list }
+    Judgement { answer: answer_bytes(place, from_level), revokes: revokes.len(), list, failures: failure_bytes(play) }
+}
+
+/// Trick 4 bits, seat 2, card 6 and four zeros for each play against Law 50C or 50D1, and zeros behind them.
+fn failure_bytes(play: &Play) -> [u8; FAILURE_BYTES] {
+    let mut bytes = [0; FAILURE_BYTES];
+    for (two, &(trick, seat, card)) in bytes.chunks_exact_mut(2).zip(&play.failures) {
+        let entry = u16::from(trick) << 12 | u16::from(seat) << 10 | (card as u16) << 4;
+        two.copy_from_slice(&entry.to_be_bytes());
+    }
+    bytes
 }
 
 /// The seven bytes: board and table, and the forty bits from the level on.

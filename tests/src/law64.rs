@@ -15,14 +15,15 @@ fn one_side(revokes: &[u8]) -> Option<u8> {
     revokes.iter().all(|&r| seat(r) & 1 == side).then_some(side)
 }
 
-/// The tricks that change sides, and the side that loses them; `claimed` has the tricks claimed for NS and EW.
-pub fn transferred(revokes: &[u8], winners: &[u8], declarer: u8, claimed: [u8; 2]) -> Option<(u8, u8)> {
+/// The tricks that change sides, and the side that loses them; `excused` has a bit for each revoke that Law 64B3 excuses, `claimed` the tricks
+/// claimed for NS and EW.
+pub fn transferred(revokes: &[u8], excused: u64, winners: &[u8], declarer: u8, claimed: [u8; 2]) -> Option<(u8, u8)> {
     let side = one_side(revokes)?;
     let mut due = [0; MOST_REVOKES];
     let mut before = 0u16;
-    for (due, &r) in due.iter_mut().zip(revokes) {
+    for (k, (due, &r)) in due.iter_mut().zip(revokes).enumerate() {
         let mark = 1 << (r & 15);
-        let free = seat(r) == declarer ^ 2 || trick(r) == 12 || before & mark != 0;
+        let free = seat(r) == declarer ^ 2 || trick(r) == 12 || before & mark != 0 || excused >> k & 1 == 1;
         before |= mark;
         *due = match free {
             true => 0,

@@ -1,10 +1,13 @@
 //! Records that the Laws allow, of all shapes.
 mod calls;
 mod cards;
+mod penalties;
 
 use crate::auction::{Auction, Contract};
 use crate::deal::Hands;
 use crate::parts::Parts;
+use crate::penalty::MOST_CODES;
+use crate::play::Play;
 use crate::random::Random;
 use crate::score;
 
@@ -31,11 +34,25 @@ impl Made {
         for (card, &holder) in deal.iter().enumerate() {
             hands[holder as usize] |= 1 << card;
         }
-        let cards = Vec::new();
-        let mut parts =
-            Parts { board, table, deal, call_count: 0, calls, play_count: 0, cards, claim: None, padding: 0, after: Vec::new() };
+        let mut parts = Parts { board, table, deal, calls, ..Parts::default() };
         parts.count();
         Made { parts, contract: auction.contract(), hands }
+    }
+
+    /// The position before the codes that stand before card k; nothing where the board is passed out.
+    pub fn position(&self, k: usize) -> Option<Play> {
+        let contract = self.contract?;
+        let mut play = Play::new(self.hands, contract.strain, contract.declarer);
+        (0..k).for_each(|place| self.step(&mut play, place));
+        Some(play)
+    }
+
+    /// Takes card k with the codes before it.
+    pub fn step(&self, play: &mut Play, k: usize) {
+        for code in self.parts.codes_before(k) {
+            assert!(play.code(code), "a lawful code");
+        }
+        assert!(play.card(self.parts.cards[k]), "a lawful card");
     }
 }
 
@@ -48,10 +65,53 @@ pub fn lawful(random: &mut Random) -> Made {
         return most_revokes(random);
     }
     let (board, table) = place(random);
-    let dealer = score::dealer(board as u8);
+    let calls = auction(random, score::dealer(board as u8));
+    let mut made = Made::new(board, table, cards::deal(random), calls);
+    cards::fill(random, &mut made);
+    made
+}
+
+/// A lawful record with penalty cards: exposures and choices among the plays.
+pub fn with_codes(random: &mut Random) -> Made {
+    if random.percent(2) {
+        return most_revokes_and_failures(random);
+    }
+    let (board, table) = place(random);
+    let calls = auction(random, score::dealer(board as u8));
+    let plain = Made::new(board, table, cards::deal(random), calls);
+    loop {
+        let mut made = plain.clone();
+        penalties::fill(random, &mut made);
+        if !made.parts.codes.is_empty() {
+            return made;
+        }
+    }
+}
+
+/// The same with as many codes as a record can have.
+pub fn with_most_codes(random: &mut Random) -> Made {
+    loop {
+        let made = with_codes(random);
+        if made.parts.codes.len() == MOST_CODES {
+            return made;
+        }
+    }
+}
+
+/// A record of a short auction and all 52 cards, with penalty cards.
+pub fn full_with_codes(random: &mut Random) -> Made {
+    let (board, table) = place(random);
+    let calls = calls::short(score::dealer(board as u8), random.below(4) as u8, random.between(3, 37) as u64, 0);
+    let mut made = Made::new(board, table, cards::deal(random), calls);
+    penalties::fill_up_to(random, &mut made, 52);
+    made
+}
+
+/// An auction that reaches a contract.
+fn auction(random: &mut Random, dealer: u8) -> Vec<u64> {
     let target = random.between(3, 37) as u64;
     let doubling = random.below(3) as u8;
-    let calls = match random.below(12) {
+    match random.below(12) {
         10..=11 => {
             let most = *random.pick(&[20, 60, 511]);
             let count = random.between(6, most);
@@ -63,10 +123,7 @@ pub fn lawful(random: &mut Random) -> Made {
             calls::of_length(random, count)
         }
         _ => calls::towards(random, dealer, target, doubling),
-    };
-    let mut made = Made::new(board, table, cards::deal(random), calls);
-    cards::fill(random, &mut made);
-    made
+    }
 }
 
 /// A record of a short auction, a claim after so many tricks, and no card after it.
@@ -109,8 +166,26 @@ fn most_revokes(random: &mut Random) -> Made {
     made.parts.cards = cards;
     if random.percent(30) {
         let tricks = random.between(1, 12);
-        made.parts.cards.truncate(4 * tricks);
+        made.parts.keep_cards(4 * tricks);
         made.parts.claim = Some(random.between(0, 13 - tricks) as u64);
+    }
+    made.parts.count();
+    made
+}
+
+/// A record with 48 revokes and 24 plays against Law 50D1, or with those before a claim.
+fn most_revokes_and_failures(random: &mut Random) -> Made {
+    let (board, table) = place(random);
+    let leader = random.below(4) as u8;
+    let (deal, cards, codes) = penalties::most_revokes_and_failures(random, leader);
+    let notrump = 7 + 5 * random.below(7) as u64;
+    let calls = calls::short(score::dealer(board as u8), (leader + 3) & 3, notrump, random.below(3) as u8);
+    let mut made = Made::new(board, table, deal, calls);
+    (made.parts.cards, made.parts.codes) = (cards, codes);
+    if random.percent(30) {
+        let count = random.between(1, 51);
+        made.parts.keep_cards(count);
+        made.parts.claim = Some(random.between(0, 13 - count / 4) as u64);
     }
     made.parts.count();
     made

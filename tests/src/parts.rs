@@ -1,6 +1,7 @@
 //! A record's parts, and its bytes by the layout table of docs/RULES.md. Counts and codes are written as they are given, right or wrong.
+use crate::penalty::Code;
 
-#[derive(Clone, Debug)]
+#[derive(Clone, Debug, Default)]
 pub struct Parts {
     pub board: u64,
     pub table: u64,
@@ -10,6 +11,8 @@ pub struct Parts {
     pub calls: Vec<u64>,
     pub play_count: u64,
     pub cards: Vec<u64>,
+    /// Exposures and choices in their order, each with the number of the card that it stands before.
+    pub codes: Vec<(usize, Code)>,
     /// The claim, where the record is marked to have one.
     pub claim: Option<u64>,
     /// The padding bits, as the low bits of a byte.
@@ -25,33 +28,49 @@ impl Parts {
         self.play_count = self.cards.len() as u64;
     }
 
+    /// Leaves out all cards but the first so many, with the codes that stand before the others, and counts again.
+    pub fn keep_cards(&mut self, count: usize) {
+        self.cards.truncate(count);
+        self.codes.retain(|&(place, _)| place < count);
+        self.count();
+    }
+
+    /// The exposures and choices that stand before a card.
+    pub fn codes_before(&self, place: usize) -> impl Iterator<Item = Code> + '_ {
+        self.codes.iter().filter(move |(at, _)| *at == place).map(|&(_, code)| code)
+    }
+
+    /// The record's fields in their order, value and width, the padding left out; and where the fields of each code begin, from 0.
+    pub fn fields(&self) -> (Vec<(u64, usize)>, Vec<usize>) {
+        let (mut fields, mut codes) = (vec![(self.board, 7), (self.table, 9)], Vec::new());
+        fields.extend(self.deal.iter().map(|&holder| (holder, 2)));
+        fields.push((self.call_count, 9));
+        fields.extend(self.calls.iter().map(|&call| (call, 6)));
+        fields.push((self.play_count, 6));
+        for place in 0..=self.cards.len() {
+            for code in self.codes_before(place) {
+                codes.push(fields.len());
+                fields.extend(code.numbers().into_iter().zip(code.widths()));
+            }
+            fields.extend(self.cards.get(place).map(|&card| (card, 6)));
+        }
+        fields.push((u64::from(self.claim.is_some()), 1));
+        fields.extend(self.claim.map(|tricks| (tricks, 4)));
+        (fields, codes)
+    }
+
     /// The number of padding bits.
     pub fn padding_bits(&self) -> usize {
-        let claim = if self.claim.is_some() { 4 } else { 0 };
-        let bits = 16 + 2 * self.deal.len() + 9 + 6 * self.calls.len() + 6 + 6 * self.cards.len() + 1 + claim;
+        let bits: usize = self.fields().0.iter().map(|&(_, width)| width).sum();
         (8 - bits % 8) % 8
     }
 
     pub fn bytes(&self) -> Vec<u8> {
         let mut out = Writer::default();
-        out.put(self.board, 7);
-        out.put(self.table, 9);
-        for &holder in &self.deal {
-            out.put(holder, 2);
+        for (value, width) in self.fields().0 {
+            out.put(value, width);
         }
-        out.put(self.call_count, 9);
-        for &call in &self.calls {
-            out.put(call, 6);
-        }
-        out.put(self.play_count, 6);
-        for &card in &self.cards {
-            out.put(card, 6);
-        }
-        out.put(u64::from(self.claim.is_some()), 1);
-        if let Some(tricks) = self.claim {
-            out.put(tricks, 4);
-        }
-        let spare = self.padding_bits();
+        let spare = (8 - out.bits % 8) % 8;
         out.put(u64::from(self.padding) & ((1 << spare) - 1), spare);
         out.bytes.extend(&self.after);
         out.bytes

@@ -2,7 +2,16 @@
 use crate::contents::Contents;
 
 extern "C" {
-    fn judge_record(record: *const u8, record_len: usize, answer: *mut u8, answer_len: usize, list: *mut u8, list_len: usize) -> u32;
+    fn judge_record(
+        record: *const u8,
+        record_len: usize,
+        answer: *mut u8,
+        answer_len: usize,
+        list: *mut u8,
+        list_len: usize,
+        failures: *mut u8,
+        failures_len: usize,
+    ) -> u32;
     fn judge_write_record(
         board: u32,
         table: u32,
@@ -20,8 +29,19 @@ extern "C" {
 }
 
 /// The proved judge on slices. Rust's slices keep what its C interface trusts: true lengths and no overlap.
-pub fn judge(record: &[u8], answer: &mut [u8], list: &mut [u8]) -> u32 {
-    unsafe { judge_record(record.as_ptr(), record.len(), answer.as_mut_ptr(), answer.len(), list.as_mut_ptr(), list.len()) }
+pub fn judge(record: &[u8], answer: &mut [u8], list: &mut [u8], failures: &mut [u8]) -> u32 {
+    unsafe {
+        judge_record(
+            record.as_ptr(),
+            record.len(),
+            answer.as_mut_ptr(),
+            answer.len(),
+            list.as_mut_ptr(),
+            list.len(),
+            failures.as_mut_ptr(),
+            failures.len(),
+        )
+    }
 }
 
 /// The proved writer on slices.

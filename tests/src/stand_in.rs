@@ -12,8 +12,11 @@ pub unsafe extern "C" fn judge_record(
     answer_len: usize,
     list: *mut u8,
     list_len: usize,
+    failures: *mut u8,
+    failures_len: usize,
 ) -> u32 {
-    crate::judge::judge(given(record, record_len), lent(answer, answer_len), lent(list, list_len))
+    let (answer, list, failures) = (lent(answer, answer_len), lent(list, list_len), lent(failures, failures_len));
+    crate::judge::judge(given(record, record_len), answer, list, failures)
 }
 
 /// # Safety

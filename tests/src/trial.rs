@@ -3,7 +3,6 @@ use crate::auction::MARK;
 use crate::compare::{Comparison, Judge, Room, Seen};
 use crate::damage;
 use crate::making::{self, Made};
-use crate::play::Play;
 use crate::random::Random;
 use std::collections::BTreeSet;
 
@@ -82,18 +81,12 @@ impl Trial {
         self.comparison.case(&mut self.random, record, room, number)
     }
 
-    /// The record ended at every byte, and whole with every length of both buffers that is too short.
+    /// The record ended at every byte, and whole with every length of a buffer that is too short.
     fn every_length(&mut self, whole: &[u8]) -> Result<(), String> {
         for end in 0..whole.len() {
             self.comparison.case(&mut self.random, &whole[..end], Room::EXACT, Some(2 * 1024))?;
         }
-        for answer in 0..7 {
-            self.comparison.case(&mut self.random, whole, Room { answer, list: 36 }, Some(1024))?;
-        }
-        for list in 0..36 {
-            self.comparison.case(&mut self.random, whole, Room { answer: 7, list }, Some(1025))?;
-        }
-        Ok(())
+        short_buffers(&mut self.comparison, &mut self.random, whole)
     }
 
     fn note(&mut self, made: &Made) {
@@ -111,6 +104,7 @@ impl Trial {
         [
             format!("{} records, no difference: {} accepted, refused by number:", seen.cases, seen.refusals[0]),
             counts(&seen.refusals[1..], 1),
+            format!("buffers too short, by place:\n{}", counts(&seen.short, 0)),
             format!("revokes in accepted records:\n{}", counts(&seen.revokes, 0)),
             format!("tricks that changed sides:\n{}", counts(&seen.changed, 0)),
             format!("{} of {} contracts (level, strain, doubling, vulnerability)", contracts(seen), seen.contracts.len()),
@@ -127,6 +121,9 @@ impl Trial {
         if let Some(number) = (1..=16).chain([23, 24]).find(|&number| seen.refusals[number] < LEAST) {
             return Err(format!("refusal {number} occurred only {} times", seen.refusals[number]));
         }
+        if let Some(place) = (0..3).find(|&place| seen.short[place] < LEAST) {
+            return Err(format!("refusal 1 with place {place} occurred only {} times", seen.short[place]));
+        }
         let lengths = self.auctions.len() == 316 && self.marked.len() == 506;
         let whole = contracts(seen) == seen.contracts.len() && self.claims.len() == 402 && self.unfinished >= LEAST;
         if !lengths || !whole || seen.revokes[0] == 0 || seen.revokes[36] == 0 || seen.changed[..4].contains(&0) {
@@ -138,13 +135,21 @@ impl Trial {
 
 /// How many revokes a lawful record has in the trick after its last complete one.
 fn unfinished_revokes(made: &Made) -> u64 {
-    let Some(contract) = made.contract else { return 0 };
-    let mut play = Play::new(made.hands, contract.strain, contract.declarer);
-    for &card in &made.parts.cards {
-        assert!(play.card(card), "a lawful card");
-    }
+    let Some(play) = made.position(made.parts.cards.len()) else { return 0 };
     let complete = play.winners().len();
     play.revokes().iter().filter(|&&r| usize::from(r >> 4) > complete).count() as u64
+}
+
+/// Every length of each buffer that is too short, beside others that are long enough.
+pub fn short_buffers(comparison: &mut Comparison, random: &mut Random, whole: &[u8]) -> Result<(), String> {
+    let shorter = |answer, list, failures| Room { answer, list, failures };
+    let answers = (0..7).map(|length| (shorter(length, 48, 52), 1024));
+    let lists = (0..48).map(|length| (shorter(7, length, 52), 1025));
+    let failures = (0..52).map(|length| (shorter(7, 48, length), 1026));
+    for (room, number) in answers.chain(lists).chain(failures) {
+        comparison.case(random, whole, room, Some(number))?;
+    }
+    Ok(())
 }
 
 fn contracts(seen: &Seen) -> usize {
@@ -152,7 +157,7 @@ fn contracts(seen: &Seen) -> usize {
 }
 
 /// Numbers with how often each occurred.
-fn counts(numbers: &[u64], first: usize) -> String {
+pub fn counts(numbers: &[u64], first: usize) -> String {
     let each = numbers.iter().enumerate().filter(|(_, &n)| n > 0);
     each.map(|(k, n)| format!("  {}: {n}", k + first)).collect()
 }

@@ -2,10 +2,12 @@
 //! is judged.
 use crate::compare::Judge;
 use crate::contents::{self, Contents};
+use crate::damage::codes;
 use crate::judge;
 use crate::making::{self, Made};
 use crate::random::Random;
 use crate::writer::{self, Writer};
+use std::collections::BTreeMap;
 
 /// Lawful contents in a round, beside the damaged ones.
 const LAWFUL: usize = 6;
@@ -14,7 +16,9 @@ const EVERY_ROOM: u64 = 100;
 /// How often each refusal has to occur.
 const LEAST: u64 = 100;
 /// The refusals of a writer.
-const REFUSALS: [usize; 17] = [3, 4, 5, 6, 7, 8, 9, 10, 11, 12, 13, 14, 15, 22, 23, 24, 33];
+const REFUSALS: [usize; 20] = [3, 4, 5, 6, 7, 8, 9, 10, 11, 12, 13, 14, 15, 22, 23, 24, 25, 26, 27, 33];
+/// The most bytes of a record.
+const MOST_BYTES: usize = 505;
 /// Bytes on each side of a slice that no writer may change.
 const AROUND: usize = 24;
 
@@ -26,6 +30,13 @@ pub struct WriteTrial {
     rounds: u64,
     written: u64,
     refusals: [u64; 34],
+    /// Contents with a code that is not right, by what is wrong with it. A record that ends inside a code has no contents.
+    kinds: BTreeMap<&'static str, u64>,
+}
+
+/// The kinds of wrong codes that contents can have.
+fn code_kinds() -> impl Iterator<Item = &'static str> {
+    codes::KINDS.into_iter().filter(|kind| !kind.starts_with("2 ") && *kind != "27 before its bits").chain(contents::CODES_BEYOND)
 }
 
 impl WriteTrial {
@@ -33,7 +44,16 @@ impl WriteTrial {
     pub fn new(writer: Writer, judge: Judge, seed: u64) -> Self {
         let mut random = Random::new(seed);
         let sentinels = random.bytes(4096);
-        WriteTrial { random, writer, judge, sentinels, rounds: 0, written: 0, refusals: [0; 34] }
+        WriteTrial {
+            random,
+            writer,
+            judge,
+            sentinels,
+            rounds: 0,
+            written: 0,
+            refusals: [0; 34],
+            kinds: code_kinds().map(|kind| (kind, 0)).collect(),
+        }
     }
 
     /// The contents compared so far.
@@ -43,13 +63,19 @@ impl WriteTrial {
 
     /// One more round; the first difference, in words, where there is one.
     pub fn round(&mut self) -> Result<(), String> {
-        let mut made: Vec<Made> = (0..LAWFUL).map(|_| making::lawful(&mut self.random)).collect();
+        let mut made: Vec<Made> = (0..LAWFUL).map(|k| self.made(k % 2 == 1)).collect();
+        if self.random.percent(50) {
+            made.reverse();
+        }
         for m in &made {
             self.lawful(m)?;
         }
         let other = made.pop().expect("a record");
-        for (c, number) in contents::unlawful(&mut self.random, &made, &other) {
-            self.unlawful(c, number)?;
+        for u in contents::unlawful(&mut self.random, &made, &other) {
+            self.unlawful(u.contents, u.number)?;
+            if let Some(kind) = u.kind {
+                *self.kinds.entry(kind).or_default() += 1;
+            }
         }
         self.rounds += 1;
         if self.rounds % EVERY_ROOM == 1 {
@@ -59,6 +85,14 @@ impl WriteTrial {
             }
         }
         Ok(())
+    }
+
+    fn made(&mut self, with_codes: bool) -> Made {
+        if with_codes {
+            making::with_codes(&mut self.random)
+        } else {
+            making::lawful(&mut self.random)
+        }
     }
 
     /// Lawful contents in a buffer that is long enough, exactly or longer, and in one that is a byte too short.
@@ -97,8 +131,8 @@ impl WriteTrial {
     fn at_any_room(&mut self, c: &Contents, number: Option<u32>) -> Result<(), String> {
         let room = match self.random.below(4) {
             0 => 0,
-            1 => self.random.below(440),
-            _ => 440,
+            1 => self.random.below(MOST_BYTES),
+            _ => MOST_BYTES,
         };
         self.case(c, room, number).map(drop)
     }
@@ -135,7 +169,7 @@ impl WriteTrial {
             return Ok(Vec::new());
         }
         let record = lent[AROUND..AROUND + own as usize].to_vec();
-        let judged = (self.judge)(&record, &mut [0; 7], &mut [0; 36]);
+        let judged = (self.judge)(&record, &mut [0; 7], &mut [0; 48], &mut [0; 52]);
         if judged != 0 {
             return Err(format!("what is written is refused with {judged}\n{}", shown()));
         }
@@ -146,13 +180,18 @@ impl WriteTrial {
     /// What occurred, in words.
     pub fn report(&self) -> String {
         let each = REFUSALS.map(|k| format!("  {k}: {}", self.refusals[k])).concat();
-        format!("{} contents, no difference: {} written and accepted by the judge, refused by number:\n{each}", self.cases(), self.written)
+        let kinds: String = self.kinds.iter().map(|(kind, n)| format!("\n  {n:>8} {kind}")).collect();
+        let cases = format!("{} contents, no difference: {} written and accepted by the judge", self.cases(), self.written);
+        format!("{cases}, refused by number:\n{each}\nwith a code among the cards that is refused:{kinds}")
     }
 
     /// Whether each refusal has occurred often enough, and no other; what is missing, in words.
     pub fn enough(&self) -> Result<(), String> {
         if let Some(number) = (0..34).find(|k| !REFUSALS.contains(k) && self.refusals[*k] > 0) {
             return Err(format!("a writer gives no refusal {number}"));
+        }
+        if let Some((kind, n)) = self.kinds.iter().find(|&(_, &n)| n < LEAST) {
+            return Err(format!("{kind}: occurred only {n} times"));
         }
         match REFUSALS.into_iter().find(|&k| self.refusals[k] < LEAST) {
             Some(number) => Err(format!("refusal {number} occurred only {} times", self.refusals[number])),

@@ -4,12 +4,14 @@ use outside::auction::Contract;
 use outside::compare::Judge;
 use outside::law64::transferred;
 use outside::parts::Parts;
+use outside::penalty::{Code, FORBID};
 use outside::score::contract_score;
 use outside::sheet::{cells, sheet};
 use outside::slip::slip;
 use outside::tally::Tally;
-use outside::tree::numbered;
 use outside::team::{imps, Line, Match, Written};
+use outside::tree::numbered;
+use outside::words::card;
 use outside::{judge, proved};
 
 const JUDGES: [Judge; 2] = [judge::judge, proved::judge];
@@ -19,8 +21,8 @@ const PASSED_OUT: [u8; 21] =
 
 /// The number returned, and NS's score.
 fn judged(judge: Judge, record: &[u8]) -> (u32, i32) {
-    let (mut answer, mut list) = ([0; 7], [0; 36]);
-    let number = judge(record, &mut answer, &mut list);
+    let mut answer = [0; 7];
+    let number = judge(record, &mut answer, &mut [0; 48], &mut [0; 52]);
     (number, i32::from(i16::from_be_bytes([answer[5], answer[6]])))
 }
 
@@ -31,7 +33,7 @@ fn suits(board: u64, calls: &[u64], cards: &[u64], claim: Option<u64>) -> Vec<u8
 
 fn record(board: u64, deal: Vec<u64>, calls: &[u64], cards: &[u64], claim: Option<u64>) -> Vec<u8> {
     let (calls, cards) = (calls.to_vec(), cards.to_vec());
-    let mut parts = Parts { board, table: 1, deal, call_count: 0, calls, play_count: 0, cards, claim, padding: 0, after: Vec::new() };
+    let mut parts = Parts { board, table: 1, deal, calls, cards, claim, ..Parts::default() };
     parts.count();
     parts.bytes()
 }
@@ -52,6 +54,27 @@ fn one_club_and_a_claim() {
         let record = |claim| suits(1, &[3, 0, 0, 0], &[13, 26, 39, 0], Some(claim));
         assert_eq!(judged(judge, &record(12)), (0, 190));
         assert_eq!(judged(judge, &record(13)).0, 15 * 1024 + 13);
+    }
+}
+
+/// The four of diamonds is exposed, and the three led in its place: trick 1, E, card 14 is 0001 01 001110 0000. The two of clubs is declarer's, and West
+/// has no penalty card.
+#[test]
+fn an_exposure_and_a_choice() {
+    let with = |code| {
+        let deal = (0..52).map(|card| card / 13).collect();
+        let (calls, cards) = (vec![3, 0, 0, 0], vec![14, 26, 39, 0]);
+        let mut parts = Parts { board: 1, table: 1, deal, calls, cards, codes: vec![(0, code)], claim: Some(12), ..Parts::default() };
+        parts.count();
+        parts.bytes()
+    };
+    for judge in JUDGES {
+        let (mut answer, mut failures) = ([0; 7], [0xEE; 52]);
+        assert_eq!(judge(&with(Code::Exposed(15, 0)), &mut answer, &mut [0; 48], &mut failures), 0);
+        assert_eq!((answer[4] & 63, i16::from_be_bytes([answer[5], answer[6]])), (0, 190));
+        assert_eq!((&failures[..2], &failures[2..]), (&[0x14, 0xE0][..], &[0; 50][..]));
+        assert_eq!(judged(judge, &with(Code::Exposed(0, 0))).0, 25 * 1024);
+        assert_eq!(judged(judge, &with(Code::Choice(FORBID, 1))).0, 26 * 1024);
     }
 }
 
@@ -138,21 +161,15 @@ fn p9_to_p11_law_64() {
     let mut winners = [0; 13];
     winners[2] = 1;
     let on_trick_3 = [revoke(3, 1, 2)];
-    assert_eq!(transferred(&on_trick_3, &winners, 0, [0, 0]), Some((1, 1)));
+    assert_eq!(transferred(&on_trick_3, 0, &winners, 0, [0, 0]), Some((1, 1)));
     winners[5..10].fill(3);
-    assert_eq!(transferred(&on_trick_3, &winners, 0, [0, 0]), Some((1, 2)));
+    assert_eq!(transferred(&on_trick_3, 0, &winners, 0, [0, 0]), Some((1, 2)));
     let mut winners = [0; 13];
     (winners[2], winners[9]) = (1, 1);
-    assert_eq!(transferred(&[revoke(3, 1, 2), revoke(10, 1, 3)], &winners, 0, [0, 0]), Some((1, 2)));
+    assert_eq!(transferred(&[revoke(3, 1, 2), revoke(10, 1, 3)], 0, &winners, 0, [0, 0]), Some((1, 2)));
     let mut winners = [0; 13];
     winners[11] = 1;
-    assert_eq!(transferred(&[revoke(12, 1, 2)], &winners, 0, [0, 0]), Some((1, 0)));
-}
-
-/// A card in words, `SA` for the ace of spades.
-fn card(word: &str) -> u64 {
-    let (suit, rank) = word.split_at(1);
-    13 * "CDHS".find(suit).unwrap() as u64 + "23456789TJQKA".find(rank).unwrap() as u64
+    assert_eq!(transferred(&[revoke(12, 1, 2)], 0, &winners, 0, [0, 0]), Some((1, 0)));
 }
 
 /// One club by N on board 1, where nobody is vulnerable. A line is a trick, the seat that leads and the four cards in order of play; all thirteen
@@ -168,8 +185,9 @@ fn one_club_cards(tricks: &[&str; 13], count: usize, claim: Option<u64>) -> Vec<
         let (leader, words) = trick.split_once(' ').unwrap();
         let leader = "NESW".find(leader).unwrap() as u64;
         for (k, word) in words.split(' ').enumerate() {
-            deal[card(word) as usize] = (leader + k as u64) % 4;
-            cards.push(card(word));
+            let card = card(word).unwrap();
+            deal[card as usize] = (leader + k as u64) % 4;
+            cards.push(card);
         }
     }
     record(1, deal, &[3, 0, 0, 0], &cards[..count], claim)
@@ -178,8 +196,8 @@ fn one_club_cards(tricks: &[&str; 13], count: usize, claim: Option<u64>) -> Vec<
 /// Accepted by both judges, with tricks won by N's side, the same after Law 64, NS's score, and the revokes.
 fn expect_law_64(record: &[u8], tricks: u8, after: u8, score: i32, revokes: &[u8]) {
     for judge in JUDGES {
-        let (mut answer, mut list) = ([0; 7], [0; 36]);
-        assert_eq!(judge(record, &mut answer, &mut list), 0);
+        let (mut answer, mut list) = ([0; 7], [0; 48]);
+        assert_eq!(judge(record, &mut answer, &mut list, &mut [0; 52]), 0);
         assert_eq!((answer[3] >> 2 & 15, (answer[3] & 3) << 2 | answer[4] >> 6), (tricks, after));
         assert_eq!(i32::from(i16::from_be_bytes([answer[5], answer[6]])), score);
         assert_eq!((usize::from(answer[4] & 63), &list[..revokes.len()]), (revokes.len(), revokes));
@@ -305,8 +323,8 @@ fn longest_auction_and_record() {
     let record = suits(1, &calls, &cards, None);
     assert_eq!((calls.len(), record.len()), (319, 296));
     for judge in JUDGES {
-        let (mut answer, mut list) = ([0; 7], [0; 36]);
-        assert_eq!(judge(&record, &mut answer, &mut list), 0);
+        let mut answer = [0; 7];
+        assert_eq!(judge(&record, &mut answer, &mut [0; 48], &mut [0; 52]), 0);
         // board 7, table 9; level 7, strain 4, doubling 2; declarer 3, no trick, none after Law 64, no revoke
         assert_eq!(answer[..5], [2, 1, 7 << 5 | 4 << 2 | 2, 3 << 6, 0]);
         assert_eq!(judged(judge, &record), (0, 7000));
@@ -328,8 +346,8 @@ fn longest_marked_auction_and_record() {
     let record = suits(1, &calls, &cards, None);
     assert_eq!((calls.len(), record.len()), (511, 440));
     for judge in JUDGES {
-        let (mut answer, mut list) = ([0; 7], [0; 36]);
-        assert_eq!(judge(&record, &mut answer, &mut list), 0);
+        let mut answer = [0; 7];
+        assert_eq!(judge(&record, &mut answer, &mut [0; 48], &mut [0; 52]), 0);
         // board 7, table 9; level 1, strain 0, doubling 0; declarer 3, no trick, none after Law 64, no revoke
         assert_eq!(answer[..5], [2, 1, 1 << 5, 3 << 6, 0]);
         assert_eq!(judged(judge, &record), (0, 350));

@@ -3,87 +3,87 @@ use outside::compare::Judge;
 use outside::judge::judge;
 use outside::random::Random;
 use outside::reader::Reader;
-use outside::team::{imps, Match, Play, Written, MOST_BOARDS};
 use outside::scripts::Script as Calls;
 use outside::tally::{deal_of, Deal, Refusal, MOST_RESULTS};
+use outside::team::{imps, Match, Play, Written, MOST_BOARDS};
 use outside::team_scripts::Script;
 use outside::tree::{self, Rules, Runner, Tree};
 use outside::trial::Trial;
 
 const FAULTS: [(&str, Judge); 14] = [
-    ("refuses all", |_, _, _| 2 * 1024),
-    ("writes nothing", |record, answer, list| judge(record, &mut answer.to_vec(), &mut list.to_vec())),
-    ("clears the answer on a refusal", |record, answer, list| {
-        let number = judge(record, answer, list);
+    ("refuses all", |_, _, _, _| 2 * 1024),
+    ("writes nothing", |record, answer, list, failures| judge(record, &mut answer.to_vec(), &mut list.to_vec(), &mut failures.to_vec())),
+    ("clears the answer on a refusal", |record, answer, list, failures| {
+        let number = judge(record, answer, list, failures);
         if number != 0 {
             answer.fill(0);
         }
         number
     }),
-    ("clears the rest of the list", |record, answer, list| {
-        let number = judge(record, answer, list);
+    ("clears the rest of the list", |record, answer, list, failures| {
+        let number = judge(record, answer, list, failures);
         if number == 0 {
             list[usize::from(answer[4] & 63)..].fill(0);
         }
         number
     }),
-    ("clears the byte after the answer", |record, answer, list| {
-        let number = judge(record, answer, list);
+    ("clears the byte after the answer", |record, answer, list, failures| {
+        let number = judge(record, answer, list, failures);
         if number == 0 && answer.len() > 7 {
             answer[7] = 0;
         }
         number
     }),
-    ("counts calls from 1", |record, answer, list| {
-        let number = judge(record, answer, list);
+    ("counts calls from 1", |record, answer, list, failures| {
+        let number = judge(record, answer, list, failures);
         if number / 1024 == 6 {
             number + 1
         } else {
             number
         }
     }),
-    ("calls a card played already one of another hand", |record, answer, list| match judge(record, answer, list) {
+    ("calls a card played already one of another hand", |record, answer, list, failures| match judge(record, answer, list, failures) {
         number if number / 1024 == 23 => number - 11 * 1024,
         number => number,
     }),
     ("calls another's card that was played one's own", anothers_played),
-    ("gives 24 at the code after the mark", |record, answer, list| match judge(record, answer, list) {
+    ("gives 24 at the code after the mark", |record, answer, list, failures| match judge(record, answer, list, failures) {
         number if number / 1024 == 24 => number + 1,
         number => number,
     }),
-    ("takes a mark for no call", |record, answer, list| match judge(record, answer, list) {
+    ("takes a mark for no call", |record, answer, list, failures| match judge(record, answer, list, failures) {
         number if number / 1024 == 24 => number - 19 * 1024,
         number => number,
     }),
-    ("lets one byte follow", |record, answer, list| match judge(record, answer, list) {
-        number if number == 16 * 1024 => judge(&record[..record.len() - 1], answer, list),
+    ("lets one byte follow", |record, answer, list, failures| match judge(record, answer, list, failures) {
+        number if number == 16 * 1024 => judge(&record[..record.len() - 1], answer, list, failures),
         number => number,
     }),
-    ("takes a list of 35", |record, answer, list| match list.len() {
-        35 => judge(record, answer, &mut [0; 36]),
-        _ => judge(record, answer, list),
+    ("takes a list of 47", |record, answer, list, failures| match list.len() {
+        47 => judge(record, answer, &mut [0; 48], failures),
+        _ => judge(record, answer, list, failures),
     }),
-    ("scores for declarer's side", |record, answer, list| {
-        let number = judge(record, answer, list);
+    ("scores for declarer's side", |record, answer, list, failures| {
+        let number = judge(record, answer, list, failures);
         if number == 0 && answer[3] >> 6 & 1 == 1 {
             let score = -i16::from_be_bytes([answer[5], answer[6]]);
             answer[5..7].copy_from_slice(&score.to_be_bytes());
         }
         number
     }),
-    ("leaves out the last of 36 revokes", |record, answer, list| {
-        let last = list.last().copied();
-        let number = judge(record, answer, list);
-        if number == 0 && answer[4] & 63 == 36 && list.len() == 36 {
-            list[35] = last.unwrap_or(0);
+    ("leaves out the last of 36 revokes", |record, answer, list, failures| {
+        let last = list.get(35).copied().unwrap_or(0);
+        let number = judge(record, answer, list, failures);
+        if number == 0 && answer[4] & 63 == 36 {
+            list[35] = last;
         }
         number
     }),
 ];
 
 /// Gives 23 for every card that has been played, whoever was dealt it.
-fn anothers_played(record: &[u8], answer: &mut [u8], list: &mut [u8]) -> u32 {
-    let number = judge(record, answer, list);
+fn anothers_played(record: &[u8], answer: &mut [u8], list: &mut [u8], failures: &mut [u8]) -> u32 {
+    let number = judge(record, answer, list, failures);
     if number / 1024 != 12 {
         return number;
     }
@@ -96,6 +96,9 @@ fn anothers_played(record: &[u8], answer: &mut [u8], list: &mut [u8]) -> u32 {
     take(6);
     let place = (number % 1024) as usize;
     let cards: Vec<u64> = (0..=place).map(|_| take(6)).collect();
+    if cards.iter().any(|&number| number >= 52) {
+        return number;
+    }
     if cards[..place].contains(&cards[place]) {
         number + 11 * 1024
     } else {
@@ -227,10 +230,7 @@ fn tree_faults() -> [(&'static str, Rules); 7] {
             "asks about a score of another deal",
             Rules { given: |tree, score, deal| tree::given(tree, score, deal).filter(|&refusal| refusal != (28, 0)), ..rules() },
         ),
-        (
-            "tells no place",
-            Rules { add: |tree, score, deal| tree::add(tree, score, deal).map(|(number, _)| (number, 0)), ..rules() },
-        ),
+        ("tells no place", Rules { add: |tree, score, deal| tree::add(tree, score, deal).map(|(number, _)| (number, 0)), ..rules() }),
     ]
 }
 

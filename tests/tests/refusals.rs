@@ -2,6 +2,7 @@
 //! The numbers due and the bytes due are worked out from docs/RULES.md.
 use outside::compare::Judge;
 use outside::parts::Parts;
+use outside::penalty::Code::{self, Choice, Exposed};
 use outside::{judge, proved};
 
 const JUDGES: [Judge; 2] = [judge::judge, proved::judge];
@@ -13,7 +14,7 @@ const BEFORE: u8 = 0xEE;
 fn parts(calls: &[u64], cards: &[u64], claim: Option<u64>) -> Parts {
     let deal = (0..52).map(|card| card / 13).collect();
     let (calls, cards) = (calls.to_vec(), cards.to_vec());
-    let mut parts = Parts { board: 1, table: 1, deal, call_count: 0, calls, play_count: 0, cards, claim, padding: 0, after: Vec::new() };
+    let mut parts = Parts { board: 1, table: 1, deal, calls, cards, claim, ..Parts::default() };
     parts.count();
     parts
 }
@@ -45,6 +46,84 @@ fn calls(codes: &[u64]) -> Vec<u8> {
 /// After one club by North, whose two of clubs ruffs and wins a first trick of twos.
 fn cards(codes: &[u64], claim: Option<u64>) -> Vec<u8> {
     parts(&[3, 0, 0, 0], codes, claim).bytes()
+}
+
+/// One club by North and the first trick of twos again, each code before the card of its place; East and West defend, with diamonds and spades.
+fn codes(codes: &[(usize, Code)]) -> Parts {
+    let mut parts = one_club();
+    parts.codes = codes.to_vec();
+    parts
+}
+
+/// The two of spades, faced deliberately: East leads, and spades may be required or forbidden.
+const FACED: (usize, Code) = (0, Exposed(39, 1));
+
+/// Forty codes before the opening lead: East's and West's 26 cards faced, spades required, and West's spades, which were picked up, faced again.
+fn forty() -> Vec<(usize, Code)> {
+    let faced = |cards: std::ops::Range<u64>| cards.map(|card| (0, Exposed(card, 1)));
+    faced(13..26).chain(faced(39..52)).chain([(0, Choice(0, 3))]).chain(faced(39..52)).collect()
+}
+
+/// The number due, and a record that is refused for its codes with it.
+fn refused_codes() -> Vec<(u32, u32, Vec<u8>)> {
+    let with = |list: &[(usize, Code)]| codes(list).bytes();
+    vec![
+        // No card; North's, South's; played; faced, by accident or not, and though it is another's turn.
+        (25, 0, with(&[(0, Exposed(52, 0))])),
+        (25, 3, with(&[(3, Exposed(63, 1))])),
+        (25, 0, with(&[(0, Exposed(0, 0))])),
+        (25, 1, with(&[(1, Exposed(26, 1))])),
+        (25, 1, with(&[(1, Exposed(13, 0))])),
+        (25, 3, with(&[(3, Exposed(39, 1))])),
+        (25, 0, with(&[FACED, FACED])),
+        (25, 2, with(&[(1, Exposed(14, 0)), (2, Exposed(14, 1))])),
+        // No kind; nothing faced; the leader's own card; a card of another suit; a minor card; a card played already.
+        (26, 0, with(&[FACED, (0, Choice(2, 3))])),
+        (26, 0, with(&[FACED, (0, Choice(3, 3))])),
+        (26, 0, with(&[(0, Choice(0, 3))])),
+        (26, 0, with(&[(0, Exposed(13, 1)), (0, Choice(1, 1))])),
+        (26, 0, with(&[FACED, (0, Choice(1, 2))])),
+        (26, 0, with(&[(0, Exposed(39, 0)), (0, Choice(0, 3))])),
+        (26, 0, with(&[(0, Exposed(46, 0)), (0, Choice(1, 3))])),
+        // After the lead; at a lead of declarer's side: North won trick 1.
+        (26, 1, with(&[FACED, (1, Choice(1, 3))])),
+        (26, 3, with(&[(0, Exposed(40, 1)), (3, Choice(0, 3))])),
+        (
+            26,
+            4,
+            changed(codes(&[(0, Exposed(40, 1)), (4, Choice(1, 3))]), |p| {
+                p.cards.push(1);
+                p.count()
+            }),
+        ),
+        // After a requirement; a requirement after a ban; the card picked up.
+        (26, 0, with(&[FACED, (0, Choice(0, 3)), FACED, (0, Choice(0, 3))])),
+        (26, 0, with(&[FACED, (0, Choice(0, 3)), FACED, (0, Choice(1, 3))])),
+        (26, 0, with(&[FACED, (0, Choice(1, 3)), FACED, (0, Choice(0, 3))])),
+        (26, 0, with(&[FACED, (0, Choice(1, 3)), (0, Choice(1, 3))])),
+        // The 41st, whatever it is; at the play that it stands before.
+        (27, 0, with(&[forty(), vec![FACED]].concat())),
+        (27, 0, with(&[forty(), vec![(0, Exposed(63, 0))]].concat())),
+        (27, 3, with(&[forty(), vec![(3, Choice(3, 3))]].concat())),
+        // The fortieth is looked at.
+        (25, 0, with(&[&forty()[..39], &[(0, Exposed(63, 0))]].concat())),
+        (26, 2, with(&[&forty()[..39], &[(2, Choice(1, 3))]].concat())),
+        // A number from 54 on behind a code.
+        (11, 0, changed(codes(&[FACED]), |p| p.cards[0] = 54)),
+        (11, 3, changed(codes(&[FACED, (3, Exposed(14, 0))]), |p| p.cards[3] = 63)),
+        // The card behind a code.
+        (12, 0, changed(codes(&[FACED]), |p| p.cards[0] = 39)),
+        // 159 bits stand before the first code. Of an exposure's 13 bits, byte 20 ends behind the first and byte 21 behind the ninth; of a choice's
+        // ten, byte 20 behind the first and byte 21 behind the ninth.
+        (2, 0, with(&[FACED])[..20].to_vec()),
+        (2, 0, with(&[FACED])[..21].to_vec()),
+        (2, 0, with(&[(0, Choice(0, 3))])[..21].to_vec()),
+        (26, 0, with(&[(0, Choice(0, 3))])[..22].to_vec()),
+        // 39 exposures and a choice have 517 bits: the 41st begins at bit 676, and its six bits end at bit 682. Byte 85 ends at bit 680, byte 86 at
+        // bit 688, before the exposure's last bit.
+        (2, 0, with(&[forty(), vec![FACED]].concat())[..85].to_vec()),
+        (27, 0, with(&[forty(), vec![FACED]].concat())[..86].to_vec()),
+    ]
 }
 
 /// The number due, and a record that is refused with it.
@@ -96,7 +175,7 @@ fn refused() -> Vec<(u32, u32, Vec<u8>)> {
         (10, 52, changed(passed_out(), |p| p.play_count = 52)),
         (10, 53, changed(one_club(), |p| p.play_count = 53)),
         (10, 63, changed(one_club(), |p| p.play_count = 63)),
-        (11, 0, cards(&[52], None)),
+        (11, 0, cards(&[54], None)),
         (11, 3, cards(&[13, 26, 39, 63], None)),
         (12, 0, cards(&[0], None)),
         (12, 1, cards(&[13, 14], None)),
@@ -121,50 +200,65 @@ fn refused() -> Vec<(u32, u32, Vec<u8>)> {
     ]
 }
 
-/// The number returned, and both buffers after it.
-fn judged(judge: Judge, record: &[u8], answer_len: usize, list_len: usize) -> (u32, Vec<u8>, Vec<u8>) {
-    let (mut answer, mut list) = (vec![BEFORE; answer_len], vec![BEFORE; list_len]);
-    let number = judge(record, &mut answer, &mut list);
-    (number, answer, list)
+/// The number returned, and the three buffers after it.
+fn judged(judge: Judge, record: &[u8], lengths: [usize; 3]) -> (u32, [Vec<u8>; 3]) {
+    let mut lent = lengths.map(|length| vec![BEFORE; length]);
+    let [answer, list, failures] = &mut lent;
+    let number = judge(record, answer, list, failures);
+    (number, lent)
+}
+
+const LEAST: [usize; 3] = [7, 48, 52];
+
+fn expect_refused(record: &[u8], number: u32, what: &str) {
+    for judge in JUDGES {
+        assert_eq!(judged(judge, record, LEAST), (number, LEAST.map(|length| vec![BEFORE; length])), "{what}");
+    }
 }
 
 #[test]
 fn each_refusal_and_place() {
-    for judge in JUDGES {
-        for (refusal, place, record) in refused() {
-            let due = (refusal * 1024 + place, vec![BEFORE; 7], vec![BEFORE; 36]);
-            assert_eq!(judged(judge, &record, 7, 36), due, "refusal {refusal}, place {place}");
-        }
+    for (refusal, place, record) in refused() {
+        expect_refused(&record, refusal * 1024 + place, &format!("refusal {refusal}, place {place}"));
+    }
+}
+
+#[test]
+fn each_refusal_and_place_of_codes() {
+    for (k, (refusal, place, record)) in refused_codes().into_iter().enumerate() {
+        expect_refused(&record, refusal * 1024 + place, &format!("case {k}: refusal {refusal}, place {place}"));
     }
 }
 
 #[test]
 fn every_prefix_ends_too_soon() {
-    for judge in JUDGES {
-        for whole in [passed_out().bytes(), one_club().bytes(), one_notrump().bytes()] {
-            for length in 0..whole.len() {
-                assert_eq!(judged(judge, &whole[..length], 7, 36), (2 * 1024, vec![BEFORE; 7], vec![BEFORE; 36]), "{length} bytes");
-            }
+    let coded = codes(&[FACED, (0, Choice(1, 3)), FACED, (2, Exposed(25, 0))]).bytes();
+    for whole in [passed_out().bytes(), one_club().bytes(), one_notrump().bytes(), coded] {
+        for length in 0..whole.len() {
+            expect_refused(&whole[..length], 2 * 1024, &format!("{length} bytes"));
         }
     }
 }
 
-/// One notrump by North, not vulnerable, no trick won of 7: 7 undertricks at 50 are -350, or 0xFEA2.
+/// One notrump by North, not vulnerable, no trick won of 7: 7 undertricks at 50 are -350, or 0xFEA2. The 52 bytes of plays against Law 50 become zero.
 #[test]
 fn buffers_about_the_least_length() {
     let record = one_notrump().bytes();
-    for judge in JUDGES {
-        for (answer_len, list_len) in [6, 7, 8].into_iter().flat_map(|answer| [35, 36, 37].map(|list| (answer, list))) {
-            let mut answer = vec![BEFORE; answer_len];
-            let number = match (answer_len, list_len) {
-                (6, _) => 1024,
-                (_, 35) => 1025,
-                _ => 0,
-            };
-            if number == 0 {
-                answer[..7].copy_from_slice(&[0x02, 0x01, 0x30, 0x00, 0x00, 0xFE, 0xA2]);
-            }
-            assert_eq!(judged(judge, &record, answer_len, list_len), (number, answer, vec![BEFORE; list_len]));
+    let about = |k: usize| [LEAST[k] - 1, LEAST[k], LEAST[k] + 1];
+    for lengths in about(0).into_iter().flat_map(|a| about(1).into_iter().flat_map(move |l| about(2).map(move |f| [a, l, f]))) {
+        let mut due = lengths.map(|length| vec![BEFORE; length]);
+        let number = match lengths {
+            [6, _, _] => 1024,
+            [_, 47, _] => 1025,
+            [_, _, 51] => 1026,
+            _ => 0,
+        };
+        if number == 0 {
+            due[0][..7].copy_from_slice(&[0x02, 0x01, 0x30, 0x00, 0x00, 0xFE, 0xA2]);
+            due[2][..52].fill(0);
+        }
+        for judge in JUDGES {
+            assert_eq!(judged(judge, &record, lengths), (number, due.clone()), "{lengths:?}");
         }
     }
 }

@@ -23,8 +23,9 @@ use Rattle.judge.specs.declared.reading.Heading.{Heading}
 use Rattle.judge.specs.declared.reading.Deal.{Deal}
 use Rattle.judge.specs.declared.reading.Calls.{Calls}
 use Rattle.judge.specs.declared.whole.Judged.{Judged}
+use Rattle.penalty.specs.History.{ThirteenEach}
 use Rattle.judge.specs.Sections.{headingOf, dealOf, callsOf}
-use Rattle.judge.specs.Whole.{ThirteenEach, OfCalls, afterCards, afterCalls, afterDeal, noJudgement, judgedOf}
+use Rattle.judge.specs.Whole.{OfCalls, afterCards, afterCalls, afterDeal, noJudgement, judgedOf}
 use Rattle.judge.proofs.Composing.{found-same, calls-next}
 
 -- ---- what a section that was read tells
@@ -129,10 +130,10 @@ module _ (bytes : List ℕ) (t : Heading) (et : t ≡ headingOf (Judge.readHeadi
       hands-go (refused n place) q e = absurd (not-0 (subst Fair q (fair-deal bytes 16)) e)
       hands-go (found deal at) q e = refl
 
-      pub calls-bound : c .refusal ≡ 0 → (8 ≤ c .next) × (c .next < 16384) × (d .hands ≡ wordsOf (d .holders))
+      pub calls-bound : c .refusal ≡ 0 → (8 ≤ c .next) × (c .next < 16384) × (d .hands ≡ wordsOf (d .holders)) × ThirteenEach (d .holders)
       calls-bound e =
           let n = rw (← ec) at (calls-end (Judge.readCalls seat bytes 120) refl (rw ec at e)) in
-          (n .0, n .1, rw ed (hands-go (Judge.readDeal bytes 16) refl (rw ed at od)))
+          (n .0, n .1, rw ed (hands-go (Judge.readDeal bytes 16) refl (rw ed at od)), deal-read .0)
 
       module _ (r : Judged) where
         -- the answer, given any calls that this position is of

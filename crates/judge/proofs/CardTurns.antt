@@ -1,69 +1,122 @@
--- The loop over the cards: the play's position is that of the history, and its refusal is the Law's.
+-- The loop over cards up to the first code: the play's position is that of the cards, and its refusal is the Law's.
 -- Assumes nothing.
-use Prim.Native.Nat.{ℕ, _≤_, _<_, _+_}
-use mathlib.Core.Path.{_≡_, sym, ap, _∙_, subst}
-use mathlib.Core.List.{List, []}
+use Prim.Native.Nat.{ℕ, suc, _≤_, _<_, _+_, _-_, _*_}
+use native.Mathlib.Omega.{arith}
+use mathlib.Core.Path.{_≡_, refl, sym, ap, _∙_}
+use mathlib.Core.Bool.{true, false}
+use mathlib.Core.List.{List, [], _∷_}
+use borrow.Author.Tests.{eq-eqb, ne-eqb}
 use lib.ListN.{length}
 use Rattle.laws.specs.Law44.{cardsPlayed}
-use Rattle.laws.specs.CardRefusal.{cardRefusal, cardPlace}
-use Rattle.laws.specs.Reading.{Reading, Reading.refused, Reading.found, read, readEach}
+use Rattle.laws.specs.Events.{Event, played, beginsCode, cardsOf, codesOf, asEvents}
+use Rattle.laws.specs.CardRefusal.{cardRefusal}
+use Rattle.laws.specs.CodeRefusal.{mostCodes}
+use Rattle.laws.specs.Reading.{Reading, Reading.refused, Reading.found, onward, read, refuse}
+use Rattle.laws.specs.Plays.{playPlace, refuseBy, readPlays}
+use Rattle.laws.proofs.CardRefusals.{accepted-playable, playable-dealt}
+use Rattle.laws.proofs.CardsAlone.{cards-alone, no-codes}
+use Rattle.laws.proofs.Plays.{card-no-code}
 use Rattle.deal.specs.Hands.{wordsOf}
 use Rattle.play.specs.declared.Play.{Play}
 use Rattle.play.specs.Position.{startOf, step, verdictOf, verdictNumber}
-use Rattle.play.specs.History.{positionOf}
-use Rattle.play.proofs.Starts.{starts-with, starts-itself}
-use Rattle.play.proofs.Verdicts.{all-played, verdict-law}
-use Rattle.judge.specs.Sections.{noCards, cardsOf}
-use Rattle.judge.proofs.Turns.{Reached, begins, ends, short, stops, goes}
+use Rattle.play.specs.History.{positionOf, AllPlayed}
+use Rattle.play.proofs.Verdicts.{verdict-law}
+use Rattle.penalty.specs.declared.table.Table.{Table}
+use Rattle.penalty.specs.Table.{tableWith}
+use Rattle.penalty.proofs.TableStands.{alone-is, none-alone}
+use Rattle.judge.specs.declared.plays.Cards.{Cards}
+use Rattle.penalty.specs.History.{ThirteenEach, OfEvents}
+use Rattle.judge.specs.Sections.{noCards, playsBy, cardsOf as told}
+use Rattle.judge.proofs.PlayTurns.{turn-short, turn-card}
+
+-- after i of n cards, at the bit `here`: p is the position of the cards
+pub record CardsAt (bytes deal : List ℕ) (trump opening at n : ℕ) (p : Play) (here i : ℕ) : Type 0 where
+  pub cards : List ℕ
+  pub position : p ≡ positionOf deal trump opening cards
+  pub many : length cards ≡ i
+  pub clean : AllPlayed deal trump opening cards
+  pub few : i ≤ n
+  pub along : here ≡ at + 6 * i
+  pub same : readPlays trump opening deal (n - i) mostCodes (asEvents cards) bytes here ≡ readPlays trump opening deal n mostCodes [] bytes at
 
 module _ (bytes deal : List ℕ) (trump opening at n : ℕ) where
-  abbrev pub CardsAt : Play → ℕ → ℕ → Type 0
-  CardsAt p here i = Reached 6 cardPlace (cardRefusal trump opening deal) bytes at n (positionOf deal trump opening) p here i
+  abbrev whole : Cards
+  whole = told deal trump opening (readPlays trump opening deal n mostCodes [] bytes at)
 
-  abbrev cards : Reading (List ℕ)
-  cards = readEach 6 cardPlace (cardRefusal trump opening deal) n [] bytes at
+  pub card-begins : {p : Play} → p ≡ startOf deal (wordsOf deal) trump opening → CardsAt bytes deal trump opening at n p at 0
+  unfolding positionOf AllPlayed asEvents
+  card-begins e =
+      let m : n - 0 ≡ n = omega arith in
+      record { cards = []; position = e; many = refl; clean = tt; few = omega arith; along = omega arith; same = rw m }
 
-  card-begins : {p : Play} → p ≡ startOf deal (wordsOf deal) trump opening → CardsAt p at 0
-  unfolding positionOf
-  card-begins e = begins 6 cardPlace (cardRefusal trump opening deal) bytes at n (positionOf deal trump opening) e
+  module _ {p : Play} {here i : ℕ} (r : CardsAt bytes deal trump opening at n p here i) where
+    -- the cards as events, and their position
+    abbrev events : List Event
+    events = asEvents (r .cards)
 
-  pub card-ends : {p : Play} {here i : ℕ} → CardsAt p here i → n ≤ i → record { refusal = 0; next = here; after = p } ≡ cardsOf deal trump opening cards
-  card-ends {p} {here} r t =
-      ap (λ (x : Play). record { refusal = 0; next = here; after = x }) (r .position)
-      ∙ sym (ap (cardsOf deal trump opening) (ends 6 cardPlace (cardRefusal trump opening deal) bytes at n (positionOf deal trump opening) r t))
+    table-is : {t : Table} → t ≡ tableWith p opening → t ≡ Rattle.penalty.specs.History.positionOf deal trump opening events
+    table-is e = e ∙ ap (λ (x : Play). tableWith x opening) (r .position) ∙ sym (alone-is deal trump opening (r .cards))
 
-  module _ {p : Play} {here i : ℕ} (r : CardsAt p here i) (t : i < n) where
-    pub card-short : read 6 bytes here ≡ refused 2 0 → noCards 2 0 ≡ cardsOf deal trump opening cards
-    card-short q = sym (ap (cardsOf deal trump opening)
-        (short 6 cardPlace (cardRefusal trump opening deal) bytes at n (positionOf deal trump opening) r t q))
+    pub card-ends : n ≤ i → (t : Table) → t ≡ tableWith p opening → record { refusal = 0; next = here; after = t } ≡ whole
+    unfolding readPlays
+    card-ends h t e =
+        let m : n - i ≡ 0 = omega (arith, r .few) in
+        ap (λ (x : Table). record { refusal = 0; next = here; after = x }) (table-is e) ∙ ap (told deal trump opening) (rw m at (r .same))
 
-    module _ (all : length deal ≡ 52) {c f : ℕ} (q : read 6 bytes here ≡ found c (here + 6)) (e : f ≡ verdictNumber (verdictOf p c)) where
-      law : f ≡ cardRefusal trump opening deal (r .history) c
-      law =
-          e ∙ ap (λ (x : Play). verdictNumber (verdictOf x c)) (r .position)
-          ∙ verdict-law deal trump opening all (r .history) (all-played deal trump opening (r .history) (r .clean)) c
+    module _ (t : i < n) where
+      next-is : n - i ≡ suc (n - (i + 1))
+      next-is = omega arith
 
-      pub card-stops : (f ≡ 0 → ⊥) → noCards f i ≡ cardsOf deal trump opening cards
+      pub card-short : read 6 bytes here ≡ refused 2 0 → noCards 2 0 ≡ whole
+      card-short q = ap (told deal trump opening) (sym (turn-short deal trump opening bytes _ events here mostCodes q) ∙ rw next-is at (r .same))
+
+      module _ (all : length deal ≡ 52) {c f : ℕ} (q : read 6 bytes here ≡ found c (here + 6)) (e : f ≡ verdictNumber (verdictOf p c)) where
+        law : f ≡ cardRefusal trump opening deal (r .cards) c
+        law = e ∙ ap (λ (x : Play). verdictNumber (verdictOf x c)) (r .position) ∙ verdict-law deal trump opening all (r .cards) (r .clean) c
+
+        after-card : beginsCode c ≡ false
+            → onward (refuseBy f events bytes (here + 6)) (λ u m. readPlays trump opening deal (n - (i + 1)) mostCodes (played c ∷ events) bytes m)
+            ≡ readPlays trump opening deal n mostCodes [] bytes at
+        after-card no-code =
+            let is : cardRefusal trump opening deal (cardsOf events) c ≡ f = rw (cards-alone (r .cards)) (sym law) in
+            rw is at (sym (turn-card deal trump opening bytes _ events here c q mostCodes no-code) ∙ rw next-is at (r .same))
+
+        pub card-stops : beginsCode c ≡ false → (f ≡ 0 → ⊥) → noCards f i ≡ whole
+        unfolding refuse cardsPlayed
+        card-stops no-code z =
+            let place : playPlace events ≡ i = ap length (cards-alone (r .cards)) ∙ r .many in
+            ap (told deal trump opening) (rw (ne-eqb f 0 z, place) at (after-card no-code))
+
+        pub card-goes : f ≡ 0 → {b : Play} → b ≡ step p c → CardsAt bytes deal trump opening at n b (here + 6) (i + 1)
+        unfolding positionOf AllPlayed asEvents refuse
+        card-goes z s =
+            let low = playable-dealt trump opening deal (r .cards) c (accepted-playable trump opening deal (r .cards) c (sym law ∙ z)) in
+            let no-code = card-no-code c (omega (arith, low)) in
+            record {
+              cards = c ∷ r .cards;
+              position = s ∙ ap (λ (x : Play). step x c) (r .position);
+              many = omega (arith, r .many);
+              clean = (sym law ∙ z, r .clean);
+              few = omega arith;
+              along = omega (arith, r .along);
+              same = rw (eq-eqb f 0 z) at (after-card no-code);
+            }
+
+      -- from the first code on
+      pub of-cards : ThirteenEach deal → opening < 4 → (t : Table) → t ≡ tableWith p opening → OfEvents deal trump opening events t i
       unfolding cardsPlayed
-      card-stops z = ap (noCards f) (sym (r .many)) ∙ sym (ap (cardsOf deal trump opening)
-          (stops 6 cardPlace (cardRefusal trump opening deal) bytes at n (positionOf deal trump opening) r t q law z))
+      of-cards d low t e =
+          record {
+            deal-of = d;
+            seat = low;
+            position = table-is e;
+            none-refused = none-alone deal trump opening (r .cards) (r .clean);
+            many = sym (ap length (cards-alone (r .cards)) ∙ r .many);
+          }
 
-      pub card-goes : f ≡ 0 → {b : Play} → b ≡ step p c → CardsAt b (here + 6) (i + 1)
-      unfolding positionOf
-      card-goes z s =
-          goes 6 cardPlace (cardRefusal trump opening deal) bytes at n (positionOf deal trump opening) r t q law z
-          (s ∙ ap (λ (x : Play). step x c) (r .position))
+      on-is : playsBy trump opening deal n events bytes here ≡ readPlays trump opening deal n mostCodes [] bytes at
+      unfolding playsBy cardsPlayed
+      on-is = rw (cards-alone (r .cards), r .many, no-codes (r .cards)) (r .same)
 
--- ---- the loop speaks of the deal that its first position has
-abbrev pub CardsFrom : List ℕ → ℕ → ℕ → ℕ → ℕ → Play → Play → ℕ → ℕ → Type 0
-CardsFrom bytes trump opening at n first p here i = CardsAt bytes (first .holders) trump opening at n p here i
-
-module _ (bytes deal hands : List ℕ) (trump opening at n : ℕ) {first : Play} (e : first ≡ startOf deal hands trump opening) where
-  pub from-first : hands ≡ wordsOf deal → CardsFrom bytes trump opening at n first first at 0
-  from-first eh = card-begins bytes (first .holders) trump opening at n (starts-itself deal hands trump opening e eh)
-
-  pub from-deal : {p : Play} {here i : ℕ} → CardsFrom bytes trump opening at n first p here i → CardsAt bytes deal trump opening at n p here i
-  from-deal {p} {here} {i} r = subst (λ (d : List ℕ). CardsAt bytes d trump opening at n p here i) (starts-with deal hands trump opening e) r
-
-  pub from-places : length deal ≡ 52 → length (first .holders) ≡ 52
-  from-places all = ap length (starts-with deal hands trump opening e) ∙ all
+      pub on-with-codes : told deal trump opening (playsBy trump opening deal n events bytes here) ≡ whole
+      on-with-codes = ap (told deal trump opening) on-is

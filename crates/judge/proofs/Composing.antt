@@ -5,22 +5,26 @@ use native.Mathlib.Omega.{arith}
 use mathlib.Core.Path.{_≡_, refl, sym, ap, ap₂, _∙_, subst}
 use mathlib.Core.Bool.{Bool, not, _&&_, _||_}
 use mathlib.Core.List.{List, [], _∷_}
-use borrow.Author.Tests.{eqb-true, not-false}
+use borrow.Author.Tests.{eqb-true, not-false, ltb-false}
 use lib.Dec.{eqb, ltb}
 use lib.ListN.{length}
 use Rattle.laws.specs.Reading.{Reading, Reading.refused, Reading.found, onward, numberAt, readEach}
 use Rattle.laws.specs.Law44.{cardsPlayed}
 use Rattle.laws.specs.Refusals.{auctionUnfinished, tooManyCards}
 use Rattle.laws.specs.CallRefusal.{callRefusal, callPlace}
-use Rattle.laws.specs.CardRefusal.{cardRefusal, cardPlace}
+use Rattle.laws.specs.Events as Events
+use Rattle.laws.specs.Events.{Event}
+use Rattle.laws.specs.CodeRefusal.{mostCodes}
+use Rattle.laws.specs.Kept.{NoneRefused}
 use Rattle.laws.specs.Law2.{dealer}
 use Rattle.laws.specs.Auction as Law
 use Rattle.laws.specs.Judge as Judge
 use Rattle.laws.proofs.Bits.{number-lt}
-use Rattle.laws.proofs.CardRefusals.{numbered}
-use Rattle.laws.proofs.Numbered.{Fair, at-place, not-0, fair-read, fair-test, fair-each}
+use Rattle.laws.proofs.Tests.{or-left}
+use Rattle.laws.proofs.Numbered.{Fair, at-place, not-0, fair-read, fair-test, fair-plays}
 use Rattle.laws.proofs.Histories.{Clean}
-use Rattle.play.proofs.Verdicts.{all-played}
+use Rattle.laws.proofs.Plays.{plays-read, none-refused}
+use Rattle.laws.proofs.Lengths.{plays-bits}
 use Rattle.laws.proofs.Readings.{first-of, first-read, first-test}
 use Rattle.laws.specs.Cards.{clockwise}
 use Rattle.laws.specs.Record.{Parts}
@@ -29,10 +33,12 @@ use Rattle.auction.specs.declared.Contract.{Contract}
 use Rattle.auction.specs.Asked.{passedOutOf, contractOf, asLaw}
 use Rattle.auction.proofs.History.{passed-out-is}
 use Rattle.auction.proofs.Laws.{contract-is}
-use Rattle.play.specs.History.{AllPlayed, positionOf}
+use Rattle.penalty.specs.History.{positionOf}
+use Rattle.penalty.proofs.AtMost.{cards-allowed}
+use Rattle.penalty.proofs.TableStands.{play-is}
 use Rattle.play.proofs.Stands.{stands}
 use Rattle.play.proofs.Thirteen.{at-most-52}
-use Rattle.judge.specs.declared.cards.Cards.{Cards}
+use Rattle.judge.specs.declared.plays.Cards.{Cards}
 use Rattle.judge.specs.declared.whole.Judged.{Judged}
 use Rattle.judge.specs.Sections.{cardsBy, cardsOf}
 use Rattle.judge.specs.Whole.{OfCards, OfCalls, afterCards, afterCalls, noJudgement, judgedOf}
@@ -66,50 +72,63 @@ calls-next d bytes at q =
     let z = found-same (t .1) in
     (omega (arith, f .1, z .1), omega (arith, f .1, z .1, number-lt bytes at 9))
 
--- ---- the cards that were read: none was refused, and they end soon enough
-pub record Allowed (trump opening : ℕ) (deal g : List ℕ) (at e : ℕ) : Type 0 where
-  pub played : AllPlayed deal trump opening g
-  pub next : e ≤ at + 384
+-- ---- the cards that were read: no event was refused, and they end soon enough
+pub record Allowed (trump opening : ℕ) (deal : List ℕ) (e : List Event) (at end : ℕ) : Type 0 where
+  pub played : NoneRefused trump opening deal e
+  pub next : end ≤ at + 840
 
-pub cards-found : (out : Bool) (trump opening : ℕ) (deal bytes : List ℕ) (at : ℕ) {g : List ℕ} {e : ℕ} → cardsBy out trump opening deal bytes at ≡ found g e
-    → Allowed trump opening deal g at e
-unfolding cardsBy Clean
-cards-found out trump opening deal bytes at {g} {e} q =
+pub cards-found : (out : Bool) (trump opening : ℕ) (deal bytes : List ℕ) (at : ℕ) {e : List Event} {end : ℕ} → length deal ≡ 52
+    → cardsBy out trump opening deal bytes at ≡ found e end → Allowed trump opening deal e at end
+unfolding cardsBy
+cards-found out trump opening deal bytes at {e} all q =
     let r = first-read 6 bytes at _ q in
     let count = numberAt bytes at 6 in
     let t = first-test tooManyCards count (ltb 52 count || (out && ltb 0 count)) bytes (at + 6) _ (r .1) in
-    let f = each-found 6 cardPlace (cardRefusal trump opening deal) bytes count [] (at + 6) (t .1) tt in
-    record { played = all-played deal trump opening g (f .0); next = omega (arith, f .1, number-lt bytes at 6) }
+    let few = ltb-false 52 count (or-left (ltb 52 count) _ (t .0)) in
+    let k = plays-read trump opening deal all count mostCodes [] bytes (at + 6) (r .0) (t .1) in
+    record {
+      played = rw (k .history) (none-refused trump opening deal all (k .plays) (k .each) (k .codes));
+      next = omega (arith, k .stands .next, plays-bits (k .plays) .1, k .cards, k .codes);
+    }
 
 -- a refusal of the cards is not 0
 fair-by : (out : Bool) (trump opening : ℕ) (deal bytes : List ℕ) (at : ℕ) → Fair (cardsBy out trump opening deal bytes at)
-unfolding cardsBy cardsPlayed
+unfolding cardsBy cardsPlayed Events.cardsOf
 fair-by out trump opening deal bytes at =
     fair-read 6 bytes at _ (λ n ln.
     fair-test tooManyCards n (ltb 52 n || (out && ltb 0 n)) bytes (at + 6) _ (λ t. at-place refl (omega arith))
-    (fair-each 6 cardPlace (cardRefusal trump opening deal) (λ g c. omega arith) (numbered trump opening deal) n [] bytes (at + 6)
-    (omega arith)))
+    (fair-plays trump opening deal n mostCodes [] bytes (at + 6) (omega arith)))
 
 -- ---- the cards in the code: bounds on the position, whatever the calls were
 module _ (out : Bool) (trump opening : ℕ) (deal bytes : List ℕ) (at : ℕ) (all : length deal ≡ 52) where
-  abbrev cards : Reading (List ℕ)
+  abbrev cards : Reading (List Event)
   cards = cardsBy out trump opening deal bytes at
 
   record Bounded (k : Cards) : Type 0 where
-    played : k .after .played ≤ 52
-    next : k .next ≤ at + 384
+    played : k .after .play .played ≤ 52
+    next : k .next ≤ at + 840
 
-  bounded : (r : Reading (List ℕ)) → cards ≡ r → cardsOf deal trump opening r .refusal ≡ 0 → Bounded (cardsOf deal trump opening r)
+  bounded : (r : Reading (List Event)) → cards ≡ r → cardsOf deal trump opening r .refusal ≡ 0 → Bounded (cardsOf deal trump opening r)
   bounded (refused n place) q e = absurd (not-0 (subst Fair q (fair-by out trump opening deal bytes at)) e)
-  bounded (found g next) q e =
-      let f = cards-found out trump opening deal bytes at q in
-      record { played = rw (stands deal trump opening all g (f .played) .played) (at-most-52 deal trump opening all g (f .played)); next = f .next }
+  bounded (found e next) q z =
+      let f = cards-found out trump opening deal bytes at all q in
+      let g = Events.cardsOf e in
+      let allowed = cards-allowed deal trump opening e (f .played) in
+      record {
+        played = rw (play-is deal trump opening e (f .played), stands deal trump opening all g allowed .played) (at-most-52 deal trump opening all g allowed);
+        next = f .next;
+      }
 
   pub card-bounds : (k : Cards) → k ≡ cardsOf deal trump opening cards → k .refusal ≡ 0 → at < 16384
-      → (k .after .played ≤ 52) × (k .next < 32768)
+      → (k .after .play .played ≤ 52) × (k .next < 32768)
   card-bounds k ek e h =
       let b = subst (λ (x : Cards). Bounded x) (sym ek) (bounded cards refl (rw ek at e)) in
       (b .played, omega (arith, b .next))
+
+-- the opening leader is a seat
+pub leader-lt : (d : ℕ) → clockwise d 1 < 4
+unfolding clockwise
+leader-lt d = omega arith
 
 -- ---- from the calls on
 pub section-cards : (d : ℕ) (deal h bytes : List ℕ) (at : ℕ) → cardsBy (Law.passedOut h) (Law.trumpAfter h) (Law.openingAfter d h) deal bytes at
@@ -136,15 +155,15 @@ module _ (board table : ℕ) (a : Auction) (deal h : List ℕ) (told : OfCalls b
   cards-law : cardsBy out (k .strain) opening deal bytes at ≡ Judge.readCards (dealer board) deal h bytes at
   cards-law = rw (passed, trumped, led) (section-cards (dealer board) deal h bytes at)
 
-  abbrev rest : Reading (List ℕ) → Reading Parts
-  rest r = onward r (λ g next. afterCards board table deal h g bytes next)
+  abbrev rest : Reading (List Event) → Reading Parts
+  rest r = onward r (λ e next. afterCards board table deal h e bytes next)
 
   whole : afterCalls board table deal h bytes at ≡ rest (cardsBy out (k .strain) opening deal bytes at)
   unfolding afterCalls
   whole = rw cards-law
 
   module _ (c : Cards) (ec : c ≡ cardsOf deal (k .strain) opening (cardsBy out (k .strain) opening deal bytes at)) where
-    stopped : (r : Reading (List ℕ)) → (cardsOf deal (k .strain) opening r .refusal ≡ 0 → ⊥) → noJudgement (cardsOf deal (k .strain) opening r .refusal)
+    stopped : (r : Reading (List Event)) → (cardsOf deal (k .strain) opening r .refusal ≡ 0 → ⊥) → noJudgement (cardsOf deal (k .strain) opening r .refusal)
         ≡ judgedOf (rest r)
     stopped (refused n place) e = refl
     stopped (found g next) e = absurd (e refl)
@@ -155,10 +174,10 @@ module _ (board table : ℕ) (a : Auction) (deal h : List ℕ) (told : OfCalls b
     module _ (r : Judged) where
       -- the answer, given any histories that these positions are of
       abbrev Tells : Cards → Type 0
-      Tells x = (dealt calls cards : List ℕ) → OfCards board out k dealt calls cards (x .after) → r
-          ≡ judgedOf (afterCards board table dealt calls cards bytes (x .next))
+      Tells x = (dealt calls : List ℕ) (events : List Event) → OfCards board out k dealt calls events (x .after)
+          → r ≡ judgedOf (afterCards board table dealt calls events bytes (x .next))
 
-      goes-on : (q : Reading (List ℕ)) → cardsBy out (k .strain) opening deal bytes at ≡ q → cardsOf deal (k .strain) opening q .refusal ≡ 0
+      goes-on : (q : Reading (List Event)) → cardsBy out (k .strain) opening deal bytes at ≡ q → cardsOf deal (k .strain) opening q .refusal ≡ 0
           → Tells (cardsOf deal (k .strain) opening q)
           → r ≡ judgedOf (rest q)
       goes-on (refused n place) e o f = absurd (not-0 (subst Fair e (fair-by out (k .strain) opening deal bytes at)) o)
@@ -168,7 +187,7 @@ module _ (board table : ℕ) (a : Auction) (deal h : List ℕ) (told : OfCalls b
             contract = contracted;
             deal-of = told .deal-of;
             position = ap₂ (λ (t l : ℕ). positionOf deal t l g) trumped led;
-            played = rw (sym trumped, sym led) (cards-found out (k .strain) opening deal bytes at e .played);
+            played = rw (sym trumped, sym led) (cards-found out (k .strain) opening deal bytes at (told .deal-of .places) e .played);
           })
 
       pub cards-read : c .refusal ≡ 0

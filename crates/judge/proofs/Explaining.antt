@@ -99,7 +99,7 @@ parts-possible p ok bid =
     }
 
 -- ---- the answer to lawful parts
-module _ (p : Parts) (ok : Lawful p) (few : length (revokesOf p) ≤ 36) where
+module _ (p : Parts) (ok : Lawful p) (few : length (revokesOf p) ≤ 48) where
   abbrev all : ℕ
   all = number (answerFields p)
 

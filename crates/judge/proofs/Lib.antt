@@ -2,7 +2,10 @@ pub mod Points
 pub mod Sections
 pub mod Turns
 pub mod CallTurns
+pub mod CodeTurns
+pub mod PlayTurns
 pub mod CardTurns
+pub mod RunTurns
 pub mod Claiming
 pub mod Dealing
 pub mod Settling

@@ -11,7 +11,8 @@ use Rattle.laws.specs.Choice.{if_then_else_}
 use Rattle.laws.specs.Refusals.{auctionUnfinished}
 use Rattle.laws.specs.Auction.{isOver}
 use Rattle.laws.specs.CallRefusal.{callRefusal, callPlace}
-use Rattle.laws.specs.CardRefusal.{cardRefusal, cardPlace}
+use Rattle.laws.specs.CodeRefusal.{mostCodes}
+use Rattle.laws.specs.Plays.{readPlays}
 use Rattle.laws.specs.Reading.{Reading, Reading.refused, Reading.found, onward, numberAt, read, refuse, readEach, overfull}
 use Rattle.laws.specs.Judge as Law
 use Rattle.laws.proofs.CallRefusals.{numbered, call-place-le}
@@ -101,7 +102,12 @@ over-most true count =
 over-most false count =
     by-test (ltb 52 count) (λ (q : ltb 52 count ≡ true). rw q) (λ (q : ltb 52 count ≡ false). rw q)
 
--- ---- cards: the count, then each card
+-- and they are at most 52
+pub most-le : (out : Bool) (count : ℕ) → count ≤ (if out then 0 else 52) → count ≤ 52
+most-le true count h = omega arith
+most-le false count h = h
+
+-- ---- cards: the count, then each card with the codes before it
 module _ (out : Bool) (trump opening : ℕ) (deal bytes : List ℕ) (at : ℕ) where
   pub cards-short : read 6 bytes at ≡ refused 2 0 → noCards 2 0 ≡ cardsOf deal trump opening (cardsBy out trump opening deal bytes at)
   unfolding cardsBy
@@ -113,7 +119,7 @@ module _ (out : Bool) (trump opening : ℕ) (deal bytes : List ℕ) (at : ℕ) w
     too-many-cards h = rw (ec, over-most out count ∙ lt-ltb (if out then 0 else 52) count h)
 
     pub cards-read : count ≤ (if out then 0 else 52)
-        → cardsOf deal trump opening (readEach 6 cardPlace (cardRefusal trump opening deal) count [] bytes (at + 6))
+        → cardsOf deal trump opening (readPlays trump opening deal count mostCodes [] bytes (at + 6))
         ≡ cardsOf deal trump opening (cardsBy out trump opening deal bytes at)
     unfolding cardsBy refuse
     cards-read h = rw (ec, over-most out count ∙ le-ltb (if out then 0 else 52) count h)

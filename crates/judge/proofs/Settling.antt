@@ -9,7 +9,7 @@ use lib.Dec.{T}
 use lib.IntN.{ℤ, pos, negsuc, negℤ, natAbs}
 use lib.Signed.{leZ, nonNeg}
 use Rattle.laws.specs.Law64.{sideRevoked, tricksAfter}
-use Rattle.laws.specs.Law61.{Revoke}
+use Rattle.laws.specs.LeadRevoke.{Counted}
 use Rattle.laws.specs.Record.{field, bits, number}
 use Rattle.laws.specs.Judgement.{twosComplement}
 use Rattle.laws.proofs.Tests.{by-test, not-both}
@@ -21,7 +21,7 @@ use Rattle.laws.proofs.Integers.{mag-le-size}
 use Rattle.laws.specs.Law2.{vulnerable}
 use Rattle.laws.specs.Law77.{declarerScore, nsScore}
 use Rattle.play.specs.declared.Tricks.{Tricks}
-use Rattle.play.specs.declared.Revokes.{Revokes}
+use Rattle.penalty.specs.declared.listed.Listed.{Listed}
 use Rattle.transfer.specs.Inputs.{revokesIn, transferredIn}
 use Rattle.judge.specs.Settled.{headFields, playFields, wonIn, afterIn, settledFields}
 
@@ -70,7 +70,7 @@ pub word-le : (z : ℤ) → leZ (pos 0) z ≡ false → twosComplement z ≤ 655
 word-le z e = rw (sym (word-down z e)) (omega arith)
 
 -- ---- declarer's tricks after Law 64 are at most both together
-pub after-le : (declarer : ℕ) (rs : List Revoke) (won moved : ℕ) → tricksAfter declarer rs won moved ≤ won + moved
+pub after-le : (declarer : ℕ) (rs : List Counted) (won moved : ℕ) → tricksAfter declarer rs won moved ≤ won + moved
 unfolding tricksAfter
 after-le declarer rs won moved =
     by-test (sideRevoked (declarer % 2) rs)
@@ -78,7 +78,7 @@ after-le declarer rs won moved =
     (λ (q : sideRevoked (declarer % 2) rs ≡ false). rw q (omega arith))
 
 -- ---- the whole answer, from what each call gave
-pub settled : (board table : ℕ) (k : Contract) (ts : Tricks) (rs : Revokes) (claim left taken moved after : ℕ) (v : Bool) (score ns : ℤ) (word head play : ℕ)
+pub settled : (board table : ℕ) (k : Contract) (ts : Tricks) (rs : Listed) (claim left taken moved after : ℕ) (v : Bool) (score ns : ℤ) (word head play : ℕ)
     → taken ≡ wonIn ts (k .declarer) claim → moved ≡ transferredIn rs ts (k .declarer) claim left → after ≡ tricksAfter (k .declarer) (revokesIn rs) taken moved
     → v ≡ vulnerable board (k .declarer)
     → score ≡ declarerScore (record { level = k .level; strain = k .strain; doubling = k .doubling; vulnerable = v }) after

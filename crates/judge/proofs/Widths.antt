@@ -13,16 +13,18 @@ use Rattle.laws.specs.Cards.{sideOf, partnerOf}
 use Rattle.laws.specs.Auction as Auction
 use Rattle.laws.specs.Law2.{dealer}
 use Rattle.laws.specs.Law44.{cardsPlayed, tricksComplete, tricksLeft, tricksWon}
-use Rattle.laws.specs.Law61.{Revoke}
+use Rattle.laws.specs.LeadRevoke.{Counted}
 use Rattle.laws.specs.Law64.{Due, wonFrom, entitlement, dues, total, sideRevoked, bothRevoked, transferredTricks, tricksAfter}
 use Rattle.laws.specs.Law68.{Claim, none, agreed, claimable, claimedTricks}
 use Rattle.laws.specs.Law77.{validScore}
 use Rattle.laws.specs.Record.{Parts}
 use Rattle.laws.specs.Lawful.{Lawful, Claimed}
-use Rattle.laws.specs.Judgement.{callsOf, cardsOf, contractOf, declarerOf, trumpOf, openingOf, winnersOf, revokesOf, claimedOf, wonOf}
+use Rattle.laws.specs.Events.{cardsOf, cardsAmong}
+use Rattle.laws.specs.Judgement.{callsOf, playOf, contractOf, declarerOf, trumpOf, openingOf, winnersOf, countedOf, claimedOf, wonOf}
 use Rattle.laws.specs.Judgement.{transferredOf, afterOf, stakeOf, scoreOf, twosComplement}
 use Rattle.laws.proofs.Tests.{by-test, not-both, or-left, and-left}
 use Rattle.laws.proofs.Counts.{many-append}
+use Rattle.laws.proofs.Plays.{cards-reverse}
 use Rattle.laws.proofs.Contracts.{level-bounds, strain-lt, doubling-le, declarer-side}
 use Rattle.laws.proofs.Score.{score-valid}
 use Rattle.play.proofs.Complete.{winners-count}
@@ -54,14 +56,14 @@ claim-shared h g (agreed t) w = omega (arith, leb-true t (tricksLeft g) (w .2))
 
 -- ---- what changes sides is at most what the other side has
 module _ (dummy : ℕ) (ws : List ℕ) (claimed : ℕ → ℕ) (side other : ℕ) (two : (seat : ℕ) → (sideOf seat ≡ side → ⊥) → sideOf seat ≡ other) where
-  total-le : (earlier rs : List Revoke) → sideRevoked side rs ≡ false → total (dues dummy ws claimed earlier rs) ≤ tricksWon other ws + claimed other
+  total-le : (earlier rs : List Counted) → sideRevoked side rs ≡ false → total (dues dummy ws claimed earlier rs) ≤ tricksWon other ws + claimed other
   unfolding total dues sideRevoked some wonFrom
   total-le earlier [] q = omega arith
   total-le earlier (r ∷ rs) q =
       let s : sideOf (r .seat) ≡ other = two (r .seat) (eqb-false (sideOf (r .seat)) side (or-left (eqb (sideOf (r .seat)) side) _ q)) in
       rw s (omega (arith, from-later other (r .trick - 1) ws))
 
-  moved-le : (rs : List Revoke) → sideRevoked side rs ≡ false → transferredTricks dummy ws claimed rs ≤ tricksWon other ws + claimed other
+  moved-le : (rs : List Counted) → sideRevoked side rs ≡ false → transferredTricks dummy ws claimed rs ≤ tricksWon other ws + claimed other
   unfolding transferredTricks
   moved-le rs q =
       by-test (bothRevoked rs)
@@ -82,9 +84,9 @@ module _ (p : Parts) (ok : Lawful p) where
   the-other : (seat : ℕ) → (sideOf seat ≡ side → ⊥) → sideOf seat ≡ other
   the-other seat off = omega (arith, off)
 
-  complete : tricksComplete (cardsOf p) ≤ 13
-  unfolding tricksComplete cardsPlayed
-  complete = omega (arith, length-reverse (p .cards), ok .layout .cards)
+  complete : tricksComplete (cardsOf (playOf p)) ≤ 13
+  unfolding tricksComplete cardsPlayed cardsAmong
+  complete = omega (arith, cards-reverse (p .plays), ok .layout .cards)
 
   in-all : wonOf p + (tricksWon other (winnersOf p) + claimedOf p other) ≤ 13
   unfolding wonOf claimedOf winnersOf tricksLeft
@@ -92,8 +94,8 @@ module _ (p : Parts) (ok : Lawful p) where
       let mine : eqb side side ≡ true = eq-eqb side side refl in
       let theirs : eqb other side ≡ false = ne-eqb other side (λ e. apart (sym e)) in
       let won = shared side other apart (winnersOf p) in
-      let claimed = claim-shared (callsOf p) (cardsOf p) (p .claim) (ok .claim) in
-      rw (mine, theirs) (omega (arith, won, winners-count (trumpOf p) (openingOf p) (cardsOf p), claimed, complete))
+      let claimed = claim-shared (callsOf p) (cardsOf (playOf p)) (p .claim) (ok .claim) in
+      rw (mine, theirs) (omega (arith, won, winners-count (trumpOf p) (openingOf p) (cardsOf (playOf p)), claimed, complete))
 
   pub won-le : wonOf p ≤ 13
   won-le = omega (arith, in-all)
@@ -101,10 +103,10 @@ module _ (p : Parts) (ok : Lawful p) where
   pub after-le : afterOf p ≤ 13
   unfolding afterOf tricksAfter transferredOf
   after-le =
-      by-test (sideRevoked side (revokesOf p))
-      (λ (q : sideRevoked side (revokesOf p) ≡ true). rw q (omega (arith, won-le)))
-      (λ (q : sideRevoked side (revokesOf p) ≡ false).
-      let moved = moved-le (partnerOf (declarerOf p)) (winnersOf p) (claimedOf p) side other the-other (revokesOf p) q in
+      by-test (sideRevoked side (countedOf p))
+      (λ (q : sideRevoked side (countedOf p) ≡ true). rw q (omega (arith, won-le)))
+      (λ (q : sideRevoked side (countedOf p) ≡ false).
+      let moved = moved-le (partnerOf (declarerOf p)) (winnersOf p) (claimedOf p) side other the-other (countedOf p) q in
       rw q (omega (arith, in-all, moved)))
 
   module _ (bid : Auction.passedOut (callsOf p) ≡ false) where

@@ -6,20 +6,25 @@ use mathlib.Core.List.{List, [], _∷_, _++_}
 use lib.Dec.{eqb, ltb, leb}
 use lib.ListN.{getD, replicate}
 use Rattle.laws.specs.Choice.{if_then_else_}
-use Rattle.laws.specs.Refusals.{refusalNumber, tooManyCards, playUnfinished, noClaimPoint, claimTooMany}
-use Rattle.laws.specs.CardRefusal.{cardRefusal, cardPlace}
+use Rattle.laws.specs.Refusals.{refusalNumber, tooManyCards, playUnfinished, noClaimPoint, claimTooMany, tooManyCodes}
+use Rattle.laws.specs.Events.{Event, codesOf}
+use Rattle.laws.specs.CodeRefusal.{mostCodes, codesFull}
+use Rattle.laws.specs.Plays.{playPlace, readCode, readPlays}
 use Rattle.laws.specs.Law68.{Claim, none, agreed}
-use Rattle.laws.specs.Reading.{Reading, Reading.refused, Reading.found, Reader, onward, _>>=_, _>>_, give, numberAt, read, refuse, readEach}
+use Rattle.laws.specs.Reading.{Reading, Reading.refused, Reading.found, Reader, onward, _>>=_, _>>_, give, numberAt, read, refuse}
 use Rattle.laws.specs.Judge as Law
-use Rattle.auction.specs.Position.{positionOf}
+use Rattle.auction.specs.Position as Auction
 use Rattle.deal.specs.Hands.{wordsOf}
-use Rattle.play.specs.Position.{startOf}
-use Rattle.play.specs.History as Play
+use Rattle.play.specs.declared.Play.{Play}
+use Rattle.play.specs.Position.{startOf, step, verdictOf, verdictNumber}
+use Rattle.penalty.specs.Table.{tableWith}
+use Rattle.penalty.specs.History.{positionOf}
 use Rattle.play.specs.Claims.{pointAt}
 use Rattle.judge.specs.declared.reading.Heading.{Heading}
 use Rattle.judge.specs.declared.reading.Calls.{Calls}
 use Rattle.judge.specs.declared.reading.Deal.{Deal}
-use Rattle.judge.specs.declared.cards.Cards.{Cards}
+use Rattle.judge.specs.declared.plays.Cards.{Cards}
+use Rattle.judge.specs.declared.runs.Run.{Run}
 use Rattle.judge.specs.declared.claim.Claim.{Claim as Read}
 
 -- ---- board and table
@@ -32,11 +37,11 @@ headingOf (found top at) = record { refusal = 0; board = top .board; table = top
 
 -- ---- calls
 abbrev pub noCalls : ℕ → ℕ → Calls
-noCalls n place = record { refusal = refusalNumber n place; next = 0; after = positionOf 0 [] }
+noCalls n place = record { refusal = refusalNumber n place; next = 0; after = Auction.positionOf 0 [] }
 
 abbrev pub callsOf : ℕ → Reading (List ℕ) → Calls
 callsOf dealer (refused n place) = noCalls n place
-callsOf dealer (found h at) = record { refusal = 0; next = at; after = positionOf dealer h }
+callsOf dealer (found h at) = record { refusal = 0; next = at; after = Auction.positionOf dealer h }
 
 -- ---- deal
 -- n fields of w bits from a bit on
@@ -56,20 +61,43 @@ abbrev pub dealOf : Reading (List ℕ) → Deal
 dealOf (refused n place) = noDeal n place
 dealOf (found deal at) = record { refusal = 0; holders = deal; hands = wordsOf deal }
 
--- ---- cards
+-- ---- cards, and the codes before them
 abbrev pub noCards : ℕ → ℕ → Cards
-noCards n place = record { refusal = refusalNumber n place; next = 0; after = startOf (replicate 52 0) (replicate 4 0) 0 0 }
+noCards n place = record { refusal = refusalNumber n place; next = 0; after = tableWith (startOf (replicate 52 0) (replicate 4 0) 0 0) 0 }
 
-abbrev pub cardsOf : List ℕ → ℕ → ℕ → Reading (List ℕ) → Cards
+abbrev pub cardsOf : List ℕ → ℕ → ℕ → Reading (List Event) → Cards
 cardsOf deal trump opening (refused n place) = noCards n place
-cardsOf deal trump opening (found g at) = record { refusal = 0; next = at; after = Play.positionOf deal trump opening g }
+cardsOf deal trump opening (found e at) = record { refusal = 0; next = at; after = positionOf deal trump opening e }
+
+-- what follows a code, where there is room for it
+unfoldable pub codeBy : ℕ → ℕ → List ℕ → ℕ → List Event → Reader (List Event)
+codeBy trump opening deal code e = do
+  refuse tooManyCodes (playPlace e) (codesFull e)
+  readCode trump opening deal code e
+
+-- the plays after the events e, up to so many cards in all
+unfoldable pub playsBy : ℕ → ℕ → List ℕ → ℕ → List Event → Reader (List Event)
+playsBy trump opening deal count e = readPlays trump opening deal (count - playPlace e) (mostCodes - codesOf e) e
+
+-- a run of n cards from a bit and a place on: it stops at the first that is refused
+unfoldable pub runOf : List ℕ → Play → ℕ → ℕ → ℕ → Run
+runOf bytes p here i zero = record { refusal = 0; code = 0; place = i; next = here; play = p }
+runOf bytes p here i (suc n) =
+    if eqb (verdictNumber (verdictOf p (numberAt bytes here 6))) 0 then runOf bytes (step p (numberAt bytes here 6)) (here + 6) (i + 1) n
+    else record {
+      refusal = verdictNumber (verdictOf p (numberAt bytes here 6));
+      code = numberAt bytes here 6;
+      place = i;
+      next = here;
+      play = p;
+    }
 
 -- the Laws' section by what it takes of the calls: whether they passed the board out, the trump and the opening leader
-unfoldable pub cardsBy : Bool → ℕ → ℕ → List ℕ → Reader (List ℕ)
+unfoldable pub cardsBy : Bool → ℕ → ℕ → List ℕ → Reader (List Event)
 cardsBy out trump opening deal = do
   count ← read 6
   refuse tooManyCards count (ltb 52 count || (out && ltb 0 count))
-  readEach 6 cardPlace (cardRefusal trump opening deal) count []
+  readPlays trump opening deal count mostCodes []
 
 -- ---- claim
 abbrev pub noClaim : ℕ → ℕ → Read

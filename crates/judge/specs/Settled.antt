@@ -11,7 +11,7 @@ use Rattle.laws.specs.Record.{Field, field}
 use Rattle.laws.specs.Judgement.{twosComplement}
 use Rattle.auction.specs.declared.Contract.{Contract}
 use Rattle.play.specs.declared.Tricks.{Tricks}
-use Rattle.play.specs.declared.Revokes.{Revokes}
+use Rattle.penalty.specs.declared.listed.Listed.{Listed}
 use Rattle.transfer.specs.Inputs.{revokesIn, transferredIn}
 
 -- board and table, with the 40 bits behind them zero
@@ -36,7 +36,7 @@ unfoldable pub wonIn : Tricks → ℕ → ℕ → ℕ
 wonIn ts declarer claim = getD (ts .won) (sideOf declarer) 0 + claim
 
 -- declarer's tricks after Law 64
-unfoldable pub afterIn : Contract → Tricks → Revokes → ℕ → ℕ → ℕ
+unfoldable pub afterIn : Contract → Tricks → Listed → ℕ → ℕ → ℕ
 afterIn k ts rs claim left = tricksAfter (k .declarer) (revokesIn rs) (wonIn ts (k .declarer) claim) (transferredIn rs ts (k .declarer) claim left)
 
 -- what the contract is played for
@@ -44,7 +44,7 @@ abbrev pub stakeIn : ℕ → Contract → Stake
 stakeIn board k = record { level = k .level; strain = k .strain; doubling = k .doubling; vulnerable = vulnerable board (k .declarer) }
 
 -- the whole answer
-unfoldable pub settledFields : ℕ → ℕ → Contract → Tricks → Revokes → ℕ → ℕ → List Field
+unfoldable pub settledFields : ℕ → ℕ → Contract → Tricks → Listed → ℕ → ℕ → List Field
 settledFields board table k ts rs claim left =
     field 7 board
     ∷ field 9 table

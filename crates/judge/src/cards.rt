@@ -1,38 +1,25 @@
-// The cards, read in order and judged each on those before it, as the Laws' section of that name is.
-use crate::codes::code_ending;
+// The cards, read in order and judged each on those before it, as the Laws' section of that name is; from the first code on, with the codes among them.
 use crate::codes::whole_codes;
+use crate::plays::Cards;
+use crate::plays::no_cards;
+use crate::plays::read_plays;
 use crate::reading::narrow;
+use crate::runs::read_run;
 use field::Field;
 use laws::RECORD_ENDS;
 use laws::TOO_MANY_CARDS;
-use laws::refusal_number;
+use penalty::Table;
+use penalty::begins_code;
 use play::Play;
 ghost use mathlib.Core.Path.{_≡_};
 ghost use mathlib.Core.List.{[]};
 ghost use Prim.Native.Nat.{_<_, _≤_};
 ghost use Rattle.laws.specs.Choice.{if_then_else_};
-ghost use Rattle.laws.specs.CardRefusal.{cardRefusal, cardPlace};
-ghost use Rattle.laws.specs.Reading.{readEach};
+ghost use Rattle.laws.specs.CodeRefusal.{mostCodes};
+ghost use Rattle.laws.specs.Plays.{readPlays};
 ghost use Rattle.deal.specs.Hands.{wordsOf};
-ghost use Rattle.judge.specs.Sections.{noCards, cardsOf, cardsBy};
-
-// The position after the cards and the bit behind them; or the number of their refusal, 0 where there is none.
-pub struct Cards {
-    pub refusal: u32,
-    pub next: usize,
-    pub after: Play,
-}
-
-fn no_cards(refusal: u8, place: u16) -> Cards
-    ensures { λ r. ⌜ r ≡ noCards refusal place ⌝ }
-{
-    let after = Play::new([0u8; 52], [0u64; 4], 0, 0);
-    Cards {
-        refusal: refusal_number(refusal, place),
-        next: 0,
-        after,
-    }
-}
+ghost use Rattle.penalty.specs.History.{ThirteenEach};
+ghost use Rattle.judge.specs.Sections.{cardsOf, cardsBy};
 
 // So many cards from a bit on, each judged on those before it; `hands` are those of the deal.
 fn read_each_card(
@@ -44,30 +31,33 @@ fn read_each_card(
     at: usize,
     count: u8,
 ) -> Cards
-    requires { ⌜ (8 ≤ at) × (at < 65536) × (count < 64) × (hands ≡ wordsOf deal) ⌝ }
-    ensures { λ r. ⌜ r ≡ cardsOf deal trump opening (readEach 6 cardPlace (cardRefusal trump opening deal) count [] (now (bytes .entry)) at) ⌝ }
+    requires { ⌜ (8 ≤ at) × (at < 32000) × (count ≤ 52) × (hands ≡ wordsOf deal) × ThirteenEach deal × (opening < 4) ⌝ }
+    ensures { λ r. ⌜ r ≡ cardsOf deal trump opening (readPlays trump opening deal count mostCodes [] (now (bytes .entry)) at) ⌝ }
 {
     let whole = whole_codes(bytes, at, count as u16);
-    let mut p = Play::new(deal, hands, trump, opening);
-    let mut here = at;
-    let mut i: u64 = 0;
-    while i < whole {
-        let c = code_ending(bytes, here + 5);
-        let f = p.refusal(c);
-        if f != 0 {
-            return no_cards(f, i as u16);
+    let first = Play::new(deal, hands, trump, opening);
+    let run = read_run(bytes, first, at, 0, whole);
+    let p = run.play;
+    if run.refusal != 0 {
+        if begins_code(run.code) {
+            return read_plays(
+                bytes,
+                Table::after_cards(p, opening),
+                run.next,
+                run.place,
+                count,
+            );
         }
-        p = p.play(c);
-        here += 6;
-        i += 1;
+        return no_cards(run.refusal, run.place as u16);
     }
     if whole < count as u64 {
         return no_cards(RECORD_ENDS, 0);
     }
+    let after = Table::after_cards(p, opening);
     Cards {
         refusal: 0,
-        next: here,
-        after: p,
+        next: run.next,
+        after,
     }
 }
 
@@ -88,7 +78,7 @@ pub(crate) fn read_cards(
     opening: u8,
     at: usize,
 ) -> Cards
-    requires { ⌜ (8 ≤ at) × (at < 32768) × (hands ≡ wordsOf deal) ⌝ }
+    requires { ⌜ (8 ≤ at) × (at < 16384) × (hands ≡ wordsOf deal) × ThirteenEach deal × (opening < 4) ⌝ }
     ensures { λ r. ⌜ r ≡ cardsOf deal trump opening (cardsBy out trump opening deal (now (bytes .entry)) at) ⌝ }
 {
     let Field::Value(count) = field::read(bytes, at, 6) else {

@@ -3,7 +3,9 @@ mod cards;
 mod claim;
 mod codes;
 mod law77;
+mod plays;
 mod reading;
+mod runs;
 mod settle;
 mod slip;
 mod whole;
@@ -20,7 +22,7 @@ ghost use Prim.Native.Nat.{_<_, _≤_};
 ghost use lib.ListN.{length, take, drop};
 ghost use Rattle.laws.specs.Record.{bytesOf};
 ghost use Rattle.laws.specs.Judge.{judgeOf, numberOf};
-ghost use Rattle.laws.specs.Lent.{roomsOf, answerLeft, listLeft};
+ghost use Rattle.laws.specs.Lent.{roomsOf, answerLeft, listLeft, failuresLeft};
 
 fn narrow(x: u64) -> u8
     requires { ⌜ x < 256 ⌝ }
@@ -44,8 +46,8 @@ fn put7(answer: &mut [u8], x: u64)
 }
 
 // The first bytes of a revoke list over the front of list.
-fn put_list(list: &mut [u8], revokes: [u8; 36], count: usize)
-    requires { ⌜ (count ≤ 36) × (36 ≤ length (now list)) ⌝ }
+fn put_list(list: &mut [u8], revokes: [u8; 48], count: usize)
+    requires { ⌜ (count ≤ 48) × (48 ≤ length (now list)) ⌝ }
     ensures { λ _. ⌜ now (list .exit) ≡ take count revokes ++ drop count (now (list .entry)) ⌝ }
 {
     let mut i: usize = 0;
@@ -55,21 +57,44 @@ fn put_list(list: &mut [u8], revokes: [u8; 36], count: usize)
     }
 }
 
-// Judges a table record. The answer is 0, with seven bytes in answer and a byte for each revoke in list;
-// or a refusal × 1024 + its place, with both as they were.
+// The 52 bytes of the plays against Law 50 over the front of failures.
+fn put_failures(failures: &mut [u8], told: [u8; 52])
+    requires { ⌜ 52 ≤ length (now failures) ⌝ }
+    ensures { λ _. ⌜ now (failures .exit) ≡ told ++ drop 52 (now (failures .entry)) ⌝ }
+{
+    let mut i: usize = 0;
+    while i < 52 {
+        failures[i] = told[i];
+        i += 1;
+    }
+}
+
+// Judges a table record. The answer is 0, with seven bytes in answer, a byte for each revoke in list, and 52 bytes of the plays against Law 50C or 50D1 in
+// failures; or a refusal × 1024 + its place, with all three as they were.
 #[no_mangle]
-pub extern "C" fn judge_record(bytes: &[u8], answer: &mut [u8], list: &mut [u8]) -> u32
-    ensures number { λ r. ⌜ r ≡ numberOf (judgeOf (now (bytes .entry)) (roomsOf (now (answer .entry)) (now (list .entry)))) ⌝ }
+pub extern "C" fn judge_record(
+    bytes: &[u8],
+    answer: &mut [u8],
+    list: &mut [u8],
+    failures: &mut [u8],
+) -> u32
+    ensures number { λ r. ⌜ r
+        ≡ numberOf (judgeOf (now (bytes .entry)) (roomsOf (now (answer .entry)) (now (list .entry)) (now (failures .entry)))) ⌝ }
     ensures answered { λ r. ⌜ now (answer .exit)
-        ≡ answerLeft (judgeOf (now (bytes .entry)) (roomsOf (now (answer .entry)) (now (list .entry)))) (now (answer .entry)) ⌝ }
+        ≡ answerLeft (judgeOf (now (bytes .entry)) (roomsOf (now (answer .entry)) (now (list .entry)) (now (failures .entry)))) (now (answer .entry)) ⌝ }
     ensures listed { λ r. ⌜ now (list .exit)
-        ≡ listLeft (judgeOf (now (bytes .entry)) (roomsOf (now (answer .entry)) (now (list .entry)))) (now (list .entry)) ⌝ }
+        ≡ listLeft (judgeOf (now (bytes .entry)) (roomsOf (now (answer .entry)) (now (list .entry)) (now (failures .entry)))) (now (list .entry)) ⌝ }
+    ensures failed { λ r. ⌜ now (failures .exit)
+        ≡ failuresLeft (judgeOf (now (bytes .entry)) (roomsOf (now (answer .entry)) (now (list .entry)) (now (failures .entry)))) (now (failures .entry)) ⌝ }
 {
     if answer.len() < 7 {
         return refusal_number(SHORT_BUFFER, 0);
     }
-    if list.len() < 36 {
+    if list.len() < 48 {
         return refusal_number(SHORT_BUFFER, 1);
+    }
+    if failures.len() < 52 {
+        return refusal_number(SHORT_BUFFER, 2);
     }
     let judged = judge(bytes);
     let refusal = judged.refusal;
@@ -82,5 +107,7 @@ pub extern "C" fn judge_record(bytes: &[u8], answer: &mut [u8], list: &mut [u8])
     let count = revokes.count as usize;
     put7(answer, bits);
     put_list(list, listed, count);
+    let told = judged.failures;
+    put_failures(failures, told);
     refusal
 }

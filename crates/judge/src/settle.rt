@@ -2,7 +2,7 @@
 use crate::law77::Stake;
 use crate::law77::declarer_score;
 use auction::Contract;
-use play::Revokes;
+use penalty::Listed;
 use play::Tricks;
 ghost use mathlib.Core.Path.{_≡_};
 ghost use Prim.Native.Nat.{_<_, _^_};
@@ -86,7 +86,7 @@ pub(crate) fn settle(
     table: u16,
     k: Contract,
     ts: Tricks,
-    rs: Revokes,
+    rs: Listed,
     claim: u8,
     left: u8,
 ) -> u64

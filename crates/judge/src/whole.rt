@@ -1,4 +1,4 @@
-// The whole record judged: its sections in order, then the answer's bits and the revokes.
+// The whole record judged: its sections in order, then the answer's bits, the revokes and the plays against Law 50.
 use crate::cards::read_cards;
 use crate::claim::Claim;
 use crate::claim::is_padding;
@@ -12,36 +12,41 @@ use auction::Auction;
 use auction::Contract;
 use laws::NOT_PADDING;
 use laws::refusal_number;
-use play::Play;
-use play::Revokes;
+use penalty::Listed;
+use penalty::Table;
 use play::Tricks;
 ghost use mathlib.Core.Path.{_≡_};
 ghost use mathlib.Core.List.{List};
 ghost use Prim.Native.Nat.{ℕ, _+_, _*_, _<_, _≤_};
 ghost use lib.ListN.{length};
+ghost use Rattle.laws.specs.Events.{Event};
 ghost use Rattle.laws.specs.Record.{number};
 ghost use Rattle.laws.specs.Judge.{readRecord};
 ghost use Rattle.deal.specs.Hands.{wordsOf};
+ghost use Rattle.penalty.specs.History.{ThirteenEach};
 ghost use Rattle.judge.specs.Whole.{noJudgement, judgedOf, boardFields, OfCards, OfCalls, afterCards, afterCalls, afterDeal};
 
-// The answer's bits and the revokes; or the number of the refusal, 0 where the record is accepted.
+// The answer's bits, the revokes and the 52 bytes of the plays against Law 50; or the number of the refusal, 0 where the record is accepted.
 pub struct Judged {
     pub refusal: u32,
     pub bits: u64,
-    pub revokes: Revokes,
+    pub revokes: Listed,
+    pub failures: [u8; 52],
 }
 
 fn refused(refusal: u32) -> Judged
     ensures { λ r. ⌜ r ≡ noJudgement refusal ⌝ }
 {
-    let revokes = Revokes {
+    let revokes = Listed {
         count: 0,
-        list: [0u8; 36],
+        list: [0u8; 48],
+        excused: [0u8; 48],
     };
     Judged {
         refusal,
         bits: 0,
         revokes,
+        failures: [0u8; 52],
     }
 }
 
@@ -52,7 +57,7 @@ fn settle_board(
     out: bool,
     k: Contract,
     ts: Tricks,
-    rs: Revokes,
+    rs: Listed,
     claimed: Claim,
     left: u8,
 ) -> u64
@@ -81,12 +86,14 @@ fn judge_claim(
     table: u16,
     out: bool,
     k: Contract,
-    p: Play,
+    t: Table,
     at: usize,
 ) -> Judged
-    requires { ⌜ (p .played ≤ 52) × (at < 32768) ⌝ }
-    ensures { λ r. ⌜ ((deal h g : List ℕ) → OfCards board out k deal h g p → r ≡ judgedOf (afterCards board table deal h g (now (bytes .entry)) at)) ⌝ }
+    requires { ⌜ (t .play .played ≤ 52) × (at < 32768) ⌝ }
+    ensures { λ r. ⌜ ((deal h : List ℕ) (e : List Event) → OfCards board out k deal h e t
+        → r ≡ judgedOf (afterCards board table deal h e (now (bytes .entry)) at)) ⌝ }
 {
+    let p = t.play;
     let played = count(p.played);
     let claimed = read_claim(bytes, out, played, at);
     if claimed.refusal != 0 {
@@ -96,7 +103,8 @@ fn judge_claim(
         return refused(refusal_number(NOT_PADDING, 0));
     }
     let ts = p.tricks();
-    let rs = p.revokes();
+    let rs = t.revokes();
+    let found = t.found;
     let bits = settle_board(
         board,
         table,
@@ -111,6 +119,7 @@ fn judge_claim(
         refusal: 0,
         bits,
         revokes: rs,
+        failures: found.failure_bytes(),
     }
 }
 
@@ -124,7 +133,7 @@ fn judge_play(
     a: Auction,
     at: usize,
 ) -> Judged
-    requires { ⌜ (8 ≤ at) × (at < 16384) × (hands ≡ wordsOf holders) ⌝ }
+    requires { ⌜ (8 ≤ at) × (at < 16384) × (hands ≡ wordsOf holders) × ThirteenEach holders ⌝ }
     ensures { λ r. ⌜ ((h : List ℕ) → OfCalls board a holders h → r ≡ judgedOf (afterCalls board table holders h (now (bytes .entry)) at)) ⌝ }
 {
     let out = a.is_passed_out();
@@ -133,8 +142,8 @@ fn judge_play(
     if cards.refusal != 0 {
         return refused(cards.refusal);
     }
-    let p = cards.after;
-    judge_claim(bytes, board, table, out, k, p, cards.next)
+    let t = cards.after;
+    judge_claim(bytes, board, table, out, k, t, cards.next)
 }
 
 // The whole record.

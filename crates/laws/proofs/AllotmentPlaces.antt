@@ -10,8 +10,8 @@ use lib.ListN.{length, getD, take, length-append}
 use lib.Seq.{take-append-seam, getD-append-seam}
 use Rattle.laws.specs.Choice.{howMany, some}
 use Rattle.laws.specs.Cards.{sideOf}
-use Rattle.laws.specs.Law61.{Revoke}
-use Rattle.laws.specs.Law64.{Due, repeated, entitlement, wonFrom, dues}
+use Rattle.laws.specs.LeadRevoke.{Counted}
+use Rattle.laws.specs.Law64.{Due, repeated, isExempt, entitlement, wonFrom, dues}
 use Rattle.laws.specs.Allotment.{Pair, revokeOf}
 use Rattle.laws.proofs.Allotments.{Serves, ofRevoke}
 
@@ -22,18 +22,18 @@ or-other true false c = refl
 or-other false b c = refl
 
 -- two revokes of one seat in one suit
-abbrev alike : Revoke → Revoke → Bool
+abbrev alike : Counted → Counted → Bool
 alike e r = eqb (e .seat) (r .seat) && eqb (e .suit) (r .suit)
 
 -- a repeat is one whatever the order of the earlier revokes
-repeated-last : (before : List Revoke) (r x : Revoke) → repeated (before ++ (r ∷ [])) x ≡ repeated (r ∷ before) x
+repeated-last : (before : List Counted) (r x : Counted) → repeated (before ++ (r ∷ [])) x ≡ repeated (r ∷ before) x
 unfolding repeated some
 repeated-last [] r x = refl
 repeated-last (e ∷ before) r x =
     ap (λ (b : Bool). alike e x || b) (repeated-last before r x) ∙ or-other (alike e x) (alike r x) (repeated before x)
 
-repeated-more : (before earlier : List Revoke) (r : Revoke) → ((x : Revoke) → repeated before x ≡ repeated earlier x)
-    → (x : Revoke) → repeated (before ++ (r ∷ [])) x ≡ repeated (r ∷ earlier) x
+repeated-more : (before earlier : List Counted) (r : Counted) → ((x : Counted) → repeated before x ≡ repeated earlier x)
+    → (x : Counted) → repeated (before ++ (r ∷ [])) x ≡ repeated (r ∷ earlier) x
 unfolding repeated some
 repeated-more before earlier r same x = repeated-last before r x ∙ ap (λ (b : Bool). alike r x || b) (same x)
 
@@ -42,21 +42,21 @@ noDue = record { tricks = 0; available = 0 }
 
 module _ (dummy : ℕ) (ws : List ℕ) (claimed : ℕ → ℕ) where
   -- what is due at a place, and what is available
-  abbrev pub dueAt : List Revoke → ℕ → Due
+  abbrev pub dueAt : List Counted → ℕ → Due
   dueAt rs k =
       record {
         tricks = entitlement dummy ws (take k rs) (revokeOf rs k);
         available = wonFrom ws claimed (sideOf (revokeOf rs k .seat)) (revokeOf rs k .trick);
       }
 
-  pub dues-length : (earlier rs : List Revoke) → length (dues dummy ws claimed earlier rs) ≡ length rs
+  pub dues-length : (earlier rs : List Counted) → length (dues dummy ws claimed earlier rs) ≡ length rs
   unfolding dues
   dues-length earlier [] = refl
   dues-length earlier (r ∷ rs) = ap suc (dues-length (r ∷ earlier) rs)
 
-  dues-at : (before earlier rs : List Revoke) → ((x : Revoke) → repeated before x ≡ repeated earlier x) → (i : ℕ) → i < length rs
+  dues-at : (before earlier rs : List Counted) → ((x : Counted) → repeated before x ≡ repeated earlier x) → (i : ℕ) → i < length rs
       → getD (dues dummy ws claimed earlier rs) i noDue ≡ dueAt (before ++ rs) (length before + i)
-  unfolding dues entitlement revokeOf
+  unfolding dues entitlement isExempt revokeOf
   dues-at before earlier [] same i h = absurd (omega arith)
   dues-at before earlier (r ∷ rs) same zero h =
       let z : length before + 0 ≡ length before = omega arith in
@@ -67,7 +67,7 @@ module _ (dummy : ℕ) (ws : List ℕ) (claimed : ℕ → ℕ) where
       rw (z, append-assoc) at more
 
   -- from the first revoke on
-  pub due-at : (rs : List Revoke) (i : ℕ) → i < length rs → getD (dues dummy ws claimed [] rs) i noDue ≡ dueAt rs i
+  pub due-at : (rs : List Counted) (i : ℕ) → i < length rs → getD (dues dummy ws claimed [] rs) i noDue ≡ dueAt rs i
   due-at rs i h = rw zero-add at (dues-at [] [] rs (λ x. refl) i h)
 
 -- ---- what the pairs serve, place by place

@@ -12,7 +12,8 @@ use lib.Seq.{drop-drop}
 use Rattle.laws.specs.Choice.{if_then_else_, howMany, some}
 use Rattle.laws.specs.Cards.{sideOf}
 use Rattle.laws.specs.Law44.{cardsPlayed, tricksComplete, tricksWon}
-use Rattle.laws.specs.Law61.{Revoke, isRevoke, revokeAt, revokes}
+use Rattle.laws.specs.Events.{Event, played, exposed, choice, cardsOf, listPlays}
+use Rattle.laws.specs.LeadRevoke.{disobeys, revokeBy, Counted, countedBy, countedRevokes}
 use Rattle.laws.specs.Law64.{Due, wonFrom, dues, total, sideRevoked, bothRevoked, transferredTricks}
 use Rattle.laws.specs.Allotment.{Has, Pair, revokeOf, Allotment, Greatest, oneSideRevoked}
 use Rattle.laws.proofs.Tests.{by-test, or-left, or-right, and-right}
@@ -28,11 +29,11 @@ all-pass (q ∷ pairs) = rw (le-leb 0 (q .revoke) (omega arith)) (omega (arith, 
 
 -- ---- revokes of one side in order of play, none before trick `from` nor after trick `to`
 module _ (side to : ℕ) where
-  unfoldable pub InOrder : ℕ → List Revoke → Type 0
+  unfoldable pub InOrder : ℕ → List Counted → Type 0
   InOrder from [] = Unit {0}
   InOrder from (r ∷ rs) = (sideOf (r .seat) ≡ side) × (from ≤ r .trick) × (r .trick ≤ to) × InOrder (r .trick) rs
 
-  order-at : (from : ℕ) (rs : List Revoke) → InOrder from rs → (i : ℕ) → i < length rs
+  order-at : (from : ℕ) (rs : List Counted) → InOrder from rs → (i : ℕ) → i < length rs
       → (sideOf (revokeOf rs i .seat) ≡ side) × (from ≤ revokeOf rs i .trick) × (revokeOf rs i .trick ≤ to)
   unfolding InOrder revokeOf
   order-at from [] o i h = absurd (omega arith)
@@ -51,14 +52,14 @@ module _ (ws : List ℕ) (claimed : ℕ → ℕ) (side : ℕ) where
       let same = rw e at (drop-drop n (a - 1) ws) in
       omega (arith, ap (tricksWon side) same, many-parts (λ (seat : ℕ). eqb (sideOf seat) side) n (drop (a - 1) ws))
 
-  falling : (dummy to from : ℕ) (earlier rs : List Revoke) → InOrder side to from rs
+  falling : (dummy to from : ℕ) (earlier rs : List Counted) → InOrder side to from rs
       → Falling (wonFrom ws claimed side from) (dues dummy ws claimed earlier rs)
   unfolding InOrder Falling dues
   falling dummy to from earlier [] o = tt
   falling dummy to from earlier (r ∷ rs) o = rw (o .0) (falls from (r .trick) (o .1), falling dummy to (r .trick) (r ∷ earlier) rs (o .3))
 
   -- ---- the theorem
-  module _ (dummy : ℕ) (rs : List Revoke) (o : InOrder side (length ws + 1) 1 rs) where
+  module _ (dummy : ℕ) (rs : List Counted) (o : InOrder side (length ws + 1) 1 rs) where
     abbrev due : List Due
     due = dues dummy ws claimed [] rs
 
@@ -138,12 +139,12 @@ module _ (ws : List ℕ) (claimed : ℕ → ℕ) (side : ℕ) where
 
 -- ---- the revokes of a history
 module _ (side to to' : ℕ) (h : to ≤ to') where
-  wider : (from : ℕ) (rs : List Revoke) → InOrder side to from rs → InOrder side to' from rs
+  wider : (from : ℕ) (rs : List Counted) → InOrder side to from rs → InOrder side to' from rs
   unfolding InOrder
   wider from [] o = tt
   wider from (r ∷ rs) o = (o .0, o .1, omega (arith, o .2), wider (r .trick) rs (o .3))
 
-  one-later : (from : ℕ) (rs : List Revoke) (r : Revoke) → InOrder side to from rs → from ≤ r .trick → to ≤ r .trick → r .trick ≤ to'
+  one-later : (from : ℕ) (rs : List Counted) (r : Counted) → InOrder side to from rs → from ≤ r .trick → to ≤ r .trick → r .trick ≤ to'
       → sideOf (r .seat) ≡ side → InOrder side to' from (rs ++ (r ∷ []))
   unfolding InOrder
   one-later from [] r o f t k e = (e, f, k, tt)
@@ -159,43 +160,48 @@ some-append test [] m = refl
 some-append test (x ∷ l) m = ap (λ (b : Bool). test x || b) (some-append test l m) ∙ sym (or-assoc (test x) (some test l) (some test m))
 
 -- what is said of a side's revokes after one more
-apart : (side : ℕ) (rs : List Revoke) (r : Revoke) → sideRevoked side (rs ++ (r ∷ [])) ≡ false → (sideRevoked side rs ≡ false) × (sideOf (r .seat) ≡ side → ⊥)
+apart : (side : ℕ) (rs : List Counted) (r : Counted) → sideRevoked side (rs ++ (r ∷ [])) ≡ false → (sideRevoked side rs ≡ false) × (sideOf (r .seat) ≡ side → ⊥)
 unfolding sideRevoked some
 apart side rs r q =
-    let test : Revoke → Bool = λ x. eqb (sideOf (x .seat)) side in
+    let test : Counted → Bool = λ x. eqb (sideOf (x .seat)) side in
     let both : (some test rs || (test r || false)) ≡ false = sym (some-append test rs (r ∷ [])) ∙ q in
     (or-left (some test rs) _ both, eqb-false (sideOf (r .seat)) side (or-left (test r) false (or-right (some test rs) _ both)))
 
 module _ (side other : ℕ) (two : (seat : ℕ) → (sideOf seat ≡ other → ⊥) → sideOf seat ≡ side) (trump opening : ℕ) (deal : List ℕ) where
-  one-more : (g : List ℕ) (c : ℕ) (rs : List Revoke) → (sideRevoked other rs ≡ false → InOrder side (tricksComplete g + 1) 1 rs) → (b : Bool)
-      → sideRevoked other (rs ++ (if b then (revokeAt trump opening g ∷ []) else [])) ≡ false
-      → InOrder side (tricksComplete (c ∷ g) + 1) 1 (rs ++ (if b then (revokeAt trump opening g ∷ []) else []))
-  unfolding tricksComplete cardsPlayed revokeAt
-  one-more g c rs more false q = rw append-nil (wider side _ _ (omega arith) 1 rs (more (rw append-nil at q)))
-  one-more g c rs more true q =
-      let both = apart other rs (revokeAt trump opening g) q in
-      one-later side _ _ (omega arith) 1 rs (revokeAt trump opening g) (more (both .0)) (omega arith) (omega arith) (omega arith) (two _ (both .1))
+  abbrev counts : List Event → List Counted
+  counts e = countedRevokes trump opening deal e
+
+  one-more : (e : List Event) (c : ℕ) (rs : List Counted) → (sideRevoked other rs ≡ false → InOrder side (tricksComplete (cardsOf e) + 1) 1 rs) → (b : Bool)
+      → sideRevoked other (rs ++ (if b then (countedBy trump opening deal e c ∷ []) else [])) ≡ false
+      → InOrder side (tricksComplete (c ∷ cardsOf e) + 1) 1 (rs ++ (if b then (countedBy trump opening deal e c ∷ []) else []))
+  unfolding tricksComplete cardsPlayed countedBy revokeBy
+  one-more e c rs more false q = rw append-nil (wider side _ _ (omega arith) 1 rs (more (rw append-nil at q)))
+  one-more e c rs more true q =
+      let r = countedBy trump opening deal e c in
+      let both = apart other rs r q in
+      one-later side _ _ (omega arith) 1 rs r (more (both .0)) (omega arith) (omega arith) (omega arith) (two _ (both .1))
 
   -- where the other side has not revoked, the revokes are of one side and in order
-  in-order : (g : List ℕ) → sideRevoked other (revokes trump opening deal g) ≡ false → InOrder side (tricksComplete g + 1) 1 (revokes trump opening deal g)
-  unfolding revokes InOrder
+  in-order : (e : List Event) → sideRevoked other (counts e) ≡ false → InOrder side (tricksComplete (cardsOf e) + 1) 1 (counts e)
+  unfolding countedRevokes listPlays cardsOf InOrder
   in-order [] q = tt
-  in-order (c ∷ g) q = one-more g c (revokes trump opening deal g) (in-order g) (isRevoke trump opening deal g c) q
+  in-order (played c ∷ e) q = one-more e c (counts e) (in-order e) (disobeys trump opening deal e c) q
+  in-order (exposed c deliberate ∷ e) q = in-order e q
+  in-order (choice kind suit ∷ e) q = in-order e q
 
-  of-side : (dummy : ℕ) (ws : List ℕ) (claimed : ℕ → ℕ) (g : List ℕ) → length ws ≡ tricksComplete g
-      → sideRevoked other (revokes trump opening deal g) ≡ false
-      → Greatest dummy ws claimed (revokes trump opening deal g) (total (dues dummy ws claimed [] (revokes trump opening deal g)))
-  of-side dummy ws claimed g n q = greatest ws claimed side dummy (revokes trump opening deal g) (rw n (in-order g q))
+  of-side : (dummy : ℕ) (ws : List ℕ) (claimed : ℕ → ℕ) (e : List Event) → length ws ≡ tricksComplete (cardsOf e)
+      → sideRevoked other (counts e) ≡ false → Greatest dummy ws claimed (counts e) (total (dues dummy ws claimed [] (counts e)))
+  of-side dummy ws claimed e n q = greatest ws claimed side dummy (counts e) (rw n (in-order e q))
 
 -- the theorem: where one side has revoked, the tricks that change sides are the most that can be allotted
-pub best-total : (trump opening : ℕ) (deal g : List ℕ) (dummy : ℕ) (ws : List ℕ) (claimed : ℕ → ℕ) → length ws ≡ tricksComplete g
-    → oneSideRevoked (revokes trump opening deal g) ≡ true
-    → Greatest dummy ws claimed (revokes trump opening deal g) (transferredTricks dummy ws claimed (revokes trump opening deal g))
+pub best-total : (trump opening : ℕ) (deal : List ℕ) (e : List Event) (dummy : ℕ) (ws : List ℕ) (claimed : ℕ → ℕ) → length ws ≡ tricksComplete (cardsOf e)
+    → oneSideRevoked (countedRevokes trump opening deal e) ≡ true
+    → Greatest dummy ws claimed (countedRevokes trump opening deal e) (transferredTricks dummy ws claimed (countedRevokes trump opening deal e))
 unfolding transferredTricks oneSideRevoked bothRevoked
-best-total trump opening deal g dummy ws claimed n e =
-    let rs = revokes trump opening deal g in
-    let not-both : (sideRevoked 0 rs && sideRevoked 1 rs) ≡ false = not-true _ (and-right (sideRevoked 0 rs || sideRevoked 1 rs) _ e) in
+best-total trump opening deal e dummy ws claimed n one =
+    let rs = countedRevokes trump opening deal e in
+    let not-both : (sideRevoked 0 rs && sideRevoked 1 rs) ≡ false = not-true _ (and-right (sideRevoked 0 rs || sideRevoked 1 rs) _ one) in
     rw not-both
     (by-test (sideRevoked 0 rs)
-    (λ (q : sideRevoked 0 rs ≡ true). of-side 0 1 (λ seat off. omega (arith, off)) trump opening deal dummy ws claimed g n (rw q at not-both))
-    (λ (q : sideRevoked 0 rs ≡ false). of-side 1 0 (λ seat off. omega (arith, off)) trump opening deal dummy ws claimed g n q))
+    (λ (q : sideRevoked 0 rs ≡ true). of-side 0 1 (λ seat off. omega (arith, off)) trump opening deal dummy ws claimed e n (rw q at not-both))
+    (λ (q : sideRevoked 0 rs ≡ false). of-side 1 0 (λ seat off. omega (arith, off)) trump opening deal dummy ws claimed e n q))

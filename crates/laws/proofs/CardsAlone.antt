@@ -15,7 +15,7 @@ use Rattle.laws.specs.CardRefusal.{cardRefusal}
 use Rattle.laws.specs.Events.{Event, played, exposed, choice, cardsOf, codesOf, listPlays, asEvents}
 use Rattle.laws.specs.Law50.{isHonour, isFaced, isFacedOf, isMajor, isMajorOf, isMinor}
 use Rattle.laws.specs.Law51.{noSuit, required, isForbidden}
-use Rattle.laws.specs.LeadRevoke.{isAsked, isAble, obeys, disobeys, isExcused, listedSuit, revokeBy, countedBy, countedRevokes, allRevokes}
+use Rattle.laws.specs.LeadRevoke.{isAsked, isAble, obeys, disobeys, isExcused, listedSuit, revokeBy, counted, countedBy, countedRevokes, allRevokes}
 use Rattle.laws.specs.Failures.{isOwnMinor, isAgainst50C, isDue, isAgainst50D1, isFailure, failures}
 use Rattle.laws.specs.CodeRefusal.{eventRefusal}
 use Rattle.laws.proofs.Tests.{by-test, and-left}
@@ -117,7 +117,7 @@ module _ (trump opening : ℕ) (deal : List ℕ) where
       (λ (q : isRevoke trump opening deal g c ≡ false). rw q))
 
   pub counted-alone : (g : List ℕ)
-      → countedRevokes trump opening deal (asEvents g) ≡ map (λ r. record { revoke = r; excused = false }) (revokes trump opening deal g)
+      → countedRevokes trump opening deal (asEvents g) ≡ map (λ r. counted r false) (revokes trump opening deal g)
   unfolding countedRevokes countedBy listPlays disobeys revokes asEvents
   counted-alone [] = refl
   counted-alone (c ∷ g) =

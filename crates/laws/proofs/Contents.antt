@@ -9,21 +9,23 @@ use lib.Dec.{ltb}
 use lib.ListN.{length, getD}
 use Rattle.laws.specs.Choice.{some}
 use Rattle.laws.specs.Law2.{dealer}
-use Rattle.laws.specs.Refusals.{tooManyCards, tooManyCalls}
-use Rattle.laws.specs.Auction.{trumpAfter, openingAfter}
+use Rattle.laws.specs.Refusals.{tooManyCalls}
 use Rattle.laws.specs.CallRefusal.{callRefusal, callPlace}
-use Rattle.laws.specs.CardRefusal.{cardRefusal, cardPlace}
+use Rattle.laws.specs.Events.{cardsOf, cardsAmong}
+use Rattle.laws.specs.FlatPlay.{flatOf}
 use Rattle.laws.specs.Law68.{Claim, none, agreed}
-use Rattle.laws.specs.Record.{Parts, Field, field, row, bits, claimFields, layout, encode}
+use Rattle.laws.specs.Record.{Parts, Field, field, row, bits, playFields, claimFields, layout, encode}
 use Rattle.laws.specs.Reading.{Reading, Reading.refused, Reading.found, onward}
 use Rattle.laws.specs.Judge.{readRecord, outcome}
-use Rattle.laws.specs.Contents.{Fits, takeHeading, areSeats, takeDeal, takeEach, takeCalls, takeCards, takeClaim, takeParts, contentsOf}
+use Rattle.laws.specs.Contents.{givenOf, Fits}
+use Rattle.laws.specs.Contents.{takeHeading, areSeats, takeDeal, takeEach, takeCalls, takeCards, takeClaim, takeParts, contentsOf}
 use Rattle.laws.proofs.Written.{Fit, fit-append}
 use Rattle.laws.proofs.Histories.{Each, each-place, fit-each}
 use Rattle.laws.proofs.Spelled.{stands-front, stands-behind, holds}
 use Rattle.laws.proofs.Readings.{first-of, first-test, ending-is}
 use Rattle.laws.proofs.Exact.{Narrow}
 use Rattle.laws.proofs.Sections.{headingFields}
+use Rattle.laws.proofs.PlaysFit.{plays-fit}
 use Rattle.laws.proofs.LawfulParts.{headingOf}
 use Rattle.laws.proofs.Taken.{Told, each-history, heading-taken, deal-taken, calls-taken, cards-taken, claim-taken}
 
@@ -45,9 +47,6 @@ module _ (p : Parts) (fits : Fits p) where
   narrow-calls : Each (Narrow 6) [] (p .calls)
   narrow-calls = each-place (Narrow 6) (p .calls) .1 (λ k h. let b = fits .call k h in omega arith)
 
-  narrow-cards : Each (Narrow 6) [] (p .cards)
-  narrow-cards = each-place (Narrow 6) (p .cards) .1 (λ k h. let b = fits .card k h in omega arith)
-
   told-by : (claim : Claim) → p .claim ≡ claim → Told claim
   told-by none e = tt
   told-by (agreed tricks) e = fits .claim tricks e
@@ -67,7 +66,7 @@ module _ (p : Parts) (fits : Fits p) where
         omega (arith, fits .calls),
         fit-append (row 6 (p .calls)) _ (fit-each (Narrow 6) 6 (λ h c a. a) [] (p .calls) narrow-calls) (
           omega (arith, fits .cards),
-          fit-append (row 6 (p .cards)) _ (fit-each (Narrow 6) 6 (λ h c a. a) [] (p .cards) narrow-cards) (claim-fits (p .claim) (told-by (p .claim) refl)),
+          fit-append (playFields (p .plays)) _ (plays-fit (p .plays) (fits .plays)) (claim-fits (p .claim) (told-by (p .claim) refl)),
         ),
       ),
     ),
@@ -91,22 +90,16 @@ calls-history d calls from {h} q =
     let same : a .0 ≡ h = cc in
     sym same ∙ each-history (callPlace d) (callRefusal d) calls [] from (a .2)
 
-pub cards-history : (d : ℕ) (deal h cards : List ℕ) (from : ℕ) {g : List ℕ} {m : ℕ} → takeCards d deal h cards [] from ≡ found g m → g ≡ reverse cards
-unfolding takeCards
-cards-history d deal h cards from q =
-    let t = first-test tooManyCards _ _ [] from _ q in
-    each-history cardPlace (cardRefusal (trumpAfter h) (openingAfter d h) deal) cards [] from (t .1)
-
 module _ (p : Parts) (fits : Fits p) where
   -- what is said of the contents is what the judge says of their record
-  pub as-judged : outcome (readRecord (encode p) 0) ≡ contentsOf p
+  pub as-judged : outcome (readRecord (encode p) 0) ≡ contentsOf (givenOf p)
   unfolding readRecord takeParts contentsOf encode layout
   as-judged =
       let bytes = encode p in
       let x = headingOf p in
       let d = dealer (p .board) in
       let calls : List Field = field 9 (length (p .calls)) ∷ row 6 (p .calls) in
-      let cards : List Field = field 6 (length (p .cards)) ∷ row 6 (p .cards) in
+      let cards : List Field = field 6 (cardsAmong (p .plays)) ∷ playFields (p .plays) in
       let last = claimFields (p .claim) in
       let end = bits (layout p) in
       let m₁ = 0 + bits (headingFields x) in
@@ -124,14 +117,12 @@ module _ (p : Parts) (fits : Fits p) where
       (outcome-turn (takeDeal (p .deal) [] n₁) m₂ (λ u. p .deal) _ _ (λ u n₂ q₂.
       rw (calls-taken bytes m₂ n₂ d (p .calls) (fits .calls) (stands-front bytes calls _ m₂ s₂))
       (outcome-turn (takeCalls d (p .calls) [] n₂) m₃ (λ h. h) _ _ (λ h n₃ q₃.
-      rw (cards-taken bytes m₃ n₃ d (p .deal) h (p .cards) (fits .cards) (stands-front bytes cards last m₃ s₃))
-      (outcome-turn (takeCards d (p .deal) h (p .cards) [] n₃) m₄ (λ g. g) _ _ (λ g n₄ q₄.
-      rw (claim-taken bytes m₄ n₄ h g (p .claim) (told-by p fits (p .claim) refl) s₄)
-      (outcome-turn (takeClaim h g (p .claim) [] n₄) end (λ u. p .claim) _ _ (λ u n₅ q₅.
+      rw (cards-taken bytes m₃ n₃ d (p .deal) h (p .plays) (fits .cards) (fits .plays) (fits .follow) (stands-front bytes cards last m₃ s₃))
+      (outcome-turn (takeCards d (p .deal) h (flatOf (p .plays)) [] n₃) m₄ (λ e. e) _ _ (λ e n₄ q₄.
+      rw (claim-taken bytes m₄ n₄ h (cardsOf e) (p .claim) (told-by p fits (p .claim) refl) s₄)
+      (outcome-turn (takeClaim h (cardsOf e) (p .claim) [] n₄) end (λ u. p .claim) _ _ (λ u n₅ q₅.
       rw (
         ending-is bytes end (s .1),
         calls-history d (p .calls) n₂ q₃,
-        cards-history d (p .deal) h (p .cards) n₃ q₄,
         reverse-reverse (p .calls),
-        reverse-reverse (p .cards),
       )))))))))))

@@ -1,34 +1,39 @@
 -- Contents are accepted exactly when they are lawful; both fit their fields. Assumes nothing.
 use Prim.Native.Nat.{ℕ, zero, suc, _-_, _≤_, _<_, min}
 use native.Mathlib.Omega.{arith}
-use mathlib.Core.Path.{_≡_, refl, sym, _∙_}
+use mathlib.Core.Path.{_≡_, refl, sym, ap, _∙_}
 use mathlib.Core.Logic.{_↔_}
 use mathlib.Core.Bool.{true, false, not, _&&_, _||_}
-use mathlib.Core.List.{List, [], _∷_, reverse}
+use mathlib.Core.List.{List, [], _∷_, reverse, reverse-reverse}
 use borrow.Author.Tests.{eqb-true, leb-true, ltb-false, not-false, not-true}
 use lib.Dec.{ltb, eqb}
 use lib.ListN.{length, getD}
 use Rattle.laws.specs.Choice.{some}
-use Rattle.laws.specs.Refusals.{accepted, noBoardOrTable, notThirteen, tooManyCards, noClaimPoint, tooManyCalls}
-use Rattle.laws.specs.Cards.{noSeat}
+use Rattle.laws.specs.Refusals.{accepted, noBoardOrTable, notThirteen, noClaimPoint, tooManyCalls}
+use Rattle.laws.specs.Cards.{noSeat, cardsDealt, seatWithoutThirteen}
 use Rattle.laws.specs.Law2.{dealer}
 use Rattle.laws.specs.Auction.{passedOut, trumpAfter, openingAfter}
 use Rattle.laws.specs.CallRefusal.{callRefusal, callPlace}
 use Rattle.laws.specs.Law44.{cardsPlayed, tricksLeft}
-use Rattle.laws.specs.CardRefusal.{cardRefusal, cardPlace}
+use Rattle.laws.specs.Events.{Event, cardsOf, cardsAmong}
+use Rattle.laws.specs.FlatPlay.{itemsOf, cardsIn, eventsAmong}
 use Rattle.laws.specs.Law68.{Claim, none, agreed, atClaimPoint, claimable}
 use Rattle.laws.specs.Record.{Parts, encode, packed}
 use Rattle.laws.specs.Bytes.{Bytes}
 use Rattle.laws.specs.Reading.{Reading, Reading.refused as stopped, Reading.found, refuse}
 use Rattle.laws.specs.Judge.{Outcome.accepted as taken, outcome, Rooms, leastRooms, Enough, judgeOf}
 use Rattle.laws.specs.Lawful.{Claimed, Lawful}
-use Rattle.laws.specs.Contents.{Fits, takeHeading, areSeats, takeDeal, takeEach, takeCalls, takeCards, takeClaim, takeParts, contentsOf}
+use Rattle.laws.specs.Contents.{Given, givenOf, Fits}
+use Rattle.laws.specs.Contents.{takeHeading, areSeats, takeDeal, takeEach, takeCalls, takeCards, takeClaim, takeParts, contentsOf}
 use Rattle.laws.proofs.Tests.{by-test, and-left, and-right, or-left, or-right}
 use Rattle.laws.proofs.Bytes.{bytes-of}
 use Rattle.laws.proofs.CallRefusals.{accepted-is, allowed-lt}
-use Rattle.laws.proofs.CardRefusals.{accepted-playable, playable-dealt}
+use Rattle.laws.proofs.FlatPlay.{flat-back}
+use Rattle.laws.proofs.PlaysFit.{each-fits}
+use Rattle.laws.proofs.ItemsTaken.{Kept, cards-of-items, cards-kept}
 use Rattle.laws.proofs.Histories.{Each, each-place}
 use Rattle.laws.proofs.Readings.{refused-found, first-of, first-test}
+use Rattle.laws.proofs.Sections.{none-short}
 use Rattle.laws.proofs.Accepts.{least-enough, lent-is, read-back, accepts-parts}
 use Rattle.laws.proofs.Contents.{as-judged}
 
@@ -48,17 +53,30 @@ each-seat (x ∷ l) e zero h = ltb-false 3 x (or-left (ltb 3 x) _ e)
 each-seat (x ∷ l) e (suc k) h = each-seat l (or-right (ltb 3 x) _ e) k (omega arith)
 
 -- 52 holders, each a seat
-record Seated (deal : List ℕ) : Type 0 where
-  all : length deal ≡ 52
-  seat : (k : ℕ) → k < 52 → getD deal k 0 ≤ 3
+pub record Seated (deal : List ℕ) : Type 0 where
+  pub all : length deal ≡ 52
+  pub seat : (k : ℕ) → k < 52 → getD deal k 0 ≤ 3
 
-deal-kept : (deal : List ℕ) (from : ℕ) {u : Unit {0}} {m : ℕ} → takeDeal deal [] from ≡ found u m → Seated deal
+pub deal-kept : (deal : List ℕ) (from : ℕ) {u : Unit {0}} {m : ℕ} → takeDeal deal [] from ≡ found u m → Seated deal
 unfolding takeDeal areSeats
 deal-kept deal from q =
     let a = first-test notThirteen noSeat (not (areSeats deal)) [] from _ q in
     let seats = not-false (areSeats deal) (a .0) in
     let all : length deal ≡ 52 = eqb-true (length deal) 52 (and-left (eqb (length deal) 52) _ seats) in
     record { all = all; seat = λ k h. each-seat deal (not-true _ (and-right (eqb (length deal) 52) _ seats)) k (omega arith) }
+
+-- thirteen cards for each seat
+pub deal-thirteen : (deal : List ℕ) (from : ℕ) {u : Unit {0}} {m : ℕ} → takeDeal deal [] from ≡ found u m
+    → (length deal ≡ 52) × ((seat : ℕ) → seat < 4 → cardsDealt seat deal ≡ 13)
+unfolding takeDeal refuse
+deal-thirteen deal from q =
+    let a = first-test notThirteen noSeat (not (areSeats deal)) [] from _ q in
+    let short = seatWithoutThirteen deal in (
+      deal-kept deal from q .all,
+      by-test (eqb short noSeat)
+          (λ (e : eqb short noSeat ≡ true). none-short deal (eqb-true short noSeat e))
+          (λ (e : eqb short noSeat ≡ false). refused-found (rw e at (a .1))),
+    )
 
 module _ (place rule : List ℕ → ℕ → ℕ) where
   pub each-kept : (l h : List ℕ) (from : ℕ) {g : List ℕ} {m : ℕ} → takeEach place rule l h [] from ≡ found g m → Each (λ b c. rule b c ≡ accepted) h l
@@ -88,23 +106,6 @@ calls-kept d calls from q =
     let a = first-of (takeEach (callPlace d) (callRefusal d) calls [] [] from) _ (t .1) in
     allowed-each d calls (ltb-false 511 (length calls) (t .0)) (each-kept (callPlace d) (callRefusal d) calls [] from (a .2))
 
-pub record Playable (cards : List ℕ) : Type 0 where
-  pub few : length cards ≤ 52
-  pub code : (k : ℕ) → k < length cards → getD cards k 0 ≤ 63
-
-cards-kept : (d : ℕ) (deal h cards : List ℕ) (from : ℕ) {g : List ℕ} {m : ℕ} → length deal ≡ 52 → takeCards d deal h cards [] from ≡ found g m → Playable cards
-unfolding takeCards
-cards-kept d deal h cards from all q =
-    let trump = trumpAfter h in
-    let opening = openingAfter d h in
-    let a = first-test tooManyCards (min (length cards) 63) (ltb 52 (length cards) || (passedOut h && ltb 0 (length cards))) [] from _ q in
-    let e = each-kept cardPlace (cardRefusal trump opening deal) cards [] from (a .1) in
-    let at = each-place (λ f c. cardRefusal trump opening deal f c ≡ accepted) cards .0 e in
-    record {
-      few = ltb-false 52 (length cards) (or-left (ltb 52 (length cards)) _ (a .0));
-      code = λ k l. let b = playable-dealt trump opening deal _ _ (accepted-playable trump opening deal _ _ (at k l)) in omega arith;
-    }
-
 at-most-13 : (g : List ℕ) (n : ℕ) → claimable g n ≡ true → n ≤ 13
 unfolding claimable tricksLeft
 at-most-13 g n c = let l = leb-true n _ c in omega arith
@@ -121,42 +122,62 @@ claim-kept h g (agreed n) from q tricks e =
     (λ (c : claimable g n ≡ false). refused-found (rw c at (a .1)))
 
 -- ---- accepted, and lawful
--- contents that all checks let through fit their fields
-kept-fits : (p : Parts) {q : Parts} {m : ℕ} → takeParts p [] 0 ≡ found q m → (q ≡ p) × Fits p
+-- parts from given contents, with these events
+abbrev partsWith : Given → List Event → Parts
+partsWith c plays = record { board = c .board; table = c .table; deal = c .deal; calls = c .calls; plays = plays; claim = c .claim }
+
+few-cards : (l : List ℕ) → cardsIn l ≤ 52 → cardsAmong (eventsAmong (itemsOf l)) ≤ 52
+unfolding cardsIn
+few-cards l few = rw (← cards-of-items (itemsOf l)) few
+
+fits-all : (c : Given) {from end : ℕ} {e : List Event} → (c .board ≤ 127) × (c .table ≤ 511) → Seated (c .deal) → Allowed (c .calls)
+    → Kept (itemsOf (c .plays)) [] e from end → cardsIn (c .plays) ≤ 52 → ((tricks : ℕ) → c .claim ≡ agreed tricks → tricks ≤ 15)
+    → Fits (partsWith c (eventsAmong (itemsOf (c .plays))))
+fits-all c top dealt called k few claim =
+    record {
+      board = top .0;
+      table = top .1;
+      holders = dealt .all;
+      holder = dealt .seat;
+      calls = called .few;
+      call = called .code;
+      cards = let l = few-cards (c .plays) few in omega (arith, l);
+      plays = k .fits;
+      follow = k .follow;
+      claim = claim;
+    }
+
+-- contents that all checks let through are some parts as they are given, and fit their fields
+kept-fits : (c : Given) {p : Parts} {m : ℕ} → takeParts c [] 0 ≡ found p m → (c ≡ givenOf p) × Fits p
 unfolding takeParts
-kept-fits p {q} e =
-    let d = dealer (p .board) in
-    let a = first-of (takeHeading (p .board) (p .table) [] 0) _ e in
-    let b = first-of (takeDeal (p .deal) [] (a .1)) _ (a .3) in
-    let c = first-of (takeCalls d (p .calls) [] (b .1)) _ (b .3) in
-    let g = first-of (takeCards d (p .deal) (c .0) (p .cards) [] (c .1)) _ (c .3) in
-    let t = first-of (takeClaim (c .0) (g .0) (p .claim) [] (g .1)) _ (g .3) in
-    let same : p ≡ q = cc in
-    let top = heading-kept (p .board) (p .table) 0 (a .2) in
-    let dealt = deal-kept (p .deal) (a .1) (b .2) in
-    let called = calls-kept d (p .calls) (b .1) (c .2) in
-    let played = cards-kept d (p .deal) (c .0) (p .cards) (c .1) (dealt .all) (g .2) in (
-      sym same,
-      record {
-        board = top .0;
-        table = top .1;
-        holders = dealt .all;
-        holder = dealt .seat;
-        calls = omega (arith, called .few);
-        call = called .code;
-        cards = omega (arith, played .few);
-        card = played .code;
-        claim = claim-kept (c .0) (g .0) (p .claim) (g .1) (t .2);
-      },
+kept-fits c {p} q =
+    let d = dealer (c .board) in
+    let a = first-of (takeHeading (c .board) (c .table) [] 0) _ q in
+    let b = first-of (takeDeal (c .deal) [] (a .1)) _ (a .3) in
+    let h = first-of (takeCalls d (c .calls) [] (b .1)) _ (b .3) in
+    let e = first-of (takeCards d (c .deal) (h .0) (c .plays) [] (h .1)) _ (h .3) in
+    let t = first-of (takeClaim (h .0) (cardsOf (e .0)) (c .claim) [] (e .1)) _ (e .3) in
+    let same : partsWith c (reverse (e .0)) ≡ p = cc in
+    let top = heading-kept (c .board) (c .table) 0 (a .2) in
+    let dealt = deal-kept (c .deal) (a .1) (b .2) in
+    let called = calls-kept d (c .calls) (b .1) (h .2) in
+    let k = cards-kept d (c .deal) (h .0) (c .plays) (h .1) (dealt .all) (e .2) in
+    let plays : List Event = eventsAmong (itemsOf (c .plays)) in
+    let order : reverse (e .0) ≡ plays = ap reverse (k .items .history) ∙ reverse-reverse plays in
+    let is : partsWith c plays ≡ p = ap (partsWith c) (sym order) ∙ same in
+    rw (← is) (
+      ap (λ (l : List ℕ). record { board = c .board; table = c .table; deal = c .deal; calls = c .calls; plays = l; claim = c .claim })
+          (sym (flat-back (c .plays) (k .items .whole))),
+      fits-all c top dealt called (k .items) (k .few) (claim-kept (h .0) (cardsOf (e .0)) (c .claim) (e .1) (t .2)),
     )
 
-pub accepted-fits : (p : Parts) {q : Parts} → contentsOf p ≡ taken q → (q ≡ p) × Fits p
+pub accepted-fits : (c : Given) {p : Parts} → contentsOf c ≡ taken p → (c ≡ givenOf p) × Fits p
 unfolding contentsOf
-accepted-fits p {q} e = go (takeParts p [] 0) refl e
+accepted-fits c {p} e = go (takeParts c [] 0) refl e
   where
-    go : (r : Reading Parts) → takeParts p [] 0 ≡ r → outcome r ≡ taken q → (q ≡ p) × Fits p
+    go : (r : Reading Parts) → takeParts c [] 0 ≡ r → outcome r ≡ taken p → (c ≡ givenOf p) × Fits p
     go (stopped n place) f o = let z : _≡_ {A = ℕ} 0 1 = cc in absurd (omega arith)
-    go (found a m) f o = let same : a ≡ q = cc in let k = kept-fits p f in (sym same ∙ k .0, k .1)
+    go (found a m) f o = let same : a ≡ p = cc in rw (← same) (kept-fits c f)
 
 -- lawful contents fit their fields
 pub lawful-fit : (p : Parts) → Lawful p → Fits p
@@ -169,16 +190,17 @@ lawful-fit p ok =
       calls = ok .layout .calls;
       call = λ k h. let b = allowed-lt (dealer (p .board)) _ _ (ok .calls .each k h) in omega arith;
       cards = omega (arith, ok .layout .cards);
-      card = λ k h. let b = playable-dealt _ _ (p .deal) _ _ (ok .cards .each k h) in omega (arith, ok .layout .holders);
+      plays = each-fits _ _ (p .deal) (ok .layout .holders) [] (p .plays) (ok .cards .each);
+      follow = ok .cards .follow;
       claim = λ tricks e. claimed tricks (rw e at (ok .claim));
     }
   where
-    claimed : (tricks : ℕ) → Claimed (reverse (p .calls)) (reverse (p .cards)) (agreed tricks) → tricks ≤ 15
-    claimed tricks c = omega (arith, at-most-13 (reverse (p .cards)) tricks (c .2))
+    claimed : (tricks : ℕ) → Claimed (reverse (p .calls)) (cardsOf (reverse (p .plays))) (agreed tricks) → tricks ≤ 15
+    claimed tricks c = omega (arith, at-most-13 (cardsOf (reverse (p .plays))) tricks (c .2))
 
 module _ (rooms : Rooms) (enough : Enough rooms) (p : Parts) where
   -- what the judge says of the record of contents that fit
-  pub judged-alike : Fits p → judgeOf (encode p) rooms ≡ contentsOf p
+  pub judged-alike : Fits p → judgeOf (encode p) rooms ≡ contentsOf (givenOf p)
   judged-alike fits = lent-is rooms enough (encode p) ∙ as-judged p fits
 
 bytes-encoded : (p : Parts) → Bytes (encode p)
@@ -186,10 +208,10 @@ unfolding encode packed
 bytes-encoded p = bytes-of _ _
 
 -- contents are accepted exactly when they are lawful
-pub accepted-lawful : (p : Parts) → (contentsOf p ≡ taken p) ↔ Lawful p
+pub accepted-lawful : (p : Parts) → (contentsOf (givenOf p) ≡ taken p) ↔ Lawful p
 accepted-lawful p = (
   λ e.
-      let fits = accepted-fits p e .1 in
+      let fits = accepted-fits (givenOf p) e .1 in
       accepts-parts leastRooms least-enough (encode p) (bytes-encoded p) p .0 (judged-alike leastRooms least-enough p fits ∙ e) .0,
   λ ok. sym (judged-alike leastRooms least-enough p (lawful-fit p ok)) ∙ read-back leastRooms least-enough p ok,
 )

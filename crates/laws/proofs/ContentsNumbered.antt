@@ -1,4 +1,4 @@
--- A refusal of contents has a number from 3 to 15, 22 or 23, and a place below 1024. Assumes nothing.
+-- A refusal of contents has a number from 3 to 15, 22 to 27 or 33, and a place below 1024. Assumes nothing.
 use Prim.Native.Nat.{ℕ, _+_, _≤_, _<_, min}
 use native.Mathlib.Omega.{arith}
 use mathlib.Core.Path.{_≡_, refl}
@@ -6,27 +6,32 @@ use mathlib.Core.Bool.{Bool, true, false, not, _&&_, _||_}
 use mathlib.Core.List.{List, [], _∷_}
 use borrow.Author.Tests.{eqb-true, not-false, ltb-false}
 use lib.Dec.{ltb, eqb}
-use lib.ListN.{length, length-reverse}
+use lib.ListN.{length}
 use Rattle.laws.specs.Refusals.{accepted, noBoardOrTable, notThirteen, auctionUnfinished}
-use Rattle.laws.specs.Refusals.{tooManyCards, playUnfinished, noClaimPoint, claimTooMany, tooManyCalls}
+use Rattle.laws.specs.Refusals.{tooManyCards, playUnfinished, noClaimPoint, claimTooMany, tooManyCalls, tooManyCodes, choiceNotOpen}
 use Rattle.laws.specs.Refusals.{refusesContents}
 use Rattle.laws.specs.Cards.{noSeat, seatWithoutThirteen}
 use Rattle.laws.specs.Law2.{dealer}
 use Rattle.laws.specs.Auction.{isOver, passedOut, trumpAfter, openingAfter}
 use Rattle.laws.specs.CallRefusal.{callRefusal, callPlace}
 use Rattle.laws.specs.Law44.{cardsPlayed, allPlayed}
-use Rattle.laws.specs.CardRefusal.{cardRefusal, cardPlace}
+use Rattle.laws.specs.Choice.{if_then_else_, howMany}
+use Rattle.laws.specs.Events.{Event, played, exposed, choice, cardsOf}
+use Rattle.laws.specs.CodeRefusal.{codesFull, eventRefusal}
+use Rattle.laws.specs.FlatPlay.{Item, event, broken, itemsOf, isCard, cardsIn, isMisplaced, itemRefusal, afterItem}
+use Rattle.laws.specs.Plays.{playPlace}
 use Rattle.laws.specs.Law68.{Claim, none, agreed, atClaimPoint, claimable}
 use Rattle.laws.specs.Record.{Parts}
 use Rattle.laws.specs.Reading.{Reading, Reading.refused, Reading.found, onward, refuse}
 use Rattle.laws.specs.Judge.{Outcome.refused as declined, Outcome.accepted as taken, outcome}
-use Rattle.laws.specs.Contents.{takeHeading, areSeats, takeDeal, takeEach, takeCalls, takeCards, takeClaim, takeParts, contentsOf}
-use Rattle.laws.proofs.Tests.{or-left}
+use Rattle.laws.specs.Contents.{Given, takeHeading, areSeats, takeDeal, takeEach, takeCalls, takeItems, takeCards, takeClaim, takeParts, contentsOf}
+use Rattle.laws.proofs.Tests.{by-test, or-left}
 use Rattle.laws.proofs.CallRefusals.{numbered-by, call-place-le}
 use Rattle.laws.proofs.CardRefusals.{numbered-by as card-numbered-by}
-use Rattle.laws.proofs.Readings.{first-test}
+use Rattle.laws.proofs.CodeRefusals.{exposure-numbered, choice-numbered}
 use Rattle.laws.proofs.Numbered.{short-le}
-use Rattle.laws.proofs.Contents.{cards-history}
+use Rattle.laws.proofs.ItemsTaken.{cards-kept, taken-cards}
+use Rattle.laws.proofs.ContentsLawful.{deal-kept}
 
 -- a number and a place as a refusal of contents has them
 pub record Refuses (n place : ℕ) : Type 0 where
@@ -93,16 +98,61 @@ sound-calls d calls from =
     (λ h c. numbered-by d h c refusesContents refl refl refl refl refl) calls [] from tt (λ b c u le. omega (arith, call-place-le d b c)))
     (λ h m q. sound-test auctionUnfinished (length calls) (not (isOver h)) m _ (λ t. at-place refl (omega arith)) (λ g. tt)))
 
-pub sound-cards : (d : ℕ) (deal h cards : List ℕ) (from : ℕ) → Sound (takeCards d deal h cards [] from)
-unfolding takeCards cardsPlayed
-sound-cards d deal h cards from =
-    let rule = cardRefusal (trumpAfter h) (openingAfter d h) deal in
-    let test = ltb 52 (length cards) || (passedOut h && ltb 0 (length cards)) in
-    sound-test tooManyCards (min (length cards) 63) test from _ (λ t. at-place refl (omega arith)) (λ f.
-    let few = ltb-false 52 (length cards) (or-left (ltb 52 (length cards)) _ f) in
-    sound-each cardPlace rule (λ g. Unit {0}) (λ g c e u. tt)
-    (λ g c. card-numbered-by (trumpAfter h) (openingAfter d h) deal g c refusesContents refl refl refl)
-    cards [] from tt (λ b c u le. omega arith))
+-- the items of the plays
+module _ (trump opening : ℕ) (deal : List ℕ) where
+  by-room : (full : Bool) → refusesContents (if full then tooManyCodes else choiceNotOpen) ≡ true
+  by-room true = refl
+  by-room false = refl
+
+  -- a code is numbered by the codes before it, or by its rule
+  code-numbered : (full : Bool) (n : ℕ) → (not (eqb n accepted) ≡ true → refusesContents n ≡ true)
+      → not (eqb (if full then tooManyCodes else n) accepted) ≡ true → refusesContents (if full then tooManyCodes else n) ≡ true
+  code-numbered true n f e = refl
+  code-numbered false n f e = f e
+
+  event-numbered : (e : List Event) (v : Event) → not (eqb (eventRefusal trump opening deal e v) accepted) ≡ true
+      → refusesContents (eventRefusal trump opening deal e v) ≡ true
+  unfolding eventRefusal
+  event-numbered e (played c) t = card-numbered-by trump opening deal (cardsOf e) c refusesContents refl refl refl t
+  event-numbered e (exposed c deliberate) t =
+      code-numbered (codesFull e) _ (exposure-numbered trump opening deal e refusesContents c refl) t
+  event-numbered e (choice kind suit) t =
+      code-numbered (codesFull e) _ (choice-numbered trump opening deal e refusesContents kind suit refl) t
+
+  item-numbered : (e : List Event) (i : Item) (rest : List Item) → not (eqb (itemRefusal trump opening deal e i rest) accepted) ≡ true
+      → refusesContents (itemRefusal trump opening deal e i rest) ≡ true
+  unfolding itemRefusal
+  item-numbered e (event v) rest t =
+      by-test (isMisplaced (event v) rest)
+      (λ (q : isMisplaced (event v) rest ≡ true). rw q (by-room (codesFull e)))
+      (λ (q : isMisplaced (event v) rest ≡ false). rw q (event-numbered e v (rw q at t)))
+  item-numbered e broken rest t = by-room (codesFull e)
+
+  -- the place of an item and the cards that come, with an item less to come
+  place-next : (e : List Event) (i : Item) (rest : List Item) → playPlace (afterItem i e) + howMany isCard rest ≤ playPlace e + howMany isCard (i ∷ rest)
+  unfolding afterItem howMany isCard cardsPlayed cardsOf
+  place-next e (event (played c)) rest = omega arith
+  place-next e (event (exposed c deliberate)) rest = omega arith
+  place-next e (event (choice kind suit)) rest = omega arith
+  place-next e broken rest = omega arith
+
+  sound-items : (items : List Item) (e : List Event) (from : ℕ) → playPlace e + howMany isCard items < 1024
+      → Sound (takeItems trump opening deal items e [] from)
+  unfolding takeItems
+  sound-items [] e from l = tt
+  sound-items (i ∷ rest) e from l =
+      let n = itemRefusal trump opening deal e i rest in
+      sound-test n (playPlace e) (not (eqb n accepted)) from _ (λ t. at-place (item-numbered e i rest t) (omega arith)) (λ f.
+      sound-items rest (afterItem i e) from (omega (arith, place-next e i rest)))
+
+pub sound-cards : (d : ℕ) (deal h plays : List ℕ) (from : ℕ) → Sound (takeCards d deal h plays [] from)
+unfolding takeCards cardsPlayed cardsOf cardsIn
+sound-cards d deal h plays from =
+    let n = cardsIn plays in
+    let test = ltb 52 n || (passedOut h && ltb 0 n) in
+    sound-test tooManyCards (min n 63) test from _ (λ t. at-place refl (omega arith)) (λ f.
+    let few = ltb-false 52 n (or-left (ltb 52 n) _ f) in
+    sound-items (trumpAfter h) (openingAfter d h) deal (itemsOf plays) [] from (omega arith))
 
 sound-claim : (h g : List ℕ) (claim : Claim) (from : ℕ) → cardsPlayed g ≤ 52 → Sound (takeClaim h g claim [] from)
 unfolding takeClaim
@@ -112,26 +162,24 @@ sound-claim h g (agreed tricks) from few =
     sound-last claimTooMany (min tricks 15) (not (claimable g tricks)) from (λ t. at-place refl (omega arith)))
 
 -- the cards that are taken are at most 52
-few-taken : (d : ℕ) (deal h cards : List ℕ) (from : ℕ) {g : List ℕ} {m : ℕ} → takeCards d deal h cards [] from ≡ found g m → cardsPlayed g ≤ 52
-unfolding takeCards cardsPlayed
-few-taken d deal h cards from {g} q =
-    let t = first-test tooManyCards (min (length cards) 63) (ltb 52 (length cards) || (passedOut h && ltb 0 (length cards))) [] from _ q in
-    let few = ltb-false 52 (length cards) (or-left (ltb 52 (length cards)) _ (t .0)) in
-    rw (cards-history d deal h cards from q, length-reverse cards) few
+few-taken : (d : ℕ) (deal h plays : List ℕ) (from : ℕ) {e : List Event} {m : ℕ} → length deal ≡ 52 → takeCards d deal h plays [] from ≡ found e m
+    → cardsPlayed (cardsOf e) ≤ 52
+few-taken d deal h plays from all q = omega (arith, taken-cards d deal h plays from all q, cards-kept d deal h plays from all q .few)
 
-sound-parts : (p : Parts) → Sound (takeParts p [] 0)
+sound-parts : (c : Given) → Sound (takeParts c [] 0)
 unfolding takeParts
-sound-parts p =
-    let d = dealer (p .board) in
-    sound-on (takeHeading (p .board) (p .table) [] 0) _ (sound-heading (p .board) (p .table) 0) (λ u n₁ q₁.
-    sound-on (takeDeal (p .deal) [] n₁) _ (sound-deal (p .deal) n₁) (λ u n₂ q₂.
-    sound-on (takeCalls d (p .calls) [] n₂) _ (sound-calls d (p .calls) n₂) (λ h n₃ q₃.
-    sound-on (takeCards d (p .deal) h (p .cards) [] n₃) _ (sound-cards d (p .deal) h (p .cards) n₃) (λ g n₄ q₄.
-    sound-on (takeClaim h g (p .claim) [] n₄) _ (sound-claim h g (p .claim) n₄ (few-taken d (p .deal) h (p .cards) n₃ q₄)) (λ u n₅ q₅. tt)))))
+sound-parts c =
+    let d = dealer (c .board) in
+    sound-on (takeHeading (c .board) (c .table) [] 0) _ (sound-heading (c .board) (c .table) 0) (λ u n₁ q₁.
+    sound-on (takeDeal (c .deal) [] n₁) _ (sound-deal (c .deal) n₁) (λ u n₂ q₂.
+    sound-on (takeCalls d (c .calls) [] n₂) _ (sound-calls d (c .calls) n₂) (λ h n₃ q₃.
+    sound-on (takeCards d (c .deal) h (c .plays) [] n₃) _ (sound-cards d (c .deal) h (c .plays) n₃) (λ e n₄ q₄.
+    let few = few-taken d (c .deal) h (c .plays) n₃ (deal-kept (c .deal) n₁ q₂ .all) q₄ in
+    sound-on (takeClaim h (cardsOf e) (c .claim) [] n₄) _ (sound-claim h (cardsOf e) (c .claim) n₄ few) (λ u n₅ q₅. tt)))))
 
-pub contents-numbered : (p : Parts) {n place : ℕ} → contentsOf p ≡ declined n place → Refuses n place
+pub contents-numbered : (c : Given) {n place : ℕ} → contentsOf c ≡ declined n place → Refuses n place
 unfolding contentsOf
-contents-numbered p {n} {place} e = go (takeParts p [] 0) (sound-parts p) e
+contents-numbered c {n} {place} e = go (takeParts c [] 0) (sound-parts c) e
   where
     go : (r : Reading Parts) → Sound r → outcome r ≡ declined n place → Refuses n place
     go (refused a b) f o = let ea : a ≡ n = cc in let eb : b ≡ place = cc in rw (← ea, ← eb) f

@@ -3,25 +3,32 @@ use Prim.Native.Nat.{ℕ, zero, suc, _≤_, _<_, min}
 use native.Mathlib.Omega.{arith}
 use mathlib.Core.Path.{_≡_, refl, sym, _∙_}
 use mathlib.Core.Bool.{Bool, true, false, not, _&&_, _||_}
-use mathlib.Core.List.{List, [], _∷_, reverse, reverseAux}
+use mathlib.Core.Logic.{_⊎_, inl}
+use mathlib.Core.List.{List, [], _∷_, _++_, append-nil, reverse, reverseAux}
 use borrow.Author.Tests.{eqb-false, eq-eqb, ne-eqb, le-ltb, lt-ltb, le-leb, lt-leb}
 use lib.Dec.{ltb, eqb}
 use lib.ListN.{length, getD, take, length-reverse, length-take}
 use Rattle.laws.specs.Choice.{some}
-use Rattle.laws.specs.Refusals.{accepted, noBoardOrTable, notThirteen, noCall, auctionUnfinished, tooManyCards, noCard, claimTooMany, tooManyCalls}
+use Rattle.laws.specs.Refusals.{accepted, noBoardOrTable, notThirteen, noCall, auctionUnfinished, tooManyCards, claimTooMany, tooManyCalls}
 use Rattle.laws.specs.Cards.{noSeat, cardsDealt, seatWithoutThirteen}
 use Rattle.laws.specs.Auction.{codesBefore, isOver, passedOut, allowed, trumpAfter, openingAfter}
 use Rattle.laws.specs.CallRefusal.{callRefusal, placeOf, callPlace}
-use Rattle.laws.specs.Law44.{cardsPlayed, tricksLeft, playable}
-use Rattle.laws.specs.CardRefusal.{cardRefusal, cardPlace}
+use Rattle.laws.specs.Law44.{tricksLeft}
+use Rattle.laws.specs.Events.{Event, cardsAmong, codesOf}
+use Rattle.laws.specs.CodeRefusal.{mostCodes}
+use Rattle.laws.specs.FlatPlay.{itemsOf, cardsIn, flatOf}
+use Rattle.laws.specs.Plays.{EachStands, CardsFollow}
 use Rattle.laws.specs.Law68.{agreed, atClaimPoint, claimable}
 use Rattle.laws.specs.Lawful.{firstOf}
 use Rattle.laws.specs.Reading.{Reading, Reading.refused, Reading.found, refuse}
-use Rattle.laws.specs.Contents.{takeHeading, areSeats, takeDeal, takeEach, takeCalls, takeCards, takeClaim}
-use Rattle.laws.proofs.Tests.{by-test, not-both}
+use Rattle.laws.specs.Contents.{takeHeading, areSeats, takeDeal, takeEach, takeCalls, takeItems, takeCards, takeClaim}
+use Rattle.laws.proofs.Tests.{by-test}
 use Rattle.laws.proofs.Histories.{Each, each-place}
 use Rattle.laws.proofs.CallRefusals.{accepted-is}
-use Rattle.laws.proofs.CardRefusals.{accepted-is as card-accepted-is}
+use Rattle.laws.proofs.FlatPlay.{reads-on, cards-counted}
+use Rattle.laws.proofs.PlaysFit.{each-fits}
+use Rattle.laws.proofs.Taken.{fits-tell}
+use Rattle.laws.proofs.ItemsTaken.{front-passes, cards-kept}
 use Rattle.laws.proofs.Readings.{refused-found, first-of, first-test, test-is, test-stops}
 use Rattle.laws.proofs.Sections.{short-none}
 use Rattle.laws.proofs.Contents.{none-over}
@@ -123,42 +130,47 @@ module _ (d : ℕ) (calls : List ℕ) (from : ℕ) where
       let s = each-stops (callPlace d) (callRefusal d) calls [] k from h (λ j i. accepted-is d _ _ .1 (each j i)) noCall (no-call d _ _ o) (λ z. omega arith) in
       simp (le-ltb 511 (length calls) few, test-is, s, no-call-place d (firstOf k calls) (getD calls k 0) o, first-length calls k h)
 
--- ---- the cards, after the calls h
-no-card : (trump opening : ℕ) (deal g : List ℕ) (c : ℕ) → 51 < c → cardRefusal trump opening deal g c ≡ noCard
-unfolding cardRefusal
-no-card trump opening deal g c o = rw (le-leb 52 c o)
+-- ---- the cards and the codes before them, after the calls h
+module _ (d : ℕ) (deal h : List ℕ) (all : length deal ≡ 52) (from : ℕ) where
+  abbrev trump : ℕ
+  trump = trumpAfter h
 
-module _ (d : ℕ) (deal h : List ℕ) (all : length deal ≡ 52) (cards : List ℕ) (from : ℕ) where
+  abbrev opening : ℕ
+  opening = openingAfter d h
+
   -- the number of cards passes: at most 52, and none where the auction was passed out
-  counted : length cards ≤ 52 → (passedOut h ≡ true → length cards ≡ 0) → (ltb 52 (length cards) || (passedOut h && ltb 0 (length cards))) ≡ false
-  counted few none =
+  counted : (n : ℕ) → n ≤ 52 → (passedOut h ≡ true → n ≡ 0) → (ltb 52 n || (passedOut h && ltb 0 n)) ≡ false
+  counted n few none =
       by-test (passedOut h)
-      (λ (q : passedOut h ≡ true). rw (le-ltb 52 (length cards) few, q) (le-ltb 0 (length cards) (omega (arith, none q))))
-      (λ (q : passedOut h ≡ false). rw (le-ltb 52 (length cards) few, q))
+      (λ (q : passedOut h ≡ true). rw (le-ltb 52 n few, q) (le-ltb 0 n (omega (arith, none q))))
+      (λ (q : passedOut h ≡ false). rw (le-ltb 52 n few, q))
 
-  pub cards-pass : length cards ≤ 52 → (passedOut h ≡ true → length cards ≡ 0)
-      → ((k : ℕ) → k < length cards → playable (trumpAfter h) (openingAfter d h) deal (firstOf k cards) (getD cards k 0) ≡ true)
-      → takeCards d deal h cards [] from ≡ found (reverse cards) from
+  pub count-stops : (plays : List ℕ) → 52 < cardsIn plays → takeCards d deal h plays [] from ≡ refused tooManyCards (min (cardsIn plays) 63)
   unfolding takeCards
-  cards-pass few none each =
-      let rule = cardRefusal (trumpAfter h) (openingAfter d h) deal in
-      let e = each-place (λ g c. rule g c ≡ accepted) cards .1 (λ k l. card-accepted-is _ _ deal _ _ all .1 (each k l)) in
-      simp (counted few none, test-is) (each-passes cardPlace rule cards [] from e)
+  count-stops plays o = simp (lt-ltb 52 (cardsIn plays) o, test-stops)
 
-  pub count-stops : 52 < length cards → takeCards d deal h cards [] from ≡ refused tooManyCards (min (length cards) 63)
+  count-passes : (plays : List ℕ) → cardsIn plays ≤ 52 → (passedOut h ≡ true → cardsIn plays ≡ 0)
+      → takeCards d deal h plays [] from ≡ takeItems trump opening deal (itemsOf plays) [] [] from
   unfolding takeCards
-  count-stops o = simp (lt-ltb 52 (length cards) o, test-stops)
+  count-passes plays few none = simp (counted (cardsIn plays) few none, test-is)
 
-  pub card-stops : length cards ≤ 52 → passedOut h ≡ false → (k : ℕ) → k < length cards
-      → ((j : ℕ) → j < k → playable (trumpAfter h) (openingAfter d h) deal (firstOf j cards) (getD cards j 0) ≡ true)
-      → 51 < getD cards k 0
-      → takeCards d deal h cards [] from ≡ refused noCard k
-  unfolding takeCards cardsPlayed
-  card-stops few played k w each o =
-      let rule = cardRefusal (trumpAfter h) (openingAfter d h) deal in
-      let s = each-stops cardPlace rule cards [] k from w (λ j i. card-accepted-is _ _ deal _ _ all .1 (each j i)) noCard
-      (no-card _ _ deal _ _ o) (λ z. omega arith) in
-      simp (counted few (λ q. not-both (passedOut h) q played), test-is) (s ∙ rw (first-length cards k w))
+  -- plays that may stand, before the items of other numbers
+  pub plays-pass : (before : List Event) (l : List ℕ) → EachStands trump opening deal [] before → CardsFollow before ⊎ (1 ≤ cardsIn l)
+      → codesOf before ≤ mostCodes → cardsIn (flatOf before ++ l) ≤ 52 → (passedOut h ≡ true → cardsIn (flatOf before ++ l) ≡ 0)
+      → takeCards d deal h (flatOf before ++ l) [] from ≡ takeItems trump opening deal (itemsOf l) (reverse before) [] from
+  unfolding cardsIn
+  plays-pass before l each follow codes few none =
+      let tell = fits-tell before (each-fits trump opening deal all [] before each) in
+      count-passes (flatOf before ++ l) few none
+      ∙ rw (reads-on before l tell) (front-passes trump opening deal all before (itemsOf l) from each follow codes)
+
+  pub cards-pass : (plays : List Event) → EachStands trump opening deal [] plays → CardsFollow plays → codesOf plays ≤ mostCodes → cardsAmong plays ≤ 52
+      → (passedOut h ≡ true → cardsAmong plays ≡ 0) → takeCards d deal h (flatOf plays) [] from ≡ found (reverse plays) from
+  unfolding itemsOf takeItems
+  cards-pass plays each follow codes few none =
+      let counts = cards-counted plays (fits-tell plays (each-fits trump opening deal all [] plays each)) in
+      let end : flatOf plays ++ [] ≡ flatOf plays = append-nil (flatOf plays) in
+      rw end at (plays-pass plays [] each (inl follow) codes (rw (end, counts) few) (rw (end, counts) none))
 
 -- ---- the claim, after the calls h and the cards g
 pub claim-stops : (h g : List ℕ) (tricks from : ℕ) → passedOut h ≡ false → atClaimPoint g ≡ true → tricksLeft g < tricks
@@ -217,8 +229,6 @@ calls-stay d calls from {h} {m} q =
     let last : a .1 ≡ m = cc in
     sym last ∙ each-stays (callPlace d) (callRefusal d) calls [] from (a .2)
 
-pub cards-stay : (d : ℕ) (deal h cards : List ℕ) (from : ℕ) {g : List ℕ} {m : ℕ} → takeCards d deal h cards [] from ≡ found g m → m ≡ from
-unfolding takeCards
-cards-stay d deal h cards from q =
-    let t = first-test tooManyCards (min (length cards) 63) (ltb 52 (length cards) || (passedOut h && ltb 0 (length cards))) [] from _ q in
-    each-stays cardPlace (cardRefusal (trumpAfter h) (openingAfter d h) deal) cards [] from (t .1)
+pub cards-stay : (d : ℕ) (deal h plays : List ℕ) (from : ℕ) {e : List Event} {m : ℕ} → length deal ≡ 52 → takeCards d deal h plays [] from ≡ found e m
+    → m ≡ from
+cards-stay d deal h plays from all q = cards-kept d deal h plays from all q .items .stays

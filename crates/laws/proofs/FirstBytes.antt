@@ -1,4 +1,4 @@
--- What the judge says of any bytes it says of their first 441: no section reads behind them, and a byte more than an accepted record can have is one too
+-- What the judge says of any bytes it says of their first 506: no section reads behind them, and a byte more than an accepted record can have is one too
 -- many however many follow. Assumes nothing.
 use Prim.Native.Nat.{ℕ, zero, suc, _+_, _-_, _*_, _/_, _^_, _≤_, _<_}
 use native.Mathlib.Nat.{mul-suc}
@@ -12,13 +12,16 @@ use lib.ListN.{length, take, length-reverse}
 use lib.Seq.{length-take-le, getD-take, take-all}
 use Rattle.laws.specs.Choice.{if_then_else_}
 use Rattle.laws.specs.Refusals.{accepted, noBoardOrTable, notThirteen, auctionUnfinished, shortBuffer}
-use Rattle.laws.specs.Refusals.{tooManyCards, playUnfinished, noClaimPoint, claimTooMany}
+use Rattle.laws.specs.Refusals.{tooManyCards, playUnfinished, noClaimPoint, claimTooMany, tooManyCodes}
 use Rattle.laws.specs.Cards.{noSeat, seatWithoutThirteen}
 use Rattle.laws.specs.Law2.{dealer}
 use Rattle.laws.specs.Auction.{isOver, passedOut, trumpAfter, openingAfter}
 use Rattle.laws.specs.CallRefusal.{callRefusal, callPlace}
 use Rattle.laws.specs.Law44.{cardsPlayed, allPlayed}
-use Rattle.laws.specs.CardRefusal.{cardRefusal, cardPlace}
+use Rattle.laws.specs.CardRefusal.{cardRefusal}
+use Rattle.laws.specs.Events.{Event, played, exposureCode, beginsCode, cardsOf}
+use Rattle.laws.specs.CodeRefusal.{mostCodes, exposureRefusal, choiceRefusal}
+use Rattle.laws.specs.Plays.{playPlace, readExposed, readChoice, readCode, readPlays}
 use Rattle.laws.specs.Law68.{atClaimPoint, claimable}
 use Rattle.laws.specs.Record.{bits}
 use Rattle.laws.specs.Reading.{bitAt, numberAt, Reading, Reading.refused, Reading.found, onward, read, refuse, readRow, readEach, overfull, ending}
@@ -28,7 +31,8 @@ use Rattle.laws.specs.Lengths.{decidingBytes}
 use Rattle.laws.proofs.Tests.{by-test, or-left}
 use Rattle.laws.proofs.Bits.{number-lt}
 use Rattle.laws.proofs.Readings.{read-is}
-use Rattle.laws.proofs.Lengths.{bits-row, claim-bits}
+use Rattle.laws.proofs.Lengths.{bits-row, plays-bits, claim-bits}
+use Rattle.laws.proofs.CodesRead.{code-found}
 use Rattle.laws.proofs.Sections.{heading-exact, deal-exact, calls-exact, cards-exact}
 use Rattle.laws.proofs.Claims.{claim-exact}
 
@@ -119,14 +123,55 @@ module _ (most : ℕ) (bytes : List ℕ) (long : most ≤ length bytes) where
       same-field 9 at _ _ (omega arith) (λ n ln. same-on _ _ _ _ (counted (callPlace d) (callRefusal d) n (at + 9) (omega arith))
       (λ calls m q. same-test auctionUnfinished n bytes front m _ _ (not (isOver calls)) (λ t. refl)))
 
-  -- at most 52 cards are read
-  same-cards : (d : ℕ) (deal h : List ℕ) (at : ℕ) → at + 6 + 6 * 52 ≤ 8 * most → readCards d deal h bytes at ≡ readCards d deal h front at
+  -- what follows a code
+  same-code : (trump opening : ℕ) (deal : List ℕ) (code : ℕ) (e : List Event) (at : ℕ) → at + 7 ≤ 8 * most
+      → readCode trump opening deal code e bytes at ≡ readCode trump opening deal code e front at
+  unfolding readExposed readChoice
+  same-code trump opening deal code e at room = either (eqb code exposureCode)
+    where
+      either : (b : Bool)
+          → (if b then readExposed trump opening deal e else readChoice trump opening deal e) bytes at
+          ≡ (if b then readExposed trump opening deal e else readChoice trump opening deal e) front at
+      either true =
+          same-field 6 at _ _ (omega arith) (λ card lc. same-field 1 (at + 6) _ _ (omega arith) (λ bit lb.
+          let n = exposureRefusal trump opening deal e card in
+          same-test n (playPlace e) bytes front (at + 6 + 1) _ _ (not (eqb n accepted)) (λ t. refl)))
+      either false =
+          same-field 2 at _ _ (omega arith) (λ kind lk. same-field 2 (at + 2) _ _ (omega arith) (λ suit ls.
+          let n = choiceRefusal trump opening deal e kind suit in
+          same-test n (playPlace e) bytes front (at + 2 + 2) _ _ (not (eqb n accepted)) (λ t. refl)))
+
+  -- six bits for each card, and thirteen for each code that may come
+  module _ (trump opening : ℕ) (deal : List ℕ) where
+    same-plays : (n left : ℕ) (e : List Event) (at : ℕ) → at + 6 * n + 13 * left ≤ 8 * most
+        → readPlays trump opening deal n left e bytes at ≡ readPlays trump opening deal n left e front at
+    unfolding readPlays
+    same-plays zero left e at room = refl
+    same-plays (suc n) zero e at room =
+        same-field 6 at _ _ (omega arith) (λ code lc.
+        let number = cardRefusal trump opening deal (cardsOf e) code in
+        same-test tooManyCodes (playPlace e) bytes front (at + 6) _ _ (beginsCode code) (λ t.
+        same-test number (playPlace e) bytes front (at + 6) _ _ (not (eqb number accepted)) (λ u.
+        same-plays n zero (played code ∷ e) (at + 6) (omega arith))))
+    same-plays (suc n) (suc left) e at room =
+        same-field 6 at _ _ (omega arith) (λ code lc.
+        let number = cardRefusal trump opening deal (cardsOf e) code in
+        by-test (beginsCode code)
+        (λ (q : beginsCode code ≡ true).
+        rw q (same-on _ _ (readCode trump opening deal code e bytes (at + 6)) _ (same-code trump opening deal code e (at + 6) (omega arith)) (λ after m there.
+        same-plays (suc n) left after m (omega (arith, code-found trump opening deal code e bytes (at + 6) there .next)))))
+        (λ (q : beginsCode code ≡ false).
+        rw q (same-test number (playPlace e) bytes front (at + 6) _ _ (not (eqb number accepted)) (λ u.
+        same-plays n (suc left) (played code ∷ e) (at + 6) (omega arith)))))
+
+  -- at most 52 cards and forty codes are read
+  same-cards : (d : ℕ) (deal h : List ℕ) (at : ℕ) → at + 6 + 6 * 52 + 13 * 40 ≤ 8 * most → readCards d deal h bytes at ≡ readCards d deal h front at
   unfolding readCards
   same-cards d deal h at room =
       same-field 6 at _ _ (omega arith) (λ n ln.
       same-test tooManyCards n bytes front (at + 6) _ _ (ltb 52 n || (passedOut h && ltb 0 n)) (λ t.
       let few : n ≤ 52 = ltb-false 52 n (or-left (ltb 52 n) _ t) in
-      counted cardPlace (cardRefusal (trumpAfter h) (openingAfter d h) deal) n (at + 6) (omega arith)))
+      same-plays (trumpAfter h) (openingAfter d h) deal n mostCodes [] (at + 6) (omega arith)))
 
   same-claim : (h g : List ℕ) (at : ℕ) → at + 5 ≤ 8 * most → readClaim h g bytes at ≡ readClaim h g front at
   unfolding readClaim readNoClaim readMarkedClaim
@@ -167,12 +212,12 @@ module _ (most : ℕ) (bytes : List ℕ) (long : most ≤ length bytes) where
       let c = calls-few d m₂ h (h₂ .1 .whole) q₃ in
       let h₃ = calls-exact d .reads bytes m₂ h m₃ (h₂ .1 .whole) q₃ in
       let e₃ : m₃ ≤ 3195 = omega (arith, c .0, c .1) in
-      same-on _ _ _ _ (same-cards d deal h m₃ (omega arith)) (λ g m₄ q₄.
-      let h₄ = cards-exact d deal h (h₂ .0 .holders) .reads bytes m₃ g m₄ (h₃ .1 .whole) q₄ in
-      let e₄ : m₄ ≤ 3513 = omega (arith, h₄ .1 .next, bits-row 6 (reverse g), length-reverse g, h₄ .0 .count) in
-      same-on _ _ _ _ (same-claim h g m₄ (omega arith)) (λ t m₅ q₅.
-      let h₅ = claim-exact h g .reads bytes m₄ t m₅ (h₄ .1 .whole) q₅ in
-      let e₅ : m₅ ≤ 3518 = omega (arith, h₅ .1 .next, claim-bits t .1) in
+      same-on _ _ _ _ (same-cards d deal h m₃ (omega arith)) (λ e m₄ q₄.
+      let h₄ = cards-exact d deal h (h₂ .0 .holders) .reads bytes m₃ e m₄ (h₃ .1 .whole) q₄ in
+      let e₄ : m₄ ≤ 4033 = omega (arith, h₄ .1 .next, plays-bits (reverse e) .1, h₄ .0 .count, h₄ .0 .codes) in
+      same-on _ _ _ _ (same-claim h (cardsOf e) m₄ (omega arith)) (λ t m₅ q₅.
+      let h₅ = claim-exact h (cardsOf e) .reads bytes m₄ t m₅ (h₄ .1 .whole) q₅ in
+      let e₅ : m₅ ≤ 4038 = omega (arith, h₅ .1 .next, claim-bits t .1) in
       same-on _ _ _ _ (same-ending m₅ (omega arith)) (λ u m₆ q₆. refl))))))
 
   same-lent : decidingBytes ≤ most → (rooms : Rooms) → judgeOf bytes rooms ≡ judgeOf front rooms
@@ -180,7 +225,8 @@ module _ (most : ℕ) (bytes : List ℕ) (long : most ≤ length bytes) where
   same-lent enough rooms =
       ap outcome
       (same-test shortBuffer 0 bytes front 0 _ _ (ltb (rooms .answer) 7) (λ a.
-      same-test shortBuffer 1 bytes front 0 _ _ (ltb (rooms .list) 36) (λ b. same-record enough)))
+      same-test shortBuffer 1 bytes front 0 _ _ (ltb (rooms .list) 48) (λ b.
+      same-test shortBuffer 2 bytes front 0 _ _ (ltb (rooms .failures) 52) (λ c. same-record enough))))
 
 -- ---- the theorem: as many first bytes as decide, or more, are judged as the whole
 pub first-bytes : (most : ℕ) → decidingBytes ≤ most → (bytes : List ℕ) (rooms : Rooms) → judgeOf bytes rooms ≡ judgeOf (take most bytes) rooms

@@ -9,36 +9,37 @@ use Rattle.laws.specs.Law2.{dealer}
 use Rattle.laws.specs.Auction.{trumpAfter, openingAfter}
 use Rattle.laws.specs.Law44.{tricksLeft}
 use Rattle.laws.specs.Law68.{Claim, none, agreed, claimable}
-use Rattle.laws.specs.Record.{Parts, row, claimFields, layout}
+use Rattle.laws.specs.Events.{Event, cardsOf}
+use Rattle.laws.specs.Record.{Parts, row, playFields, claimFields, layout}
 use Rattle.laws.specs.Judge.{Heading}
 use Rattle.laws.specs.Lawful.{Claimed, Lawful}
 use Rattle.laws.proofs.Written.{Fit, fit-append}
 use Rattle.laws.proofs.Histories.{Each, each-place, fit-each}
 use Rattle.laws.proofs.Exact.{Narrow}
 use Rattle.laws.proofs.CallRefusals.{allowed-lt}
-use Rattle.laws.proofs.CardRefusals.{playable-dealt}
-use Rattle.laws.proofs.Sections.{HeadingStands, headingFields, DealStands, MayCall, CallsStand, callsFields, MayPlay, CardsStand, cardsFields}
+use Rattle.laws.proofs.PlaysFit.{each-fits, plays-fit}
+use Rattle.laws.proofs.Sections.{HeadingStands, headingFields, DealStands, MayCall, CallsStand, callsFields, CardsStand, cardsFields}
 
--- the parts that the sections make, of the calls h and the cards g, latest first
-abbrev pub partsOf : Heading → List ℕ → List ℕ → List ℕ → Claim → Parts
-partsOf x deal h g claim = record { board = x .board; table = x .table; deal = deal; calls = reverse h; cards = reverse g; claim = claim }
+-- the parts that the sections make, of the calls h and the events e of the play, latest first
+abbrev pub partsOf : Heading → List ℕ → List ℕ → List Event → Claim → Parts
+partsOf x deal h e claim = record { board = x .board; table = x .table; deal = deal; calls = reverse h; plays = reverse e; claim = claim }
 
 -- what all sections take
-pub record AllStand (x : Heading) (deal h g : List ℕ) (claim : Claim) : Type 0 where
+pub record AllStand (x : Heading) (deal h : List ℕ) (e : List Event) (claim : Claim) : Type 0 where
   pub heading : HeadingStands x
   pub dealt : DealStands deal
   pub calls : CallsStand (dealer (x .board)) h
-  pub cards : CardsStand (dealer (x .board)) deal h g
-  pub claimed : Claimed h g claim
+  pub cards : CardsStand (dealer (x .board)) deal h e
+  pub claimed : Claimed h (cardsOf e) claim
 
 -- the layout by sections
-pub staged : (x : Heading) (deal h g : List ℕ) (claim : Claim)
-    → layout (partsOf x deal h g claim) ≡ headingFields x ++ (row 2 deal ++ (callsFields h ++ (cardsFields g ++ claimFields claim)))
+pub staged : (x : Heading) (deal h : List ℕ) (e : List Event) (claim : Claim)
+    → layout (partsOf x deal h e claim) ≡ headingFields x ++ (row 2 deal ++ (callsFields h ++ (cardsFields e ++ claimFields claim)))
 unfolding layout
-staged x deal h g claim = rw (length-reverse h, length-reverse g)
+staged x deal h e claim = rw (length-reverse h)
 
-module _ (x : Heading) (deal h g : List ℕ) (claim : Claim) where
-  pub lawful-of : AllStand x deal h g claim → Lawful (partsOf x deal h g claim)
+module _ (x : Heading) (deal h : List ℕ) (e : List Event) (claim : Claim) where
+  pub lawful-of : AllStand x deal h e claim → Lawful (partsOf x deal h e claim)
   lawful-of a =
       record {
         layout =
@@ -50,7 +51,7 @@ module _ (x : Heading) (deal h g : List ℕ) (claim : Claim) where
               holders = a .dealt .holders;
               holder = λ k w. let b : getD deal k 0 < 4 = each-place (Narrow 2) deal .0 (a .dealt .seats) k (rw (a .dealt .holders) w) in omega arith;
               calls = rw (length-reverse h) (a .calls .count);
-              cards = rw (length-reverse g) (a .cards .count);
+              cards = a .cards .count;
             };
         deal = a .dealt .thirteen;
         calls =
@@ -60,10 +61,12 @@ module _ (x : Heading) (deal h g : List ℕ) (claim : Claim) where
             };
         cards =
             record {
-              each = rw (reverse-reverse h) (each-place (MayPlay (dealer (x .board)) deal h) (reverse g) .0 (a .cards .allow));
-              none-if-passed-out = rw (reverse-reverse h, length-reverse g) (a .cards .none-if-passed-out);
+              each = rw (reverse-reverse h) (a .cards .each);
+              follow = a .cards .follow;
+              codes = a .cards .codes;
+              none-if-passed-out = rw (reverse-reverse h) (a .cards .none-if-passed-out);
             };
-        claim = rw (reverse-reverse h, reverse-reverse g) (a .claimed);
+        claim = rw (reverse-reverse h, reverse-reverse e) (a .claimed);
       }
 
 -- parts as the sections make them
@@ -71,23 +74,25 @@ abbrev pub headingOf : Parts → Heading
 headingOf p = record { board = p .board; table = p .table }
 
 abbrev pub asRead : Parts → Parts
-asRead p = partsOf (headingOf p) (p .deal) (reverse (p .calls)) (reverse (p .cards)) (p .claim)
+asRead p = partsOf (headingOf p) (p .deal) (reverse (p .calls)) (reverse (p .plays)) (p .claim)
 
 pub as-read : (p : Parts) → asRead p ≡ p
-as-read p = rw (reverse-reverse (p .calls), reverse-reverse (p .cards))
+as-read p = rw (reverse-reverse (p .calls), reverse-reverse (p .plays))
 
 module _ (p : Parts) (ok : Lawful p) where
+  abbrev trump : ℕ
+  trump = trumpAfter (reverse (p .calls))
+
+  abbrev opening : ℕ
+  opening = openingAfter (dealer (p .board)) (reverse (p .calls))
+
   seats-of : Each (Narrow 2) [] (p .deal)
   seats-of = each-place (Narrow 2) (p .deal) .1 (λ k w. let b = ok .layout .holder k (omega (arith, ok .layout .holders)) in omega arith)
 
   calls-of : Each (MayCall (dealer (p .board))) [] (p .calls)
   calls-of = each-place (MayCall (dealer (p .board))) (p .calls) .1 (ok .calls .each)
 
-  cards-of : Each (MayPlay (dealer (p .board)) (p .deal) (reverse (p .calls))) [] (p .cards)
-  cards-of =
-      each-place (MayPlay (dealer (p .board)) (p .deal) (reverse (p .calls))) (p .cards) .1 (ok .cards .each)
-
-  pub stand-of : AllStand (headingOf p) (p .deal) (reverse (p .calls)) (reverse (p .cards)) (p .claim)
+  pub stand-of : AllStand (headingOf p) (p .deal) (reverse (p .calls)) (reverse (p .plays)) (p .claim)
   stand-of =
       record {
         heading =
@@ -101,22 +106,19 @@ module _ (p : Parts) (ok : Lawful p) where
         calls = record { count = rw (length-reverse (p .calls)) (ok .layout .calls); allow = rw (reverse-reverse (p .calls)) calls-of; over = ok .calls .over };
         cards =
             record {
-              count = rw (length-reverse (p .cards)) (ok .layout .cards);
-              none-if-passed-out = rw (length-reverse (p .cards)) (ok .cards .none-if-passed-out);
-              allow = rw (reverse-reverse (p .cards)) cards-of;
+              count = rw (reverse-reverse (p .plays)) (ok .layout .cards);
+              none-if-passed-out = rw (reverse-reverse (p .plays)) (ok .cards .none-if-passed-out);
+              each = rw (reverse-reverse (p .plays)) (ok .cards .each);
+              follow = rw (reverse-reverse (p .plays)) (ok .cards .follow);
+              codes = rw (reverse-reverse (p .plays)) (ok .cards .codes);
             };
         claimed = ok .claim;
       }
 
-  claim-fits : (claim : Claim) → Claimed (reverse (p .calls)) (reverse (p .cards)) claim → Fit (claimFields claim)
+  claim-fits : (claim : Claim) → Claimed (reverse (p .calls)) (cardsOf (reverse (p .plays))) claim → Fit (claimFields claim)
   unfolding claimFields Fit claimable tricksLeft
   claim-fits none a = (omega arith, tt)
   claim-fits (agreed tricks) a = (omega arith, (omega (arith, leb-true tricks _ (a .2)), tt))
-
-  card-lt : (g : List ℕ) (c : ℕ) → MayPlay (dealer (p .board)) (p .deal) (reverse (p .calls)) g c → c < 64
-  card-lt g c e =
-      let below = playable-dealt (trumpAfter (reverse (p .calls))) (openingAfter (dealer (p .board)) (reverse (p .calls))) (p .deal) g c e in
-      omega (arith, ok .layout .holders)
 
   pub lawful-fits : Fit (layout p)
   unfolding layout Fit
@@ -128,7 +130,9 @@ module _ (p : Parts) (ok : Lawful p) where
         omega (arith, ok .layout .calls),
         fit-append (row 6 (p .calls)) _ (fit-each _ 6 (allowed-lt (dealer (p .board))) [] (p .calls) calls-of) (
           omega (arith, ok .layout .cards),
-          fit-append (row 6 (p .cards)) _ (fit-each _ 6 card-lt [] (p .cards) cards-of) (claim-fits (p .claim) (ok .claim)),
+          fit-append (playFields (p .plays)) _
+              (plays-fit (p .plays) (each-fits trump opening (p .deal) (ok .layout .holders) [] (p .plays) (ok .cards .each)))
+              (claim-fits (p .claim) (ok .claim)),
         ),
       ),
     ),

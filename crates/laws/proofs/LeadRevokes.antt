@@ -12,7 +12,7 @@ use Rattle.laws.specs.Law44.{cardsInTrick, isOf, holds}
 use Rattle.laws.specs.Law61.{holdsSuit, isRevoke, RevokedAt}
 use Rattle.laws.specs.Events.{Event, cardsOf}
 use Rattle.laws.specs.Law51.{noSuit, required, isForbidden}
-use Rattle.laws.specs.LeadRevoke.{leads, ledAfter, seatAfter, isAsked, isAble, obeys, disobeys, Counted, countedBy, countedRevokes, allRevokes}
+use Rattle.laws.specs.LeadRevoke.{leads, ledAfter, seatAfter, isAsked, isAble, obeys, disobeys, listedAs, countedBy, countedRevokes, allRevokes}
 use Rattle.laws.specs.LeadRevoke.{RequiredNotLed, ForbiddenLed, RevokedBy}
 use Rattle.laws.proofs.Tests.{by-test, not-both, and-left, and-right, and-both}
 use Rattle.laws.proofs.Counts.{below-some, some-below}
@@ -144,6 +144,6 @@ module _ (trump opening : ℕ) (deal : List ℕ) where
   disobeys-exactly e c = (in-full e c, out-of e c)
 
   -- what Law 64 counts is what is listed
-  pub counted-listed : (e : List Event) → map (λ (r : Counted). r .revoke) (countedRevokes trump opening deal e) ≡ allRevokes trump opening deal e
+  pub counted-listed : (e : List Event) → map listedAs (countedRevokes trump opening deal e) ≡ allRevokes trump opening deal e
   unfolding countedRevokes countedBy allRevokes
-  counted-listed e = list-map (λ (r : Counted). r .revoke) (disobeys trump opening deal) (countedBy trump opening deal) e
+  counted-listed e = list-map listedAs (disobeys trump opening deal) (countedBy trump opening deal) e

@@ -1,5 +1,5 @@
--- How long a lawful record is: an auction that is over has at least four calls, and the record at least 20 bytes, at most 440, and without
--- a mark at most 296. Assumes nothing.
+-- How long a lawful record is: an auction that is over has at least four calls, and the record at least 20 bytes, at most 440 without codes among its cards,
+-- and without a mark at most 296; codes take 65 bytes more at the most. Assumes nothing.
 use Prim.Native.Nat.{ℕ, _+_, _*_, _≤_, _<_}
 use native.Mathlib.Nat.{mul-zero, mul-suc}
 use native.Mathlib.Omega.{arith}
@@ -12,13 +12,15 @@ use lib.ListN.{length, length-reverse}
 use Rattle.laws.specs.Auction.{pass, mark, lastBid, hasBid, passesInARow, isOver}
 use Rattle.laws.specs.Law44.{cardsPlayed}
 use Rattle.laws.specs.Law68.{Claim, none, agreed, atClaimPoint}
-use Rattle.laws.specs.Record.{Parts, Field, field, row, bits, claimFields, layout, encode}
+use Rattle.laws.specs.Events.{Event, played, exposed, choice, cardsOf, cardsAmong, codesOf}
+use Rattle.laws.specs.Record.{Parts, Field, field, row, bits, eventFields, playFields, claimFields, layout, encode}
 use Rattle.laws.specs.Law2.{dealer}
 use Rattle.laws.specs.Lawful.{Claimed, Lawful}
 use Rattle.laws.specs.Lengths.{NoMark, mostBytes}
 use Rattle.laws.proofs.Tests.{by-test, not-both, and-right}
 use Rattle.laws.proofs.Written.{bits-append}
 use Rattle.laws.proofs.Spelled.{length-packed}
+use Rattle.laws.proofs.Plays.{cards-reverse}
 use Rattle.laws.proofs.LongestAuction.{at-most-319-in-order}
 
 passes-le : (h : List ℕ) → passesInARow h ≤ length h
@@ -61,12 +63,22 @@ unfolding claimFields bits
 claim-bits none = (omega arith, omega arith)
 claim-bits (agreed tricks) = (omega arith, omega arith)
 
+-- a card takes six bits, and a code thirteen at the most
+pub plays-bits : (plays : List Event)
+    → (6 * cardsAmong plays ≤ bits (playFields plays)) × (bits (playFields plays) ≤ 6 * cardsAmong plays + 13 * codesOf plays)
+unfolding cardsAmong cardsOf codesOf playFields eventFields bits
+plays-bits [] = (omega arith, omega arith)
+plays-bits (played c ∷ plays) = let more = plays-bits plays in (omega (arith, more .0), omega (arith, more .1))
+plays-bits (exposed c deliberate ∷ plays) = let more = plays-bits plays in (omega (arith, more .0), omega (arith, more .1))
+plays-bits (choice kind suit ∷ plays) = let more = plays-bits plays in (omega (arith, more .0), omega (arith, more .1))
+
 -- the fields of a record, counted in bits
-pub layout-bits : (p : Parts) → bits (layout p) ≡ 31 + 2 * length (p .deal) + 6 * length (p .calls) + 6 * length (p .cards) + bits (claimFields (p .claim))
+pub layout-bits : (p : Parts)
+    → bits (layout p) ≡ 31 + 2 * length (p .deal) + 6 * length (p .calls) + bits (playFields (p .plays)) + bits (claimFields (p .claim))
 unfolding layout bits
 layout-bits p =
     let last : List Field = claimFields (p .claim) in
-    let played : List Field = field 6 (length (p .cards)) ∷ row 6 (p .cards) ++ last in
+    let played : List Field = field 6 (cardsAmong (p .plays)) ∷ playFields (p .plays) ++ last in
     let called : List Field = field 9 (length (p .calls)) ∷ row 6 (p .calls) ++ played in
     omega (
       arith,
@@ -74,8 +86,7 @@ layout-bits p =
       bits-row 2 (p .deal),
       bits-append (row 6 (p .calls)) played,
       bits-row 6 (p .calls),
-      bits-append (row 6 (p .cards)) last,
-      bits-row 6 (p .cards),
+      bits-append (playFields (p .plays)) last,
     )
 
 -- a lawful record has at least 20 bytes
@@ -85,25 +96,40 @@ at-least-20 p ok =
     let four : 4 ≤ length (reverse (p .calls)) = over-four (reverse (p .calls)) (ok .calls .over) in
     omega (arith, length-packed (layout p), layout-bits p, claim-bits (p .claim) .0, ok .layout .holders, length-reverse (p .calls))
 
--- without a mark at most 296: 31 bits of board, table and counts, 104 of the deal, six for each of at most 319 calls and 52 cards, and the claim's
-pub at-most-296 : (p : Parts) → Lawful p → NoMark (p .calls) → length (encode p) ≤ 296
-unfolding encode
-at-most-296 p ok unmarked =
-    let most : length (p .calls) ≤ 319 = at-most-319-in-order (dealer (p .board)) (p .calls) (ok .calls .each) unmarked in
-    omega (arith, length-packed (layout p), layout-bits p, claim-bits (p .claim) .1, ok .layout .holders, ok .layout .cards)
-
 -- a claim stands at 51 cards at the most
-most-played : (p : Parts) → Lawful p → 6 * length (p .cards) + bits (claimFields (p .claim)) ≤ 313
-unfolding claimFields bits atClaimPoint cardsPlayed
+most-played : (p : Parts) → Lawful p → 6 * cardsAmong (p .plays) + bits (claimFields (p .claim)) ≤ 313
+unfolding claimFields bits atClaimPoint cardsPlayed cardsAmong
 most-played p ok = by-claim (p .claim) (ok .claim)
   where
-    by-claim : (claim : Claim) → Claimed (reverse (p .calls)) (reverse (p .cards)) claim → 6 * length (p .cards) + bits (claimFields claim) ≤ 313
+    by-claim : (claim : Claim) → Claimed (reverse (p .calls)) (cardsOf (reverse (p .plays))) claim
+        → 6 * cardsAmong (p .plays) + bits (claimFields claim) ≤ 313
     by-claim none a = omega (arith, ok .layout .cards)
     by-claim (agreed tricks) a =
-        let n = length (reverse (p .cards)) in
-        omega (arith, leb-true n 51 (and-right (leb 1 n) (leb n 51) (a .1)), length-reverse (p .cards))
+        let n = cardsAmong (reverse (p .plays)) in
+        omega (arith, leb-true n 51 (and-right (leb 1 n) (leb n 51) (a .1)), cards-reverse (p .plays))
 
--- with the 511 codes that the count can tell, at most 440
-pub at-most-440 : (p : Parts) → Lawful p → length (encode p) ≤ mostBytes
-unfolding encode
-at-most-440 p ok = omega (arith, length-packed (layout p), layout-bits p, most-played p ok, ok .layout .holders, ok .layout .calls)
+module _ (p : Parts) (ok : Lawful p) where
+  -- 31 bits of board, table and counts, 104 of the deal, six for each call and card, the claim's, and thirteen for each code among the cards
+  most-bits : bits (layout p) ≤ 135 + 6 * length (p .calls) + 313 + 13 * codesOf (p .plays)
+  most-bits = omega (arith, layout-bits p, plays-bits (p .plays) .1, most-played p ok, ok .layout .holders)
+
+  few-calls : NoMark (p .calls) → length (p .calls) ≤ 319
+  few-calls = at-most-319-in-order (dealer (p .board)) (p .calls) (ok .calls .each)
+
+  -- without codes at most 440 bytes, and without a mark at most 296
+  pub at-most-440 : codesOf (p .plays) ≡ 0 → length (encode p) ≤ 440
+  unfolding encode
+  at-most-440 alone = omega (arith, length-packed (layout p), most-bits, ok .layout .calls)
+
+  pub at-most-296 : codesOf (p .plays) ≡ 0 → NoMark (p .calls) → length (encode p) ≤ 296
+  unfolding encode
+  at-most-296 alone unmarked = omega (arith, length-packed (layout p), most-bits, few-calls unmarked)
+
+  -- with the forty codes that may stand, 65 bytes more
+  pub at-most-505 : length (encode p) ≤ mostBytes
+  unfolding encode
+  at-most-505 = omega (arith, length-packed (layout p), most-bits, ok .layout .calls, ok .cards .codes)
+
+  pub at-most-361 : NoMark (p .calls) → length (encode p) ≤ 361
+  unfolding encode
+  at-most-361 unmarked = omega (arith, length-packed (layout p), most-bits, few-calls unmarked, ok .cards .codes)

@@ -1,4 +1,4 @@
--- A refusal of the judge has a number from 1 to 16, 23 or 24, and a place below 1024, for every list of numbers and buffers of any lengths. Assumes nothing.
+-- A refusal of the judge has a number from 1 to 16 or 23 to 27, and a place below 1024, for every list of numbers and buffers of any lengths. Assumes nothing.
 use Prim.Native.Nat.{ℕ, zero, suc, _+_, _*_, _^_, _≤_, _<_}
 use native.Mathlib.Omega.{arith}
 use mathlib.Core.Path.{_≡_, refl}
@@ -8,13 +8,16 @@ use lib.Dec.{leb, ltb, eqb, lit≤}
 use lib.ListN.{length}
 use Rattle.laws.specs.Choice.{if_then_else_}
 use Rattle.laws.specs.Refusals.{refusalNumber, refusesRecord, accepted, shortBuffer, recordEnds, noBoardOrTable, notThirteen, auctionUnfinished}
-use Rattle.laws.specs.Refusals.{tooManyCards, playUnfinished, noClaimPoint, claimTooMany, notPadding}
+use Rattle.laws.specs.Refusals.{tooManyCards, playUnfinished, noClaimPoint, claimTooMany, notPadding, tooManyCodes}
 use Rattle.laws.specs.Cards.{noSeat, hasThirteen, firstWithoutThirteen, seatWithoutThirteen}
 use Rattle.laws.specs.Law2.{dealer}
 use Rattle.laws.specs.Auction.{isOver, passedOut, trumpAfter, openingAfter}
 use Rattle.laws.specs.CallRefusal.{callRefusal, callPlace}
 use Rattle.laws.specs.Law44.{cardsPlayed, allPlayed}
-use Rattle.laws.specs.CardRefusal.{cardRefusal, cardPlace}
+use Rattle.laws.specs.CardRefusal.{cardRefusal}
+use Rattle.laws.specs.Events.{Event, played, exposureCode, beginsCode, cardsOf, cardsAmong}
+use Rattle.laws.specs.CodeRefusal.{mostCodes, exposureRefusal, choiceRefusal}
+use Rattle.laws.specs.Plays.{playPlace, refuseBy, readExposed, readChoice, readCode, readPlays}
 use Rattle.laws.specs.Law68.{atClaimPoint, claimable}
 use Rattle.laws.specs.Record.{Parts}
 use Rattle.laws.specs.Reading.{numberAt, Reading, Reading.refused, Reading.found, onward, read, refuse, readRow, readEach, overfull, ending}
@@ -24,6 +27,9 @@ use Rattle.laws.proofs.Tests.{by-test}
 use Rattle.laws.proofs.Bits.{number-lt}
 use Rattle.laws.proofs.CallRefusals.{numbered, call-place-le}
 use Rattle.laws.proofs.CardRefusals.{numbered as card-numbered}
+use Rattle.laws.proofs.CodeRefusals.{exposure-numbered, choice-numbered}
+use Rattle.laws.proofs.CodesRead.{code-found}
+use Rattle.laws.proofs.Plays.{cards-reverse}
 use Rattle.laws.proofs.RecordNumbers.{from-1}
 use Rattle.laws.proofs.Sections.{heading-exact, deal-exact, calls-exact, cards-exact}
 
@@ -118,13 +124,55 @@ fair-calls d bytes at =
     (fair-each 6 (callPlace d) (callRefusal d) (call-place-le d) (numbered d) n [] bytes (at + 9) (omega arith)) (λ h m q.
     fair-test auctionUnfinished n (not (isOver h)) bytes m _ (λ t. at-place refl (omega arith)) tt))
 
+-- the cards and the codes before them
+module _ (trump opening : ℕ) (deal : List ℕ) where
+  pub fair-code : (code : ℕ) (e : List Event) (bytes : List ℕ) (at : ℕ) → playPlace e < 1024 → Fair (readCode trump opening deal code e bytes at)
+  unfolding readExposed readChoice
+  fair-code code e bytes at l = either (eqb code exposureCode)
+    where
+      either : (b : Bool) → Fair ((if b then readExposed trump opening deal e else readChoice trump opening deal e) bytes at)
+      either true =
+          fair-read 6 bytes at _ (λ card lc. fair-read 1 bytes (at + 6) _ (λ bit lb.
+          let n = exposureRefusal trump opening deal e card in
+          fair-test n (playPlace e) (not (eqb n accepted)) bytes (at + 6 + 1) _
+          (λ t. at-place (exposure-numbered trump opening deal e refusesRecord card refl t) l) tt))
+      either false =
+          fair-read 2 bytes at _ (λ kind lk. fair-read 2 bytes (at + 2) _ (λ suit ls.
+          let n = choiceRefusal trump opening deal e kind suit in
+          fair-test n (playPlace e) (not (eqb n accepted)) bytes (at + 2 + 2) _
+          (λ t. at-place (choice-numbered trump opening deal e refusesRecord kind suit refl t) l) tt))
+
+  fair-card : (n left : ℕ) (e : List Event) (bytes : List ℕ) (at code : ℕ) → playPlace e + suc n < 1024
+      → Fair (readPlays trump opening deal n left (played code ∷ e) bytes (at + 6))
+      → Fair (onward (refuseBy (cardRefusal trump opening deal (cardsOf e) code) e bytes (at + 6))
+      (λ _ m. readPlays trump opening deal n left (played code ∷ e) bytes m))
+  fair-card n left e bytes at code l next =
+      let number = cardRefusal trump opening deal (cardsOf e) code in
+      fair-test number (playPlace e) (not (eqb number accepted)) bytes (at + 6) _
+      (λ t. at-place (card-numbered trump opening deal (cardsOf e) code t) (omega arith)) next
+
+  pub fair-plays : (n left : ℕ) (e : List Event) (bytes : List ℕ) (at : ℕ) → playPlace e + n < 1024 → Fair (readPlays trump opening deal n left e bytes at)
+  unfolding readPlays cardsPlayed cardsOf
+  fair-plays zero left e bytes at l = tt
+  fair-plays (suc n) zero e bytes at l =
+      fair-read 6 bytes at _ (λ code lc.
+      fair-test tooManyCodes (playPlace e) (beginsCode code) bytes (at + 6) _ (λ t. at-place refl (omega arith))
+      (fair-card n zero e bytes at code l (fair-plays n zero (played code ∷ e) bytes (at + 6) (omega arith))))
+  fair-plays (suc n) (suc left) e bytes at l =
+      fair-read 6 bytes at _ (λ code lc. by-test (beginsCode code)
+      (λ (q : beginsCode code ≡ true).
+      rw q (fair-on (readCode trump opening deal code e bytes (at + 6)) _ (fair-code code e bytes (at + 6) (omega arith)) (λ after m found-there.
+      let same = code-found trump opening deal code e bytes (at + 6) found-there .cards in
+      fair-plays (suc n) left after bytes m (rw same l))))
+      (λ (q : beginsCode code ≡ false).
+      rw q (fair-card n (suc left) e bytes at code l (fair-plays n (suc left) (played code ∷ e) bytes (at + 6) (omega arith)))))
+
 pub fair-cards : (d : ℕ) (deal h bytes : List ℕ) (at : ℕ) → Fair (readCards d deal h bytes at)
-unfolding readCards cardsPlayed
+unfolding readCards cardsPlayed cardsOf
 fair-cards d deal h bytes at =
     fair-read 6 bytes at _ (λ n ln.
     fair-test tooManyCards n (ltb 52 n || (passedOut h && ltb 0 n)) bytes (at + 6) _ (λ t. at-place refl (omega arith))
-    (fair-each 6 cardPlace (cardRefusal (trumpAfter h) (openingAfter d h) deal) (λ g c. omega arith)
-    (card-numbered (trumpAfter h) (openingAfter d h) deal) n [] bytes (at + 6) (omega arith)))
+    (fair-plays (trumpAfter h) (openingAfter d h) deal n mostCodes [] bytes (at + 6) (omega arith)))
 
 pub fair-claim : (h g bytes : List ℕ) (at : ℕ) → length g ≤ 52 → Fair (readClaim h g bytes at)
 unfolding readClaim readNoClaim readMarkedClaim cardsPlayed
@@ -138,7 +186,7 @@ fair-claim h g bytes at l = fair-read 1 bytes at _ (λ mark lm. either (eqb mark
         fair-test claimTooMany tricks (not (claimable g tricks)) bytes (at + 1 + 4) _ (λ t. at-place refl (omega arith)) tt))
 
 fair-record : (bytes : List ℕ) → Fair (readRecord bytes 0)
-unfolding readRecord ending
+unfolding readRecord ending cardsAmong
 fair-record bytes =
     fair-on (readHeading bytes 0) _ (fair-heading bytes 0) (λ x m₁ q₁.
     let d : ℕ = dealer (x .board) in
@@ -147,16 +195,17 @@ fair-record bytes =
     let h₂ = deal-exact .reads bytes m₁ deal m₂ (h₁ .1 .whole) q₂ in
     fair-on (readCalls d bytes m₂) _ (fair-calls d bytes m₂) (λ h m₃ q₃.
     let h₃ = calls-exact d .reads bytes m₂ h m₃ (h₂ .1 .whole) q₃ in
-    fair-on (readCards d deal h bytes m₃) _ (fair-cards d deal h bytes m₃) (λ g m₄ q₄.
-    let h₄ = cards-exact d deal h (h₂ .0 .holders) .reads bytes m₃ g m₄ (h₃ .1 .whole) q₄ in
-    fair-on (readClaim h g bytes m₄) _ (fair-claim h g bytes m₄ (h₄ .0 .count)) (λ t m₅ q₅.
+    fair-on (readCards d deal h bytes m₃) _ (fair-cards d deal h bytes m₃) (λ e m₄ q₄.
+    let h₄ = cards-exact d deal h (h₂ .0 .holders) .reads bytes m₃ e m₄ (h₃ .1 .whole) q₄ in
+    fair-on (readClaim h (cardsOf e) bytes m₄) _ (fair-claim h (cardsOf e) bytes m₄ (omega (arith, h₄ .0 .count, cards-reverse e))) (λ t m₅ q₅.
     fair-test notPadding 0 (overfull bytes m₅) bytes m₅ _ (λ t. at-place refl (omega arith)) tt)))))
 
 fair-lent : (rooms : Rooms) (bytes : List ℕ) → Fair (readLent rooms bytes 0)
 unfolding readLent
 fair-lent rooms bytes =
     fair-test shortBuffer 0 (ltb (rooms .answer) 7) bytes 0 _ (λ t. at-place refl (omega arith))
-    (fair-test shortBuffer 1 (ltb (rooms .list) 36) bytes 0 _ (λ t. at-place refl (omega arith)) (fair-record bytes))
+    (fair-test shortBuffer 1 (ltb (rooms .list) 48) bytes 0 _ (λ t. at-place refl (omega arith))
+    (fair-test shortBuffer 2 (ltb (rooms .failures) 52) bytes 0 _ (λ t. at-place refl (omega arith)) (fair-record bytes)))
 
 -- an outcome that is a refusal is so numbered
 abbrev pub Ruled : Outcome → Type 0

@@ -3,7 +3,7 @@ use Prim.Native.Nat.{ℕ, zero, suc, _≤_, _<_}
 use native.Mathlib.Omega.{arith}
 use mathlib.Core.Path.{_≡_, refl, ap}
 use mathlib.Core.List.{List, [], _∷_, _++_}
-use lib.ListN.{length, set, take, replicate}
+use lib.ListN.{length, getD, set, take, replicate}
 use Rattle.laws.specs.Padded.{padded}
 
 module _ {A : Type 0} (z : A) where
@@ -31,3 +31,13 @@ module _ {A : Type 0} (z : A) where
   length-padded zero l = refl
   length-padded (suc n) [] = ap suc (length-padded n [])
   length-padded (suc n) (x ∷ l) = ap suc (length-padded n l)
+
+  -- what stands at a place, where all members have room
+  pub padded-at : (n : ℕ) (l : List A) (k : ℕ) → length l ≤ n → getD (padded z n l) k z ≡ getD l k z
+  unfolding padded
+  padded-at zero [] k h = refl
+  padded-at zero (x ∷ l) k h = absurd (omega arith)
+  padded-at (suc n) [] zero h = refl
+  padded-at (suc n) [] (suc k) h = padded-at n [] k (omega arith)
+  padded-at (suc n) (x ∷ l) zero h = refl
+  padded-at (suc n) (x ∷ l) (suc k) h = padded-at n l k (omega arith)

@@ -2,26 +2,26 @@
 use Prim.Native.Nat.{ℕ, zero, suc, _+_, _*_, _≤_, _<_}
 use native.Mathlib.Omega.{arith}
 use mathlib.Core.Path.{_≡_, refl, sym, ap, _∙_}
-use mathlib.Core.Bool.{Bool, true, false, not}
-use mathlib.Core.List.{List, [], _∷_, reverseAux}
-use borrow.Author.Tests.{eqb-true, eqb-false, eq-eqb, ne-eqb, not-false}
+use mathlib.Core.Bool.{true, false, not}
+use mathlib.Core.List.{List, [], _∷_, reverse, reverseAux}
+use borrow.Author.Tests.{eqb-true, eqb-false, eq-eqb, ne-eqb, not-false, lt-leb}
 use lib.Dec.{eqb}
 use lib.ListN.{length}
 use Rattle.laws.specs.Choice.{if_then_else_}
 use Rattle.laws.specs.Refusals.{accepted, tooManyCodes}
 use Rattle.laws.specs.CardRefusal.{cardRefusal}
-use Rattle.laws.specs.Law50.{isExposable}
-use Rattle.laws.specs.Law51.{isOpen}
-use Rattle.laws.specs.CodeRefusal.{exposureRefusal, choiceRefusal}
-use Rattle.laws.specs.Events.{Event, played, exposed, choice, beginsCode, cardsOf, codesOf}
+use Rattle.laws.specs.CodeRefusal.{mostCodes, codesFull, eventRefusal}
+use Rattle.laws.specs.Kept.{NoneRefused}
+use Rattle.laws.specs.Events.{Event, played, exposed, choice, beginsCode, cardsOf, cardsAmong, codesOf}
 use Rattle.laws.specs.Reading.{numberAt, Reading, Reading.found, read}
-use Rattle.laws.specs.Plays.{eventFields, playFields, playPlace, readExposed, readChoice, readCode, readPlays}
-use Rattle.laws.specs.Plays.{MayStand, EachStands, cardsAmong, CardsFollow}
+use Rattle.laws.specs.Record.{eventFields, playFields}
+use Rattle.laws.specs.Plays.{playPlace, readExposed, readChoice, readCode, readPlays, MayStand, EachStands, CardsFollow}
 use Rattle.laws.proofs.Tests.{by-test}
 use Rattle.laws.proofs.Bits.{number-lt}
 use Rattle.laws.proofs.Spelled.{Stands}
 use Rattle.laws.proofs.Readings.{first-of, first-read, first-test, read-is, test-is}
 use Rattle.laws.proofs.Exact.{stands-cons, stands-nil, stands-here, stands-fits, stands-rest, stands-end}
+use Rattle.laws.proofs.CodesRead.{exposes, opens, exposed-read, choice-read, exposure-follows, choice-follows, code-turn, exposed-goes, choice-goes}
 use Rattle.laws.proofs.CardRefusals.{accepted-is, playable-dealt}
 
 -- a bit is the test of a bit
@@ -31,43 +31,23 @@ bit-is b l =
     (λ (q : eqb b 1 ≡ true). rw q (eqb-true b 1 q))
     (λ (q : eqb b 1 ≡ false). rw q (omega (arith, eqb-false b 1 q)))
 
-test-of : (d : Bool) → eqb (if d then 1 else 0) 1 ≡ d
-test-of true = refl
-test-of false = refl
+-- the history of plays has as many cards
+cards-onto : (plays e : List Event) → cardsAmong (reverseAux plays e) ≡ cardsAmong plays + cardsAmong e
+unfolding cardsAmong cardsOf
+cards-onto [] e = omega arith
+cards-onto (played c ∷ plays) e = cards-onto plays (played c ∷ e) ∙ omega arith
+cards-onto (exposed c deliberate ∷ plays) e = cards-onto plays (exposed c deliberate ∷ e)
+cards-onto (choice kind suit ∷ plays) e = cards-onto plays (choice kind suit ∷ e)
 
--- a number that is not 0 is the next of another
-next-of : (n : ℕ) → 1 ≤ n → (m : ℕ) × (n ≡ suc m)
-next-of zero h = absurd (omega arith)
-next-of (suc m) h = (m, refl)
+pub cards-reverse : (plays : List Event) → cardsAmong (reverse plays) ≡ cardsAmong plays
+unfolding cardsAmong cardsOf
+cards-reverse plays = cards-onto plays [] ∙ omega arith
 
 -- a card is no code
-card-no-code : (c : ℕ) → c < 52 → beginsCode c ≡ false
+pub card-no-code : (c : ℕ) → c < 52 → beginsCode c ≡ false
 card-no-code c l = rw (ne-eqb c 52 (λ e. omega arith), ne-eqb c 53 (λ e. omega arith))
 
 module _ (trump opening : ℕ) (deal : List ℕ) where
-  -- an exposure and a choice are refused with no number exactly where they may stand
-  exposable : (e : List Event) (k : ℕ) → exposureRefusal trump opening deal e k ≡ accepted → isExposable trump opening deal e k ≡ true
-  unfolding exposureRefusal
-  exposable e k q =
-      by-test (isExposable trump opening deal e k)
-      (λ (t : isExposable trump opening deal e k ≡ true). t)
-      (λ (t : isExposable trump opening deal e k ≡ false). let z : _≡_ {A = ℕ} 25 0 = rw t at q in absurd (omega arith))
-
-  exposes : (e : List Event) (k : ℕ) → isExposable trump opening deal e k ≡ true → exposureRefusal trump opening deal e k ≡ accepted
-  unfolding exposureRefusal
-  exposes e k t = rw t
-
-  is-open : (e : List Event) (kind suit : ℕ) → choiceRefusal trump opening deal e kind suit ≡ accepted → isOpen trump opening deal e kind suit ≡ true
-  unfolding choiceRefusal
-  is-open e kind suit q =
-      by-test (isOpen trump opening deal e kind suit)
-      (λ (t : isOpen trump opening deal e kind suit ≡ true). t)
-      (λ (t : isOpen trump opening deal e kind suit ≡ false). let z : _≡_ {A = ℕ} 26 0 = rw t at q in absurd (omega arith))
-
-  opens : (e : List Event) (kind suit : ℕ) → isOpen trump opening deal e kind suit ≡ true → choiceRefusal trump opening deal e kind suit ≡ accepted
-  unfolding choiceRefusal
-  opens e kind suit t = rw t
-
   -- what was read of plays after the events e, in their order: n cards, and at most `left` codes
   pub record Taken (n left : ℕ) (e g : List Event) (bytes : List ℕ) (at end : ℕ) : Type 0 where
     pub plays : List Event
@@ -132,49 +112,9 @@ module _ (trump opening : ℕ) (deal : List ℕ) (all : length deal ≡ 52) wher
   unfolding MayStand
   may-card e code t = accepted-is trump opening deal (cardsOf e) code all .0 (eqb-true (ruled e code) accepted (not-false _ t))
 
-  -- an exposed card and its bit that are read
-  exposed-read : (e : List Event) (bytes : List ℕ) (at : ℕ) {after : List Event} {end : ℕ} → readExposed trump opening deal e bytes at ≡ found after end
-      → (at + 6 + 1 ≤ 8 * length bytes) × (after ≡ exposed (numberAt bytes at 6) (eqb (numberAt bytes (at + 6) 1) 1) ∷ e) × (end ≡ at + 6 + 1)
-      × MayStand trump opening deal e (exposed (numberAt bytes at 6) (eqb (numberAt bytes (at + 6) 1) 1))
-  unfolding readExposed MayStand
-  exposed-read e bytes at {after} {end} q =
-      let card : ℕ = numberAt bytes at 6 in
-      let bit : ℕ = numberAt bytes (at + 6) 1 in
-      let a = first-read 6 bytes at _ q in
-      let b = first-read 1 bytes (at + 6) _ (a .1) in
-      let n : ℕ = exposureRefusal trump opening deal e card in
-      let t = first-test n (playPlace e) (not (eqb n accepted)) bytes (at + 6 + 1) _ (b .1) in
-      let is : exposed card (eqb bit 1) ∷ e ≡ after = cc in
-      let stop : at + 6 + 1 ≡ end = cc in
-      (b .0, sym is, sym stop, exposable trump opening deal e card (eqb-true n accepted (not-false _ (t .0))))
-
-  -- a kind and a suit that are read
-  choice-read : (e : List Event) (bytes : List ℕ) (at : ℕ) {after : List Event} {end : ℕ} → readChoice trump opening deal e bytes at ≡ found after end
-      → (at + 2 + 2 ≤ 8 * length bytes) × (after ≡ choice (numberAt bytes at 2) (numberAt bytes (at + 2) 2) ∷ e) × (end ≡ at + 2 + 2)
-      × MayStand trump opening deal e (choice (numberAt bytes at 2) (numberAt bytes (at + 2) 2))
-  unfolding readChoice MayStand
-  choice-read e bytes at {after} {end} q =
-      let kind : ℕ = numberAt bytes at 2 in
-      let suit : ℕ = numberAt bytes (at + 2) 2 in
-      let a = first-read 2 bytes at _ q in
-      let b = first-read 2 bytes (at + 2) _ (a .1) in
-      let n : ℕ = choiceRefusal trump opening deal e kind suit in
-      let t = first-test n (playPlace e) (not (eqb n accepted)) bytes (at + 2 + 2) _ (b .1) in
-      let is : choice kind suit ∷ e ≡ after = cc in
-      let stop : at + 2 + 2 ≡ end = cc in
-      (b .0, sym is, sym stop, is-open trump opening deal e kind suit (eqb-true n accepted (not-false _ (t .0))))
-
   -- a code that is not an exposure's is a choice's
   other-code : (code : ℕ) → beginsCode code ≡ true → eqb code 52 ≡ false → code ≡ 53
   other-code code i x = eqb-true code 53 (rw x at i)
-
-  exposure-follows : (code : ℕ) (e : List Event) (bytes : List ℕ) (at : ℕ) {r : Reading (List Event)} → eqb code 52 ≡ true
-      → readCode trump opening deal code e bytes at ≡ r → readExposed trump opening deal e bytes at ≡ r
-  exposure-follows code e bytes at x q = rw x at q
-
-  choice-follows : (code : ℕ) (e : List Event) (bytes : List ℕ) (at : ℕ) {r : Reading (List Event)} → eqb code 52 ≡ false
-      → readCode trump opening deal code e bytes at ≡ r → readChoice trump opening deal e bytes at ≡ r
-  choice-follows code e bytes at x q = rw x at q
 
   -- what is read on from a history and a bit that are found
   go-on : (n left : ℕ) (bytes : List ℕ) {after e : List Event} {m at : ℕ} {r : Reading (List Event)} → after ≡ e → m ≡ at
@@ -202,11 +142,11 @@ module _ (trump opening : ℕ) (deal : List ℕ) (all : length deal ≡ 52) wher
       let b = first-of (readCode trump opening deal code e bytes (at + 6)) _ (rw i at (a .1)) in
       by-test (eqb code 52)
       (λ (x : eqb code 52 ≡ true).
-      let r = exposed-read e bytes (at + 6) (exposure-follows code e bytes (at + 6) x (b .2)) in
+      let r = exposed-read trump opening deal e bytes (at + 6) (exposure-follows trump opening deal code e bytes (at + 6) x (b .2)) in
       with-exposed trump opening deal n left e g bytes at end (numberAt bytes (at + 6) 6) (numberAt bytes (at + 6 + 6) 1) (eqb-true code 52 x) refl refl (r .3)
       (plays-read (suc n) left _ bytes (at + 6 + 6 + 1) (r .0) (go-on (suc n) left bytes (r .1) (r .2) (b .3))))
       (λ (x : eqb code 52 ≡ false).
-      let r = choice-read e bytes (at + 6) (choice-follows code e bytes (at + 6) x (b .2)) in
+      let r = choice-read trump opening deal e bytes (at + 6) (choice-follows trump opening deal code e bytes (at + 6) x (b .2)) in
       with-choice trump opening deal n left e g bytes at end (numberAt bytes (at + 6) 2) (numberAt bytes (at + 6 + 2) 2) (other-code code i x) refl refl (r .3)
       (plays-read (suc n) left _ bytes (at + 6 + 2 + 2) (r .0) (go-on (suc n) left bytes (r .1) (r .2) (b .3)))))
       (λ (i : beginsCode code ≡ false).
@@ -222,32 +162,6 @@ module _ (trump opening : ℕ) (deal : List ℕ) (all : length deal ≡ 52) wher
   card-low : (e : List Event) (c : ℕ) → MayStand trump opening deal e (played c) → c < 52
   unfolding MayStand
   card-low e c may = omega (arith, playable-dealt trump opening deal (cardsOf e) c may, all)
-
-  exposed-goes : (e : List Event) (c : ℕ) (d : Bool) (bytes : List ℕ) (at : ℕ) → MayStand trump opening deal e (exposed c d)
-      → read 6 bytes at ≡ found c (at + 6) → read 1 bytes (at + 6) ≡ found (if d then 1 else 0) (at + 6 + 1)
-      → readExposed trump opening deal e bytes at ≡ found (exposed c d ∷ e) (at + 6 + 1)
-  unfolding readExposed MayStand
-  exposed-goes e c d bytes at may r s =
-      let n : ℕ = exposureRefusal trump opening deal e c in
-      let passes : not (eqb n accepted) ≡ false = rw (eq-eqb n accepted (exposes trump opening deal e c may)) in
-      simp (r, s, test-is n (playPlace e) bytes (at + 6 + 1) passes, test-of d)
-
-  choice-goes : (e : List Event) (kind suit : ℕ) (bytes : List ℕ) (at : ℕ) → MayStand trump opening deal e (choice kind suit)
-      → read 2 bytes at ≡ found kind (at + 2) → read 2 bytes (at + 2) ≡ found suit (at + 2 + 2)
-      → readChoice trump opening deal e bytes at ≡ found (choice kind suit ∷ e) (at + 2 + 2)
-  unfolding readChoice MayStand
-  choice-goes e kind suit bytes at may r s =
-      let n : ℕ = choiceRefusal trump opening deal e kind suit in
-      let passes : not (eqb n accepted) ≡ false = rw (eq-eqb n accepted (opens trump opening deal e kind suit may)) in
-      simp (r, s, test-is n (playPlace e) bytes (at + 2 + 2) passes)
-
-  -- a code and what follows it, before a card
-  code-goes : (n left code : ℕ) (e after : List Event) (bytes : List ℕ) (at next : ℕ) → 1 ≤ n → beginsCode code ≡ true → read 6 bytes at ≡ found code (at + 6)
-      → readCode trump opening deal code e bytes (at + 6) ≡ found after next
-      → readPlays trump opening deal n (suc left) e bytes at ≡ readPlays trump opening deal n left after bytes next
-  unfolding readPlays
-  code-goes zero left code e after bytes at next h i r s = absurd (omega arith)
-  code-goes (suc n) left code e after bytes at next h i r s = simp (r, i, s)
 
   pub plays-go : (plays e : List Event) (left : ℕ) (bytes : List ℕ) (at : ℕ) {end : ℕ} → EachStands trump opening deal e plays → CardsFollow plays
       → codesOf plays ≤ left → Stands bytes at (playFields plays) end
@@ -272,15 +186,42 @@ module _ (trump opening : ℕ) (deal : List ℕ) (all : length deal ≡ 52) wher
   plays-go (exposed c d ∷ plays) e (suc left) bytes at each follow few k =
       let k₂ = stands-rest k in
       let k₃ = stands-rest k₂ in
-      let is = exposed-goes e c d bytes (at + 6) (each .0)
+      let is = exposed-goes trump opening deal e c d bytes (at + 6) (each .0)
       (read-is 6 bytes (at + 6) (stands-here k₂) (stands-fits k₂)) (read-is 1 bytes (at + 6 + 6) (stands-here k₃) (stands-fits k₃)) in
-      code-goes (cardsAmong plays) left 52 e _ bytes at _ (follow .0) refl (read-is 6 bytes at (stands-here k) (stands-fits k)) is
-      ∙ plays-go plays (exposed c d ∷ e) left bytes (at + 6 + 6 + 1) (each .1) (follow .1) (omega arith) (stands-rest k₃)
+      code-turn trump opening deal (cardsAmong plays) left 52 e bytes at (follow .0) refl (read-is 6 bytes at (stands-here k) (stands-fits k))
+      ∙ rw is (plays-go plays (exposed c d ∷ e) left bytes (at + 6 + 6 + 1) (each .1) (follow .1) (omega arith) (stands-rest k₃))
   plays-go (choice kind suit ∷ plays) e zero bytes at each follow few k = absurd (omega arith)
   plays-go (choice kind suit ∷ plays) e (suc left) bytes at each follow few k =
       let k₂ = stands-rest k in
       let k₃ = stands-rest k₂ in
-      let is = choice-goes e kind suit bytes (at + 6) (each .0)
+      let is = choice-goes trump opening deal e kind suit bytes (at + 6) (each .0)
       (read-is 2 bytes (at + 6) (stands-here k₂) (stands-fits k₂)) (read-is 2 bytes (at + 6 + 2) (stands-here k₃) (stands-fits k₃)) in
-      code-goes (cardsAmong plays) left 53 e _ bytes at _ (follow .0) refl (read-is 6 bytes at (stands-here k) (stands-fits k)) is
-      ∙ plays-go plays (choice kind suit ∷ e) left bytes (at + 6 + 2 + 2) (each .1) (follow .1) (omega arith) (stands-rest k₃)
+      code-turn trump opening deal (cardsAmong plays) left 53 e bytes at (follow .0) refl (read-is 6 bytes at (stands-here k) (stands-fits k))
+      ∙ rw is (plays-go plays (choice kind suit ∷ e) left bytes (at + 6 + 2 + 2) (each .1) (follow .1) (omega arith) (stands-rest k₃))
+
+  -- ---- plays that may stand, with room for their codes: none is refused
+  stands-accepted : (e : List Event) (v : Event) → MayStand trump opening deal e v → codesOf (v ∷ e) ≤ mostCodes
+      → eventRefusal trump opening deal e v ≡ accepted
+  unfolding MayStand eventRefusal codesOf codesFull
+  stands-accepted e (played c) a l = accepted-is trump opening deal (cardsOf e) c all .1 a
+  stands-accepted e (exposed c d) a l = rw (lt-leb mostCodes (codesOf e) (omega arith)) (exposes trump opening deal e c a)
+  stands-accepted e (choice kind suit) a l = rw (lt-leb mostCodes (codesOf e) (omega arith)) (opens trump opening deal e kind suit a)
+
+  fewer-codes : (v : Event) (plays e : List Event) → codesOf (v ∷ plays) + codesOf e ≤ mostCodes
+      → (codesOf (v ∷ e) ≤ mostCodes) × (codesOf plays + codesOf (v ∷ e) ≤ mostCodes)
+  unfolding codesOf
+  fewer-codes (played c) plays e l = (omega arith, l)
+  fewer-codes (exposed c d) plays e l = (omega arith, omega arith)
+  fewer-codes (choice kind suit) plays e l = (omega arith, omega arith)
+
+  none-refused-onto : (plays e : List Event) → EachStands trump opening deal e plays → codesOf plays + codesOf e ≤ mostCodes
+      → NoneRefused trump opening deal e → NoneRefused trump opening deal (reverseAux plays e)
+  unfolding EachStands NoneRefused
+  none-refused-onto [] e a l w = w
+  none-refused-onto (v ∷ plays) e a l w =
+      let fewer = fewer-codes v plays e l in
+      none-refused-onto plays (v ∷ e) (a .1) (fewer .1) (stands-accepted e v (a .0) (fewer .0), w)
+
+  pub none-refused : (plays : List Event) → EachStands trump opening deal [] plays → codesOf plays ≤ mostCodes → NoneRefused trump opening deal (reverse plays)
+  unfolding codesOf NoneRefused
+  none-refused plays a l = none-refused-onto plays [] a (omega arith) tt

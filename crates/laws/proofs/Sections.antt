@@ -1,9 +1,9 @@
 -- Each section of the judge up to the cards is exact: what it takes, as facts of what was read, and the fields that stand there. Assumes nothing.
 use Prim.Native.Nat.{ℕ, zero, suc, _+_, _≤_, _<_}
 use native.Mathlib.Omega.{arith}
-use mathlib.Core.Path.{_≡_, refl, sym}
+use mathlib.Core.Path.{_≡_, refl, sym, ap, _∙_}
 use mathlib.Core.Bool.{true, false, not}
-use mathlib.Core.List.{List, [], _∷_, reverse}
+use mathlib.Core.List.{List, [], _∷_, reverse, reverse-reverse}
 use borrow.Author.Tests.{not-false, eqb-true, eqb-false, eq-eqb, ne-eqb, le-ltb, ltb-false}
 use lib.Dec.{eqb, ltb, lit<}
 use lib.ListN.{length}
@@ -11,15 +11,16 @@ use Rattle.laws.specs.Refusals.{noBoardOrTable, notThirteen, auctionUnfi
 use Rattle.laws.specs.Cards.{noSeat, cardsDealt, hasThirteen, firstWithoutThirteen, seatWithoutThirteen}
 use Rattle.laws.specs.Auction.{isOver, passedOut, allowed, trumpAfter, openingAfter}
 use Rattle.laws.specs.CallRefusal.{callRefusal, callPlace}
-use Rattle.laws.specs.Law44.{playable}
-use Rattle.laws.specs.CardRefusal.{cardRefusal, cardPlace}
-use Rattle.laws.specs.Reading.{numberAt, readRow, readEach}
-use Rattle.laws.specs.Record.{Field, field, row}
+use Rattle.laws.specs.Events.{Event, cardsAmong, codesOf}
+use Rattle.laws.specs.CodeRefusal.{mostCodes}
+use Rattle.laws.specs.Reading.{numberAt, Reading.found, Reader, readRow, readEach}
+use Rattle.laws.specs.Plays.{readPlays, EachStands, CardsFollow}
+use Rattle.laws.specs.Record.{Field, field, row, playFields}
 use Rattle.laws.specs.Judge.{Heading, readHeading, readDeal, readCalls, readCards}
 use Rattle.laws.proofs.Tests.{by-test, or-left, or-right}
 use Rattle.laws.proofs.Bits.{number-lt}
 use Rattle.laws.proofs.CallRefusals.{accepted-is}
-use Rattle.laws.proofs.CardRefusals.{accepted-is as card-accepted-is}
+use Rattle.laws.proofs.Plays.{plays-read, plays-go}
 use Rattle.laws.proofs.Histories.{Each}
 use Rattle.laws.proofs.Readings.{first-of, first-read, first-test, read-is, test-is}
 use Rattle.laws.proofs.Exact.{Exact, landed, stands-cons, stands-here, stands-fits, stands-rest, stands-nil, stands-end, Narrow, row-exact, each-exact}
@@ -165,24 +166,41 @@ module _ (d : ℕ) where
             );
       }
 
--- the cards: h the calls, g the cards before c
-abbrev pub MayPlay : ℕ → List ℕ → List ℕ → List ℕ → ℕ → Type 0
-MayPlay d deal h g c = playable (trumpAfter h) (openingAfter d h) deal g c ≡ true
+-- the cards and the codes before them: h the calls, e the events of the play, latest first
+pub record CardsStand (d : ℕ) (deal h : List ℕ) (e : List Event) : Type 0 where
+  pub count : cardsAmong (reverse e) ≤ 52
+  pub none-if-passed-out : passedOut h ≡ true → cardsAmong (reverse e) ≡ 0
+  pub each : EachStands (trumpAfter h) (openingAfter d h) deal [] (reverse e)
+  pub follow : CardsFollow (reverse e)
+  pub codes : codesOf (reverse e) ≤ mostCodes
 
-pub record CardsStand (d : ℕ) (deal h g : List ℕ) : Type 0 where
-  pub count : length g ≤ 52
-  pub none-if-passed-out : passedOut h ≡ true → length g ≡ 0
-  pub allow : Each (MayPlay d deal h) [] (reverse g)
-
-abbrev pub cardsFields : List ℕ → List Field
-cardsFields g = field 6 (length g) ∷ row 6 (reverse g)
+abbrev pub cardsFields : List Event → List Field
+cardsFields e = field 6 (cardsAmong (reverse e)) ∷ playFields (reverse e)
 
 module _ (d : ℕ) (deal h : List ℕ) (full : length deal ≡ 52) where
-  cards-each : (n : ℕ) → Exact (readEach 6 cardPlace (cardRefusal (trumpAfter h) (openingAfter d h) deal) n [])
-      (λ g. (length g ≡ n) × Each (MayPlay d deal h) [] (reverse g)) (λ g. row 6 (reverse g))
-  cards-each n =
-      each-exact 6 cardPlace (cardRefusal (trumpAfter h) (openingAfter d h) deal) (MayPlay d deal h)
-      (λ f c. card-accepted-is (trumpAfter h) (openingAfter d h) deal f c full) n
+  abbrev plays : ℕ → Reader (List Event)
+  plays n = readPlays (trumpAfter h) (openingAfter d h) deal n mostCodes []
+
+  -- what the play section takes, by the number of cards
+  record Many (n : ℕ) (e : List Event) : Type 0 where
+    count : cardsAmong (reverse e) ≡ n
+    each : EachStands (trumpAfter h) (openingAfter d h) deal [] (reverse e)
+    follow : CardsFollow (reverse e)
+    codes : codesOf (reverse e) ≤ mostCodes
+
+  plays-exact : (n : ℕ) → Exact (plays n) (Many n) (λ e. playFields (reverse e))
+  plays-exact n =
+      record {
+        reads = λ bytes at e end l q.
+            let t = plays-read (trumpAfter h) (openingAfter d h) deal full n mostCodes [] bytes at l q in
+            let back : reverse e ≡ t .plays = ap reverse (t .history) ∙ reverse-reverse (t .plays) in (
+              record { count = rw back (t .cards); each = rw back (t .each); follow = rw back (t .follow); codes = rw back (t .codes) },
+              rw back (t .stands),
+            );
+        is = λ bytes at e end ok k.
+            rw (← ok .count) (plays-go (trumpAfter h) (openingAfter d h) deal full (reverse e) [] mostCodes bytes at (ok .each) (ok .follow) (ok .codes) k
+            ∙ ap (λ (x : List Event). found x end) (reverse-reverse e));
+      }
 
   pub cards-exact : Exact (readCards d deal h) (CardsStand d deal h) cardsFields
   unfolding readCards
@@ -192,21 +210,24 @@ module _ (d : ℕ) (deal h : List ℕ) (full : length deal ≡ 52) where
             let n : ℕ = numberAt bytes at 6 in
             let a = first-read 6 bytes at _ q in
             let t = first-test tooManyCards n _ bytes (at + 6) _ (a .1) in
-            let r = cards-each n .reads bytes (at + 6) x end (a .0) (t .1) in
+            let r = plays-exact n .reads bytes (at + 6) x end (a .0) (t .1) in
             let few : n ≤ 52 = ltb-false 52 n (or-left (ltb 52 n) _ (t .0)) in
             let rest = or-right (ltb 52 n) _ (t .0) in (
               record {
-                count = omega (arith, r .0 .0);
-                none-if-passed-out = λ z. let no = ltb-false _ n (rw z at rest) in omega (arith, r .0 .0);
-                allow = r .0 .1;
+                count = omega (arith, r .0 .count);
+                none-if-passed-out = λ z. let no = ltb-false _ n (rw z at rest) in omega (arith, r .0 .count);
+                each = r .0 .each;
+                follow = r .0 .follow;
+                codes = r .0 .codes;
               },
-              stands-cons (sym (r .0 .0)) (r .1),
+              stands-cons (sym (r .0 .count)) (r .1),
             );
         is = λ bytes at x end ok k.
+            let n = cardsAmong (reverse x) in
             let read = read-is 6 bytes at (stands-here k) (stands-fits k) in
-            let cards = cards-each (length x) .is bytes (at + 6) x end (refl, ok .allow) (stands-rest k) in
+            let many : Many n x = record { count = refl; each = ok .each; follow = ok .follow; codes = ok .codes } in
+            let cards = plays-exact n .is bytes (at + 6) x end many (stands-rest k) in
             by-test (passedOut h)
-            (λ (t : passedOut h ≡ true).
-            simp (read, t, le-ltb 52 (length x) (ok .count), le-ltb 0 (length x) (omega (arith, ok .none-if-passed-out t)), test-is, cards))
-            (λ (f : passedOut h ≡ false). simp (read, f, le-ltb 52 (length x) (ok .count), test-is, cards));
+            (λ (t : passedOut h ≡ true). simp (read, t, le-ltb 52 n (ok .count), le-ltb 0 n (omega (arith, ok .none-if-passed-out t)), test-is, cards))
+            (λ (f : passedOut h ≡ false). simp (read, f, le-ltb 52 n (ok .count), test-is, cards));
       }

@@ -1,28 +1,36 @@
 -- Contents that stand in a list of bytes are judged there as they are taken: section by section, the reader and the checks of contents say the same.
 -- Assumes nothing.
-use Prim.Native.Nat.{ℕ, _+_, _≤_, min}
+use Prim.Native.Nat.{ℕ, zero, suc, _+_, _≤_, min}
 use native.Mathlib.Omega.{arith}
 use mathlib.Core.Path.{_≡_, refl, sym, ap, _∙_}
 use mathlib.Core.Bool.{Bool, true, false, not, _&&_, _||_}
-use mathlib.Core.List.{List, [], _∷_, reverseAux}
-use borrow.Author.Tests.{le-ltb}
+use mathlib.Core.List.{List, [], _∷_, map, reverseAux}
+use borrow.Author.Tests.{le-ltb, le-leb, lt-leb}
 use lib.Dec.{ltb, eqb}
 use lib.ListN.{length}
-use Rattle.laws.specs.Refusals.{accepted, noBoardOrTable, notThirteen, auctionUnfinished, tooManyCards, playUnfinished, noClaimPoint, claimTooMany}
+use Rattle.laws.specs.Refusals.{accepted, noBoardOrTable, notThirteen, auctionUnfinished, playUnfinished, noClaimPoint, claimTooMany}
+use Rattle.laws.specs.Refusals.{tooManyCards, tooManyCodes}
 use Rattle.laws.specs.Cards.{noSeat, seatWithoutThirteen}
 use Rattle.laws.specs.Auction.{isOver, passedOut, trumpAfter, openingAfter}
 use Rattle.laws.specs.CallRefusal.{callRefusal, callPlace}
 use Rattle.laws.specs.Law44.{cardsPlayed, allPlayed}
-use Rattle.laws.specs.CardRefusal.{cardRefusal, cardPlace}
+use Rattle.laws.specs.Choice.{if_then_else_}
+use Rattle.laws.specs.CardRefusal.{cardRefusal}
+use Rattle.laws.specs.Events.{Event, played, exposed, choice, exposureCode, choiceCode, beginsCode, cardsOf, cardsAmong, codesOf}
+use Rattle.laws.specs.CodeRefusal.{mostCodes, codesFull, exposureRefusal, choiceRefusal, eventRefusal}
+use Rattle.laws.specs.FlatPlay.{event, isMisplaced, itemRefusal, afterItem, flatOf}
+use Rattle.laws.specs.Plays.{playPlace, refuseBy, readExposed, readChoice, readPlays, CardsFollow}
 use Rattle.laws.specs.Law68.{Claim, none, agreed, atClaimPoint, claimable}
-use Rattle.laws.specs.Record.{field, row, claimFields}
-use Rattle.laws.specs.Reading.{Reading, Reading.refused, Reading.found, onward, refuse, checkCode, readEach}
+use Rattle.laws.specs.Record.{field, row, eventFields, playFields, claimFields}
+use Rattle.laws.specs.Reading.{Reading, Reading.refused, Reading.found, onward, read, refuse, checkCode, readEach}
 use Rattle.laws.specs.Checks.{checkBoard, checkOver, checkCount, checkClaimPoint}
 use Rattle.laws.specs.Judge.{Heading, readHeading, readDeal, readCalls, readCards, readNoClaim, readMarkedClaim, readClaim}
-use Rattle.laws.specs.Contents.{takeHeading, areSeats, takeDeal, takeEach, takeCalls, takeCards, takeClaim}
+use Rattle.laws.specs.Contents.{EventFits, EachFits, takeHeading, areSeats, takeDeal, takeEach, takeCalls, takeItems, takeCards, takeClaim}
 use Rattle.laws.proofs.Histories.{Each}
 use Rattle.laws.proofs.Spelled.{Stands}
-use Rattle.laws.proofs.Readings.{first-test, read-is, test-is}
+use Rattle.laws.proofs.Readings.{first-test, read-is, test-is, test-stops}
+use Rattle.laws.proofs.CodesRead.{test-of, code-turn}
+use Rattle.laws.proofs.FlatPlay.{Tells, AllTell, reads-back, some-card, cards-counted}
 use Rattle.laws.proofs.Exact.{Narrow, stands-here, stands-fits, stands-rest, stands-end, row-exact}
 use Rattle.laws.proofs.Sections.{headingFields}
 
@@ -94,6 +102,105 @@ module _ (place rule : List ℕ → ℕ → ℕ) where
   each-history [] h from {g} e = sym (let z : h ≡ g = cc in z)
   each-history (c ∷ l) h from e = each-history l (c ∷ h) from (first-test (rule h c) (place h c) (not (eqb (rule h c) accepted)) [] from _ e .1)
 
+-- ---- the cards and the codes before them
+-- the numbers of events that fit tell them
+pub fits-tell : (vs : List Event) → EachFits vs → AllTell vs
+unfolding EachFits EventFits AllTell Tells
+fits-tell [] f = tt
+fits-tell (played c ∷ vs) f = (f .0 .1, fits-tell vs (f .1))
+fits-tell (exposed c deliberate ∷ vs) f = (tt, fits-tell vs (f .1))
+fits-tell (choice kind suit ∷ vs) f = (tt, fits-tell vs (f .1))
+
+-- a check that both sides make, and then the same
+checked : (n : ℕ) (e : List Event) (bytes : List ℕ) (at from : ℕ) (f g : Unit {0} → ℕ → Reading (List Event)) (k : List Event → ℕ → Reading (List Event))
+    → f tt at ≡ onward (g tt from) k → onward (refuseBy n e bytes at) f ≡ onward (onward (refuseBy n e [] from) g) k
+checked n e bytes at from f g k h =
+    same-check n (playPlace e) (not (eqb n accepted)) bytes at from f (λ u m. onward (g u m) k) h ∙ sym (onward-assoc (refuseBy n e [] from) g k)
+
+module _ (trump opening : ℕ) (deal : List ℕ) where
+  exposed-there : (e : List Event) (c : ℕ) (d : Bool) (bytes : List ℕ) (at : ℕ) → read 6 bytes at ≡ found c (at + 6)
+      → read 1 bytes (at + 6) ≡ found (if d then 1 else 0) (at + 6 + 1)
+      → readExposed trump opening deal e bytes at
+      ≡ onward (refuseBy (exposureRefusal trump opening deal e c) e bytes (at + 6 + 1)) (λ u m. found (exposed c d ∷ e) m)
+  unfolding readExposed
+  exposed-there e c d bytes at r s = simp (r, s, test-of d)
+
+  choice-there : (e : List Event) (kind suit : ℕ) (bytes : List ℕ) (at : ℕ) → read 2 bytes at ≡ found kind (at + 2)
+      → read 2 bytes (at + 2) ≡ found suit (at + 2 + 2)
+      → readChoice trump opening deal e bytes at
+      ≡ onward (refuseBy (choiceRefusal trump opening deal e kind suit) e bytes (at + 2 + 2)) (λ u m. found (choice kind suit ∷ e) m)
+  unfolding readChoice
+  choice-there e kind suit bytes at r s = simp (r, s)
+
+  -- a code that has a card after it is refused as in a record: with room for it by its rule, and else by the number of codes
+  module _ (e vs : List Event) (card : 1 ≤ cardsAmong vs) where
+    exposed-item : (c : ℕ) (d : Bool) → codesFull e ≡ false
+        → itemRefusal trump opening deal e (event (exposed c d)) (map event vs) ≡ exposureRefusal trump opening deal e c
+    unfolding itemRefusal isMisplaced eventRefusal
+    exposed-item c d room = rw (some-card vs card, room)
+
+    choice-item : (kind suit : ℕ) → codesFull e ≡ false
+        → itemRefusal trump opening deal e (event (choice kind suit)) (map event vs) ≡ choiceRefusal trump opening deal e kind suit
+    unfolding itemRefusal isMisplaced eventRefusal
+    choice-item kind suit room = rw (some-card vs card, room)
+
+    exposed-full : (c : ℕ) (d : Bool) → codesFull e ≡ true → itemRefusal trump opening deal e (event (exposed c d)) (map event vs) ≡ tooManyCodes
+    unfolding itemRefusal isMisplaced eventRefusal
+    exposed-full c d full = rw (some-card vs card, full)
+
+    choice-full : (kind suit : ℕ) → codesFull e ≡ true → itemRefusal trump opening deal e (event (choice kind suit)) (map event vs) ≡ tooManyCodes
+    unfolding itemRefusal isMisplaced eventRefusal
+    choice-full kind suit full = rw (some-card vs card, full)
+
+  -- a 41st code before a card
+  code-over : (n code : ℕ) (e : List Event) (bytes : List ℕ) (at : ℕ) → 1 ≤ n → beginsCode code ≡ true → read 6 bytes at ≡ found code (at + 6)
+      → readPlays trump opening deal n zero e bytes at ≡ refused tooManyCodes (playPlace e)
+  unfolding readPlays
+  code-over zero code e bytes at h i r = absurd (omega arith)
+  code-over (suc n) code e bytes at h i r = simp (r, test-stops tooManyCodes (playPlace e) bytes (at + 6) i)
+
+  pub items-taken : (vs e : List Event) (left : ℕ) (bytes : List ℕ) (at : ℕ) {end : ℕ} (from : ℕ) → EachFits vs → CardsFollow vs → left + codesOf e ≡ 40
+      → Stands bytes at (playFields vs) end
+      → readPlays trump opening deal (cardsAmong vs) left e bytes at
+      ≡ onward (takeItems trump opening deal (map event vs) e [] from) (λ g m. found g end)
+  unfolding readPlays takeItems playFields eventFields cardsAmong cardsOf codesOf EachFits EventFits CardsFollow afterItem codesFull itemRefusal isMisplaced
+      eventRefusal
+  items-taken [] e left bytes at from fits follow l k = ap (λ (m : ℕ). found e m) (stands-end k)
+  items-taken (played c ∷ vs) e zero bytes at from fits follow l k =
+      simp (read-is 6 bytes at (stands-here k) (stands-fits k), test-is tooManyCodes (playPlace e) bytes (at + 6) (fits .0 .1))
+      (checked (cardRefusal trump opening deal (cardsOf e) c) e bytes (at + 6) from _ _ _
+      (items-taken vs (played c ∷ e) zero bytes (at + 6) from (fits .1) follow l (stands-rest k)))
+  items-taken (played c ∷ vs) e (suc left) bytes at from fits follow l k =
+      simp (read-is 6 bytes at (stands-here k) (stands-fits k), fits .0 .1)
+      (checked (cardRefusal trump opening deal (cardsOf e) c) e bytes (at + 6) from _ _ _
+      (items-taken vs (played c ∷ e) (suc left) bytes (at + 6) from (fits .1) follow l (stands-rest k)))
+  items-taken (exposed c d ∷ vs) e zero bytes at from fits follow l k =
+      code-over (cardsAmong vs) exposureCode e bytes at (follow .0) refl (read-is 6 bytes at (stands-here k) (stands-fits k))
+      ∙ rw (exposed-full e vs (follow .0) c d (le-leb 40 (codesOf e) (omega arith)), test-stops tooManyCodes (playPlace e) {test = true} [] from refl)
+  items-taken (exposed c d ∷ vs) e (suc left) bytes at from fits follow l k =
+      let k₂ = stands-rest k in
+      let k₃ = stands-rest k₂ in
+      let there = exposed-there e c d bytes (at + 6) (read-is 6 bytes (at + 6) (stands-here k₂) (stands-fits k₂))
+      (read-is 1 bytes (at + 6 + 6) (stands-here k₃) (stands-fits k₃)) in
+      code-turn trump opening deal (cardsAmong vs) left exposureCode e bytes at (follow .0) refl (read-is 6 bytes at (stands-here k) (stands-fits k))
+      ∙ rw (there, exposed-item e vs (follow .0) c d (lt-leb 40 (codesOf e) (omega arith)))
+      (onward-assoc (refuseBy (exposureRefusal trump opening deal e c) e bytes (at + 6 + 6 + 1)) _ _
+      ∙ checked (exposureRefusal trump opening deal e c) e bytes (at + 6 + 6 + 1) from _ _ _
+      (items-taken vs (exposed c d ∷ e) left bytes (at + 6 + 6 + 1) from (fits .1) (follow .1) (omega arith) (stands-rest k₃)))
+  items-taken (choice kind suit ∷ vs) e zero bytes at from fits follow l k =
+      code-over (cardsAmong vs) choiceCode e bytes at (follow .0) refl (read-is 6 bytes at (stands-here k) (stands-fits k))
+      ∙ rw (choice-full e vs (follow .0) kind suit (le-leb 40 (codesOf e) (omega arith)), test-stops tooManyCodes (playPlace e) {test = true} [] from refl)
+  items-taken (choice kind suit ∷ vs) e (suc left) bytes at from fits follow l k =
+      let k₂ = stands-rest k in
+      let k₃ = stands-rest k₂ in
+      let there = choice-there e kind suit bytes (at + 6) (read-is 2 bytes (at + 6) (stands-here k₂) (stands-fits k₂))
+      (read-is 2 bytes (at + 6 + 2) (stands-here k₃) (stands-fits k₃)) in
+      code-turn trump opening deal (cardsAmong vs) left choiceCode e bytes at (follow .0) refl (read-is 6 bytes at (stands-here k) (stands-fits k))
+      ∙ rw (there, choice-item e vs (follow .0) kind suit (lt-leb 40 (codesOf e) (omega arith)))
+      (onward-assoc (refuseBy (choiceRefusal trump opening deal e kind suit) e bytes (at + 6 + 2 + 2)) _ _
+      ∙ checked (choiceRefusal trump opening deal e kind suit) e bytes (at + 6 + 2 + 2) from _ _ _
+      (items-taken vs (choice kind suit ∷ e) left bytes (at + 6 + 2 + 2) from (fits .1) (follow .1) (omega arith) (stands-rest k₃)))
+
 -- a claim that four bits can tell
 abbrev pub Told : Claim → Type 0
 Told none = Unit {0}
@@ -114,16 +221,19 @@ module _ (bytes : List ℕ) (at : ℕ) {end : ℕ} (from : ℕ) where
       (in-turn (takeEach (callPlace d) (callRefusal d) calls [] [] from) end _ _ _ (λ h m q.
       same-check auctionUnfinished (length calls) (not (isOver h)) bytes end m _ _ refl ∙ sym (onward-assoc (checkOver (length calls) h [] m) _ _)))
 
-  -- the cards
-  pub cards-taken : (d : ℕ) (deal h cards : List ℕ) → length cards ≤ 63 → Stands bytes at (field 6 (length cards) ∷ row 6 cards) end
-      → readCards d deal h bytes at ≡ onward (takeCards d deal h cards [] from) (λ g m. found g end)
-  unfolding readCards takeCards
-  cards-taken d deal h cards few k =
-      let told : min (length cards) 63 ≡ length cards = omega arith in
-      simp (read-is 6 bytes at (stands-here k) (stands-fits k), told)
-      (same-check tooManyCards (length cards) (ltb 52 (length cards) || (passedOut h && ltb 0 (length cards))) bytes (at + 6) from _ _
-      (each-taken cardPlace (cardRefusal (trumpAfter h) (openingAfter d h) deal) cards [] bytes (at + 6) from (stands-rest k))
-      ∙ sym (onward-assoc (checkCount (length cards) (length cards) h [] from) _ _))
+  -- the cards and the codes before them
+  pub cards-taken : (d : ℕ) (deal h : List ℕ) (plays : List Event) → cardsAmong plays ≤ 63 → EachFits plays → CardsFollow plays
+      → Stands bytes at (field 6 (cardsAmong plays) ∷ playFields plays) end
+      → readCards d deal h bytes at ≡ onward (takeCards d deal h (flatOf plays) [] from) (λ e m. found e end)
+  unfolding readCards takeCards codesOf
+  cards-taken d deal h plays few fits follow k =
+      let n = cardsAmong plays in
+      let told : min n 63 ≡ n = omega arith in
+      let tell = fits-tell plays fits in
+      simp (read-is 6 bytes at (stands-here k) (stands-fits k), cards-counted plays tell, reads-back plays tell, told)
+      (same-check tooManyCards n (ltb 52 n || (passedOut h && ltb 0 n)) bytes (at + 6) from _ _
+      (items-taken (trumpAfter h) (openingAfter d h) deal plays [] mostCodes bytes (at + 6) from fits follow refl (stands-rest k))
+      ∙ sym (onward-assoc (checkCount n n h [] from) _ _))
 
   -- the claim
   pub claim-taken : (h g : List ℕ) (claim : Claim) → Told claim → Stands bytes at (claimFields claim) end

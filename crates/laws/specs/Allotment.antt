@@ -5,13 +5,13 @@
 use Prim.Native.Nat.{ℕ, _+_, _-_, _≤_, _<_}
 use mathlib.Core.Path.{_≡_}
 use mathlib.Core.Logic.{_⊎_}
-use mathlib.Core.Bool.{Bool, not, _&&_, _||_}
+use mathlib.Core.Bool.{Bool, false, not, _&&_, _||_}
 use mathlib.Core.List.{List, List·Memᴰ}
 use lib.Dec.{eqb}
 use lib.ListN.{length, getD, take}
 use Rattle.laws.specs.Choice.{howMany}
 use Rattle.laws.specs.Cards.{noSeat, sideOf}
-use Rattle.laws.specs.Law61.{Revoke}
+use Rattle.laws.specs.LeadRevoke.{Counted}
 use Rattle.laws.specs.Law64.{entitlement, sideRevoked, bothRevoked}
 
 -- the trick is complete, and a player of the side won it
@@ -35,11 +35,11 @@ pub record Pair : Type 0 where
   pub revoke : ℕ
 
 -- the revoke at a place of the list
-unfoldable pub revokeOf : List Revoke → ℕ → Revoke
-revokeOf rs k = getD rs k (record { trick = 0; seat = noSeat; suit = 0 })
+unfoldable pub revokeOf : List Counted → ℕ → Counted
+revokeOf rs k = getD rs k (record { trick = 0; seat = noSeat; suit = 0; excused = false })
 
 -- tricks allotted to the revokes
-pub record Allotment (dummy : ℕ) (ws : List ℕ) (claimed : ℕ → ℕ) (rs : List Revoke) (pairs : List Pair) : Type 0 where
+pub record Allotment (dummy : ℕ) (ws : List ℕ) (claimed : ℕ → ℕ) (rs : List Counted) (pairs : List Pair) : Type 0 where
   -- each pair is of a revoke of the list
   pub listed : (q : Pair) → List·Memᴰ q pairs → q .revoke < length rs
   -- no trick stands twice
@@ -52,12 +52,12 @@ pub record Allotment (dummy : ℕ) (ws : List ℕ) (claimed : ℕ → ℕ) (rs :
   pub entitled : (k : ℕ) → k < length rs → howMany (λ (q : Pair). eqb (q .revoke) k) pairs ≤ entitlement dummy ws (take k rs) (revokeOf rs k)
 
 -- n is the greatest number of tricks that can be allotted: here is an allotment of n pairs, and none has more
-pub record Greatest (dummy : ℕ) (ws : List ℕ) (claimed : ℕ → ℕ) (rs : List Revoke) (n : ℕ) : Type 0 where
+pub record Greatest (dummy : ℕ) (ws : List ℕ) (claimed : ℕ → ℕ) (rs : List Counted) (n : ℕ) : Type 0 where
   pub pairs : List Pair
   pub allots : Allotment dummy ws claimed rs pairs
   pub as-many : length pairs ≡ n
   pub most : (others : List Pair) → Allotment dummy ws claimed rs others → length others ≤ n
 
 -- exactly one side has revoked
-unfoldable pub oneSideRevoked : List Revoke → Bool
+unfoldable pub oneSideRevoked : List Counted → Bool
 oneSideRevoked rs = (sideRevoked 0 rs || sideRevoked 1 rs) && not (bothRevoked rs)

@@ -3,8 +3,8 @@
 -- Assumes nothing.
 use Prim.Native.Nat.{ℕ, _≤_, _<_, min}
 use mathlib.Core.Path.{_≡_}
-use mathlib.Core.Bool.{Bool, not, _&&_}
-use mathlib.Core.List.{List, [], _∷_}
+use mathlib.Core.Bool.{Bool, false, not, _&&_}
+use mathlib.Core.List.{List, [], _∷_, reverse}
 use lib.Dec.{ltb, eqb}
 use lib.ListN.{length, getD}
 use Rattle.laws.specs.Choice.{some}
@@ -13,14 +13,40 @@ use Rattle.laws.specs.Cards.{noSeat}
 use Rattle.laws.specs.Law2.{dealer}
 use Rattle.laws.specs.Auction.{trumpAfter, openingAfter}
 use Rattle.laws.specs.CallRefusal.{callRefusal, callPlace}
-use Rattle.laws.specs.CardRefusal.{cardRefusal, cardPlace}
+use Rattle.laws.specs.Events.{Event, played, exposed, choice, beginsCode, cardsOf, cardsAmong}
+use Rattle.laws.specs.FlatPlay.{Item, itemsOf, cardsIn, itemRefusal, afterItem, flatOf}
 use Rattle.laws.specs.Law68.{Claim, none, agreed}
 use Rattle.laws.specs.Record.{Parts}
 use Rattle.laws.specs.Reading.{Reader, _>>=_, _>>_, give, refuse, checkCode}
+use Rattle.laws.specs.Plays.{refuseBy, CardsFollow}
 use Rattle.laws.specs.Checks.{Check, checkBoard, checkTable, checkDeal, checkOver, checkCount, checkPlayedOut, checkClaimPoint, checkClaim}
 use Rattle.laws.specs.Judge.{Outcome, outcome}
 
--- each part is a number that its field can hold, lawful or not: 52 holders of two bits, so many calls and cards as their counts can tell, codes of six bits
+-- a record's contents as they are given: the plays as a flat list of numbers
+pub record Given : Type 0 where
+  pub board : ℕ
+  pub table : ℕ
+  pub deal : List ℕ
+  pub calls : List ℕ
+  pub plays : List ℕ
+  pub claim : Claim
+
+-- parts as they are given to be written
+abbrev pub givenOf : Parts → Given
+givenOf p = record { board = p .board; table = p .table; deal = p .deal; calls = p .calls; plays = flatOf (p .plays); claim = p .claim }
+
+-- the fields of an event can hold its numbers, and a card's begins no code
+unfoldable pub EventFits : Event → Type 0
+EventFits (played c) = (c ≤ 63) × (beginsCode c ≡ false)
+EventFits (exposed c deliberate) = c ≤ 63
+EventFits (choice kind suit) = (kind ≤ 3) × (suit ≤ 3)
+
+unfoldable pub EachFits : List Event → Type 0
+EachFits [] = Unit {0}
+EachFits (v ∷ plays) = EventFits v × EachFits plays
+
+-- each part is a number that its field can hold, lawful or not: 52 holders of two bits, so many calls and cards as their counts can tell, codes of six bits;
+-- and each code among the cards has a card after it
 pub record Fits (p : Parts) : Type 0 where
   pub board : p .board ≤ 127
   pub table : p .table ≤ 511
@@ -28,8 +54,9 @@ pub record Fits (p : Parts) : Type 0 where
   pub holder : (k : ℕ) → k < 52 → getD (p .deal) k 0 ≤ 3
   pub calls : length (p .calls) ≤ 511
   pub call : (k : ℕ) → k < length (p .calls) → getD (p .calls) k 0 ≤ 63
-  pub cards : length (p .cards) ≤ 63
-  pub card : (k : ℕ) → k < length (p .cards) → getD (p .cards) k 0 ≤ 63
+  pub cards : cardsAmong (p .plays) ≤ 63
+  pub plays : EachFits (p .plays)
+  pub follow : CardsFollow (p .plays)
   pub claim : (tricks : ℕ) → p .claim ≡ agreed tricks → tricks ≤ 15
 
 -- board and table: a board over 127 is refused as board 0 is, and a table over 511 as table 0
@@ -65,11 +92,18 @@ takeCalls d calls = do
   checkOver (length calls) h
   give h
 
--- the cards, after the calls h; a number of cards over 63 is told as 63
-unfoldable pub takeCards : ℕ → List ℕ → List ℕ → List ℕ → Reader (List ℕ)
-takeCards d deal h cards = do
-  checkCount (min (length cards) 63) (length cards) h
-  takeEach cardPlace (cardRefusal (trumpAfter h) (openingAfter d h) deal) cards []
+-- items, each checked on the events before it and the items after it; the whole history, latest first
+unfoldable pub takeItems : ℕ → ℕ → List ℕ → List Item → List Event → Reader (List Event)
+takeItems trump opening deal [] e = give e
+takeItems trump opening deal (i ∷ rest) e = do
+  refuseBy (itemRefusal trump opening deal e i rest) e
+  takeItems trump opening deal rest (afterItem i e)
+
+-- the cards and the codes before them, after the calls h; a number of cards over 63 is told as 63
+unfoldable pub takeCards : ℕ → List ℕ → List ℕ → List ℕ → Reader (List Event)
+takeCards d deal h plays = do
+  checkCount (min (cardsIn plays) 63) (cardsIn plays) h
+  takeItems (trumpAfter h) (openingAfter d h) deal (itemsOf plays) []
 
 -- the claim; one over 15 is told as 15
 unfoldable pub takeClaim : List ℕ → List ℕ → Claim → Check
@@ -78,16 +112,16 @@ takeClaim h g (agreed tricks) = do
   checkClaimPoint h g
   checkClaim (min tricks 15) tricks g
 
--- the whole contents
-unfoldable pub takeParts : Parts → Reader Parts
-takeParts p = do
-  takeHeading (p .board) (p .table)
-  takeDeal (p .deal)
-  h ← takeCalls (dealer (p .board)) (p .calls)
-  g ← takeCards (dealer (p .board)) (p .deal) h (p .cards)
-  takeClaim h g (p .claim)
-  give p
+-- the whole contents, and the parts that they are
+unfoldable pub takeParts : Given → Reader Parts
+takeParts c = do
+  takeHeading (c .board) (c .table)
+  takeDeal (c .deal)
+  h ← takeCalls (dealer (c .board)) (c .calls)
+  e ← takeCards (dealer (c .board)) (c .deal) h (c .plays)
+  takeClaim h (cardsOf e) (c .claim)
+  give (record { board = c .board; table = c .table; deal = c .deal; calls = c .calls; plays = reverse e; claim = c .claim })
 
--- what is said of the contents: the first check that refuses them, or that they are accepted
-unfoldable pub contentsOf : Parts → Outcome
-contentsOf p = outcome (takeParts p [] 0)
+-- what is said of the contents: the first check that refuses them, or that they are accepted, as these parts
+unfoldable pub contentsOf : Given → Outcome
+contentsOf c = outcome (takeParts c [] 0)

@@ -5,6 +5,7 @@ use Prim.Native.Nat.{ℕ, suc}
 use mathlib.Core.Bool.{Bool, _||_}
 use mathlib.Core.List.{List, [], _∷_, _++_}
 use lib.Dec.{eqb}
+use lib.ListN.{length}
 use Rattle.laws.specs.Choice.{if_then_else_}
 
 -- declarer's choice before a lead: a suit is required, or a suit is forbidden
@@ -37,6 +38,10 @@ cardsOf [] = []
 cardsOf (played c ∷ e) = c ∷ cardsOf e
 cardsOf (exposed c deliberate ∷ e) = cardsOf e
 cardsOf (choice kind suit ∷ e) = cardsOf e
+
+-- how many cards there are among the events
+unfoldable pub cardsAmong : List Event → ℕ
+cardsAmong e = length (cardsOf e)
 
 -- how many codes were given: exposures and choices together
 unfoldable pub codesOf : List Event → ℕ

@@ -10,16 +10,14 @@ use Rattle.laws.specs.Refusals.{tooManyCodes, choiceNotOpen}
 use Rattle.laws.specs.Events.{Event, played, exposed, choice, exposureCode, choiceCode, beginsCode}
 use Rattle.laws.specs.CodeRefusal.{codesFull, eventRefusal}
 
--- what stands in the list: an event, or a code that is none, since it is cut short or its bit or its kind is over 1
+-- what stands in the list: an event, or a code that is none, since it is cut short or its bit is over 1
 pub data Item : Type 0 where
   event : Event → Item
   broken : Item
 
 -- a code with the two numbers that follow it
 unfoldable pub codeItem : ℕ → ℕ → ℕ → Item
-codeItem x y z =
-    if eqb x exposureCode then (if ltb 1 z then broken else event (exposed y (eqb z 1)))
-    else (if ltb 1 y then broken else event (choice y z))
+codeItem x y z = if eqb x exposureCode then (if ltb 1 z then broken else event (exposed y (eqb z 1))) else event (choice y z)
 
 -- a number with fewer than two behind it: a card, or a code that is cut short
 unfoldable pub lastItem : ℕ → Item
@@ -67,6 +65,11 @@ unfoldable pub itemRefusal : ℕ → ℕ → List ℕ → List Event → Item �
 itemRefusal trump opening deal e (event v) rest =
     if isMisplaced (event v) rest then (if codesFull e then tooManyCodes else choiceNotOpen) else eventRefusal trump opening deal e v
 itemRefusal trump opening deal e broken rest = if codesFull e then tooManyCodes else choiceNotOpen
+
+-- the events after an item
+unfoldable pub afterItem : Item → List Event → List Event
+afterItem (event v) e = v ∷ e
+afterItem broken e = e
 
 -- the flat list of events in order of play
 unfoldable pub flatOf : List Event → List ℕ

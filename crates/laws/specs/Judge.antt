@@ -1,4 +1,4 @@
--- The judge: the order of checks, section by section as docs/RULES.md has them, on the fields read and the histories of calls and cards.
+-- The judge: the order of checks, section by section as docs/RULES.md has them, on the fields read and the histories of calls and events of the play.
 -- Assumes nothing.
 use Prim.Native.Nat.{ℕ, _≤_}
 use mathlib.Core.List.{List, [], reverse}
@@ -8,7 +8,9 @@ use Rattle.laws.specs.Refusals.{refusalNumber, shortBuffer}
 use Rattle.laws.specs.Law2.{dealer}
 use Rattle.laws.specs.Auction.{trumpAfter, openingAfter}
 use Rattle.laws.specs.CallRefusal.{callRefusal, callPlace}
-use Rattle.laws.specs.CardRefusal.{cardRefusal, cardPlace}
+use Rattle.laws.specs.Events.{Event, cardsOf}
+use Rattle.laws.specs.CodeRefusal.{mostCodes}
+use Rattle.laws.specs.Plays.{readPlays}
 use Rattle.laws.specs.Law68.{Claim, none, agreed}
 use Rattle.laws.specs.Checks.{checkBoard, checkTable, checkDeal, checkOver, checkCount, checkPlayedOut, checkClaimPoint, checkClaim}
 use Rattle.laws.specs.Record.{Parts}
@@ -43,12 +45,12 @@ readCalls d = do
   checkOver count h
   give h
 
--- the play count and the cards, latest first, after the calls h
-unfoldable pub readCards : ℕ → List ℕ → List ℕ → Reader (List ℕ)
+-- the play count, and the cards with the codes before them, latest first, after the calls h
+unfoldable pub readCards : ℕ → List ℕ → List ℕ → Reader (List Event)
 readCards d deal h = do
   count ← read 6
   checkCount count count h
-  readEach 6 cardPlace (cardRefusal (trumpAfter h) (openingAfter d h) deal) count []
+  readPlays (trumpAfter h) (openingAfter d h) deal count mostCodes []
 
 -- no claim
 unfoldable pub readNoClaim : List ℕ → List ℕ → Reader Claim
@@ -76,30 +78,33 @@ readRecord = do
   top ← readHeading
   deal ← readDeal
   h ← readCalls (dealer (top .board))
-  g ← readCards (dealer (top .board)) deal h
-  claim ← readClaim h g
+  e ← readCards (dealer (top .board)) deal h
+  claim ← readClaim h (cardsOf e)
   ending
-  give (record { board = top .board; table = top .table; deal = deal; calls = reverse h; cards = reverse g; claim = claim })
+  give (record { board = top .board; table = top .table; deal = deal; calls = reverse h; plays = reverse e; claim = claim })
 
 -- the lengths of the lent buffers
 pub record Rooms : Type 0 where
   pub answer : ℕ
   pub list : ℕ
+  pub failures : ℕ
 
 -- the least lengths that serve
 abbrev pub leastRooms : Rooms
-leastRooms = record { answer = 7; list = 36 }
+leastRooms = record { answer = 7; list = 48; failures = 52 }
 
 -- no lent buffer is too short
 pub record Enough (rooms : Rooms) : Type 0 where
   pub answer : leastRooms .answer ≤ rooms .answer
   pub list : leastRooms .list ≤ rooms .list
+  pub failures : leastRooms .failures ≤ rooms .failures
 
 -- the lent buffers come before the record
 unfoldable pub readLent : Rooms → Reader Parts
 readLent rooms = do
   refuse shortBuffer 0 (ltb (rooms .answer) (leastRooms .answer))
   refuse shortBuffer 1 (ltb (rooms .list) (leastRooms .list))
+  refuse shortBuffer 2 (ltb (rooms .failures) (leastRooms .failures))
   readRecord
 
 -- a refusal with its number and place, or the parts of an accepted record

@@ -11,19 +11,23 @@ use Rattle.laws.specs.Cards.{partnerOf, sideOf}
 use Rattle.laws.specs.Law2.{dealer, vulnerable}
 use Rattle.laws.specs.Auction.{Contract, contract, passedOut, trumpAfter, openingAfter}
 use Rattle.laws.specs.Law44.{winners, tricksWon, tricksLeft}
-use Rattle.laws.specs.Law61.{Revoke, revokes}
+use Rattle.laws.specs.Law61.{Revoke}
+use Rattle.laws.specs.Padded.{padded}
+use Rattle.laws.specs.Events.{Event, cardsOf}
+use Rattle.laws.specs.LeadRevoke.{Counted, allRevokes, countedRevokes}
+use Rattle.laws.specs.Failures.{Failure, failures, failureBytes}
 use Rattle.laws.specs.Law64.{transferredTricks, tricksAfter}
 use Rattle.laws.specs.Law68.{claimedTricks}
 use Rattle.laws.specs.Law77.{Stake, declarerScore, nsScore}
 use Rattle.laws.specs.Record.{Parts, Field, field, packed}
 
 module _ (p : Parts) where
-  -- the calls and the cards as histories, latest first
+  -- the calls and the events of the play as histories, latest first
   abbrev pub callsOf : List ℕ
   callsOf = reverse (p .calls)
 
-  abbrev pub cardsOf : List ℕ
-  cardsOf = reverse (p .cards)
+  abbrev pub playOf : List Event
+  playOf = reverse (p .plays)
 
   -- the contract; of a board that was passed out it is not asked
   unfoldable pub contractOf : Contract
@@ -38,16 +42,22 @@ module _ (p : Parts) where
   abbrev pub openingOf : ℕ
   openingOf = openingAfter (dealer (p .board)) callsOf
 
-  -- the winners of the complete tricks, and the revokes, in order of play
+  -- the winners of the complete tricks, the revokes as they are listed and as Law 64 counts them, and the plays against 50C or 50D1, in order of play
   unfoldable pub winnersOf : List ℕ
-  winnersOf = winners trumpOf openingOf cardsOf
+  winnersOf = winners trumpOf openingOf (cardsOf playOf)
 
   unfoldable pub revokesOf : List Revoke
-  revokesOf = revokes trumpOf openingOf (p .deal) cardsOf
+  revokesOf = allRevokes trumpOf openingOf (p .deal) playOf
+
+  unfoldable pub countedOf : List Counted
+  countedOf = countedRevokes trumpOf openingOf (p .deal) playOf
+
+  unfoldable pub failuresOf : List Failure
+  failuresOf = failures trumpOf openingOf (p .deal) playOf
 
   -- the tricks that a side gets by the claim
   unfoldable pub claimedOf : ℕ → ℕ
-  claimedOf side = claimedTricks (p .claim) (tricksLeft cardsOf) (eqb side (sideOf declarerOf))
+  claimedOf side = claimedTricks (p .claim) (tricksLeft (cardsOf playOf)) (eqb side (sideOf declarerOf))
 
   -- tricks won by declarer's side, claimed ones included
   unfoldable pub wonOf : ℕ
@@ -55,10 +65,10 @@ module _ (p : Parts) where
 
   -- Law 64: the tricks that change sides, and declarer's tricks after that
   unfoldable pub transferredOf : ℕ
-  transferredOf = transferredTricks (partnerOf declarerOf) winnersOf claimedOf revokesOf
+  transferredOf = transferredTricks (partnerOf declarerOf) winnersOf claimedOf countedOf
 
   unfoldable pub afterOf : ℕ
-  afterOf = tricksAfter declarerOf revokesOf wonOf transferredOf
+  afterOf = tricksAfter declarerOf countedOf wonOf transferredOf
 
   -- Law 77: what the contract is played for, and the score from North-South; passed out it is 0
   unfoldable pub stakeOf : Stake
@@ -100,10 +110,14 @@ module _ (p : Parts) where
   unfoldable pub answerBytes : List ℕ
   answerBytes = packed answerFields
 
--- a revoke as a byte: trick 4 bits, seat 2, suit led 2
+-- a revoke as a byte: trick 4 bits, seat 2, suit 2
 unfoldable pub revokeByte : Revoke → ℕ
 revokeByte r = r .trick * 16 + r .seat * 4 + r .suit
 
 -- the bytes of the revoke list
 unfoldable pub revokeBytes : Parts → List ℕ
 revokeBytes p = map revokeByte (revokesOf p)
+
+-- the 52 bytes of the plays against 50C or 50D1: two for each, and zeros behind them
+unfoldable pub failuresBytes : Parts → List ℕ
+failuresBytes p = padded 0 52 (failureBytes (failuresOf p))

@@ -9,17 +9,20 @@ use lib.ListN.{drop, getD}
 use Rattle.laws.specs.Choice.{if_then_else_, some}
 use Rattle.laws.specs.Cards.{noSeat, partnerOf, sideOf, sameSide}
 use Rattle.laws.specs.Law44.{tricksWon}
-use Rattle.laws.specs.Law61.{Revoke}
+use Rattle.laws.specs.LeadRevoke.{Counted}
 
 -- 64B2: the seat has revoked in the same suit before
-unfoldable pub repeated : List Revoke → Revoke → Bool
-repeated earlier r = some (λ (e : Revoke). eqb (e .seat) (r .seat) && eqb (e .suit) (r .suit)) earlier
+unfoldable pub repeated : List Counted → Counted → Bool
+repeated earlier r = some (λ (e : Counted). eqb (e .seat) (r .seat) && eqb (e .suit) (r .suit)) earlier
 
--- 64A and B: the tricks that a revoke entitles the other side to: none for dummy's (B3), on trick 12 (B6) or for a repeat (B2); two where the
--- revoking seat itself won the trick, else one
-unfoldable pub entitlement : ℕ → List ℕ → List Revoke → Revoke → ℕ
+-- 64B2, B3 and B6: nothing is due for dummy's revoke, on trick 12, for a repeat, or where the seat had a penalty card whose play would have been no revoke
+unfoldable pub isExempt : ℕ → List Counted → Counted → Bool
+isExempt dummy earlier r = eqb (r .seat) dummy || (eqb (r .trick) 12 || (repeated earlier r || r .excused))
+
+-- 64A and B: the tricks that a revoke entitles the other side to: none where it is exempt; two where the revoking seat itself won the trick, else one
+unfoldable pub entitlement : ℕ → List ℕ → List Counted → Counted → ℕ
 entitlement dummy ws earlier r =
-    if eqb (r .seat) dummy || (eqb (r .trick) 12 || repeated earlier r) then 0
+    if isExempt dummy earlier r then 0
     else if eqb (getD ws (r .trick - 1) noSeat) (r .seat) then 2
     else 1
 
@@ -33,7 +36,7 @@ pub record Due : Type 0 where
   pub available : ℕ
 
 -- the revokes of a list, each after those before it
-unfoldable pub dues : ℕ → List ℕ → (ℕ → ℕ) → List Revoke → List Revoke → List Due
+unfoldable pub dues : ℕ → List ℕ → (ℕ → ℕ) → List Counted → List Counted → List Due
 dues dummy ws claimed earlier [] = []
 dues dummy ws claimed earlier (r ∷ rs) =
     record { tricks = entitlement dummy ws earlier r; available = wonFrom ws claimed (sideOf (r .seat)) (r .trick) }
@@ -45,17 +48,17 @@ total [] = 0
 total (d ∷ ds) = min (total ds + d .tricks) (d .available)
 
 -- some revoke is by the side
-unfoldable pub sideRevoked : ℕ → List Revoke → Bool
-sideRevoked side rs = some (λ (r : Revoke). eqb (sideOf (r .seat)) side) rs
+unfoldable pub sideRevoked : ℕ → List Counted → Bool
+sideRevoked side rs = some (λ (r : Counted). eqb (sideOf (r .seat)) side) rs
 
 -- 64B7: both sides have revoked
-unfoldable pub bothRevoked : List Revoke → Bool
+unfoldable pub bothRevoked : List Counted → Bool
 bothRevoked rs = sideRevoked 0 rs && sideRevoked 1 rs
 
 -- the tricks that change sides before scoring
-unfoldable pub transferredTricks : ℕ → List ℕ → (ℕ → ℕ) → List Revoke → ℕ
+unfoldable pub transferredTricks : ℕ → List ℕ → (ℕ → ℕ) → List Counted → ℕ
 transferredTricks dummy ws claimed rs = if bothRevoked rs then 0 else total (dues dummy ws claimed [] rs)
 
 -- declarer's tricks after the transfer: the transferred tricks leave the side that revoked
-unfoldable pub tricksAfter : ℕ → List Revoke → ℕ → ℕ → ℕ
+unfoldable pub tricksAfter : ℕ → List Counted → ℕ → ℕ → ℕ
 tricksAfter declarer rs won transferred = if sideRevoked (sideOf declarer) rs then won - transferred else (won + transferred)

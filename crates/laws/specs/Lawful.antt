@@ -3,12 +3,15 @@
 use Prim.Native.Nat.{ℕ, _≤_, _<_, _%_}
 use mathlib.Core.Path.{_≡_}
 use mathlib.Core.Bool.{true, false}
-use mathlib.Core.List.{List, reverse}
+use mathlib.Core.List.{List, [], reverse}
 use lib.ListN.{length, getD, take}
 use Rattle.laws.specs.Cards.{cardsDealt}
 use Rattle.laws.specs.Law2.{dealer}
 use Rattle.laws.specs.Auction.{isOver, passedOut, allowed, trumpAfter, openingAfter}
-use Rattle.laws.specs.Law44.{allPlayed, playable}
+use Rattle.laws.specs.Law44.{allPlayed}
+use Rattle.laws.specs.Events.{cardsOf, cardsAmong, codesOf}
+use Rattle.laws.specs.CodeRefusal.{mostCodes}
+use Rattle.laws.specs.Plays.{EachStands, CardsFollow}
 use Rattle.laws.specs.Law68.{Claim, none, agreed, atClaimPoint, claimable}
 use Rattle.laws.specs.Record.{Parts}
 
@@ -25,7 +28,7 @@ pub record Layout (p : Parts) : Type 0 where
   pub holders : length (p .deal) ≡ 52
   pub holder : (k : ℕ) → k < 52 → getD (p .deal) k 0 ≤ 3
   pub calls : length (p .calls) ≤ 511
-  pub cards : length (p .cards) ≤ 52
+  pub cards : cardsAmong (p .plays) ≤ 52
 
 -- Law 1: thirteen cards for each seat
 abbrev pub Dealt : Parts → Type 0
@@ -36,13 +39,13 @@ pub record Called (p : Parts) : Type 0 where
   pub each : (k : ℕ) → k < length (p .calls) → allowed (dealer (p .board)) (firstOf k (p .calls)) (getD (p .calls) k 0) ≡ true
   pub over : isOver (reverse (p .calls)) ≡ true
 
--- Law 44: each card is held by the seat at turn after those before it; passed out, no card is played
+-- Laws 44 and 48 to 51: each card is held by the seat at turn after the plays before it, each exposed card can be exposed, and each choice is open; a code
+-- has a card after it, and there are at most so many; passed out, no card is played
 pub record Played (p : Parts) : Type 0 where
-  pub each : (k : ℕ) → k < length (p .cards)
-      → playable
-      (trumpAfter (reverse (p .calls))) (openingAfter (dealer (p .board)) (reverse (p .calls)))
-      (p .deal) (firstOf k (p .cards)) (getD (p .cards) k 0) ≡ true
-  pub none-if-passed-out : passedOut (reverse (p .calls)) ≡ true → length (p .cards) ≡ 0
+  pub each : EachStands (trumpAfter (reverse (p .calls))) (openingAfter (dealer (p .board)) (reverse (p .calls))) (p .deal) [] (p .plays)
+  pub follow : CardsFollow (p .plays)
+  pub codes : codesOf (p .plays) ≤ mostCodes
+  pub none-if-passed-out : passedOut (reverse (p .calls)) ≡ true → cardsAmong (p .plays) ≡ 0
 
 -- Law 68: without a claim a contract needs all 52 cards; a claim needs a contract, a point for it, and tricks that are left
 abbrev pub Claimed : List ℕ → List ℕ → Claim → Type 0
@@ -54,4 +57,4 @@ pub record Lawful (p : Parts) : Type 0 where
   pub deal : Dealt p
   pub calls : Called p
   pub cards : Played p
-  pub claim : Claimed (reverse (p .calls)) (reverse (p .cards)) (p .claim)
+  pub claim : Claimed (reverse (p .calls)) (cardsOf (reverse (p .plays))) (p .claim)

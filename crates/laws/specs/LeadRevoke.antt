@@ -62,8 +62,18 @@ module _ (trump opening : ℕ) where
 
 -- a revoke as Law 64 counts it: as it is listed, and whether 64B3 excuses it
 pub record Counted : Type 0 where
-  pub revoke : Revoke
+  pub trick : ℕ
+  pub seat : ℕ
+  pub suit : ℕ
   pub excused : Bool
+
+-- the same as it is listed
+abbrev pub listedAs : Counted → Revoke
+listedAs r = record { trick = r .trick; seat = r .seat; suit = r .suit }
+
+-- a revoke that is listed, and whether it is excused
+abbrev pub counted : Revoke → Bool → Counted
+counted r excused = record { trick = r .trick; seat = r .seat; suit = r .suit; excused = excused }
 
 module _ (trump opening : ℕ) (deal : List ℕ) where
   -- the revokes as they are listed, in order of play
@@ -72,7 +82,7 @@ module _ (trump opening : ℕ) (deal : List ℕ) where
 
   -- the revoke by the card, as Law 64 counts it
   unfoldable pub countedBy : List Event → ℕ → Counted
-  countedBy e c = record { revoke = revokeBy trump opening e c; excused = isExcused trump opening deal e }
+  countedBy e c = counted (revokeBy trump opening e c) (isExcused trump opening deal e)
 
   -- the revokes as Law 64 counts them, in order of play
   unfoldable pub countedRevokes : List Event → List Counted

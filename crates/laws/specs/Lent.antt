@@ -1,14 +1,14 @@
--- What the judge leaves in the two buffers that it is lent.
+-- What the judge leaves in the three buffers that it is lent.
 -- Assumes nothing.
 use mathlib.Core.List.{List, _++_}
 use Prim.Native.Nat.{ℕ}
 use lib.ListN.{length, drop}
 use Rattle.laws.specs.Judge.{Rooms, Outcome, Outcome.refused, Outcome.accepted}
-use Rattle.laws.specs.Judgement.{answerBytes, revokeBytes}
+use Rattle.laws.specs.Judgement.{answerBytes, revokeBytes, failuresBytes}
 
--- the lengths of two buffers
-abbrev pub roomsOf : List ℕ → List ℕ → Rooms
-roomsOf answer list = record { answer = length answer; list = length list }
+-- the lengths of three buffers
+abbrev pub roomsOf : List ℕ → List ℕ → List ℕ → Rooms
+roomsOf answer list failures = record { answer = length answer; list = length list; failures = length failures }
 
 infixr 5 _over_
 -- bytes over the front of a buffer; the buffer's bytes behind them stay
@@ -24,3 +24,8 @@ answerLeft (accepted p) old = answerBytes p over old
 unfoldable pub listLeft : Outcome → List ℕ → List ℕ
 listLeft (refused n place) old = old
 listLeft (accepted p) old = revokeBytes p over old
+
+-- the buffer of the plays against 50C or 50D1: as it was where the judge refuses, else their 52 bytes over its front
+unfoldable pub failuresLeft : Outcome → List ℕ → List ℕ
+failuresLeft (refused n place) old = old
+failuresLeft (accepted p) old = failuresBytes p over old

@@ -1,34 +1,21 @@
--- The plays of a record: the fields that each event of the play has, and how they are read, each event checked on those before it. Before each card may stand
--- codes: an exposed card, and declarer's choice before a lead.
+-- The plays of a record: how they are read, each event checked on those before it, and which plays may stand. Before each card may stand codes: an exposed
+-- card, and declarer's choice before a lead.
 -- Histories have the latest event first; the plays of a record stand in their order.
 -- Assumes nothing.
 use Prim.Native.Nat.{ℕ, zero, suc, _≤_}
 use mathlib.Core.Path.{_≡_}
 use mathlib.Core.Bool.{Bool, true, not}
-use mathlib.Core.List.{List, [], _∷_, _++_}
+use mathlib.Core.List.{List, [], _∷_}
 use lib.Dec.{eqb}
-use lib.ListN.{length}
 use Rattle.laws.specs.Choice.{if_then_else_}
 use Rattle.laws.specs.Refusals.{accepted, tooManyCodes}
 use Rattle.laws.specs.Law44.{cardsPlayed, playable}
 use Rattle.laws.specs.CardRefusal.{cardRefusal}
-use Rattle.laws.specs.Record.{Field, field}
 use Rattle.laws.specs.Reading.{Reader, _>>=_, _>>_, give, read, refuse}
-use Rattle.laws.specs.Events.{Event, played, exposed, choice, exposureCode, choiceCode, beginsCode, cardsOf}
+use Rattle.laws.specs.Events.{Event, played, exposed, choice, exposureCode, beginsCode, cardsOf, cardsAmong}
 use Rattle.laws.specs.Law50.{isExposable}
 use Rattle.laws.specs.Law51.{isOpen}
 use Rattle.laws.specs.CodeRefusal.{exposureRefusal, choiceRefusal}
-
--- the fields of an event: a card; a code, the exposed card, and 1 for deliberately; a code, the kind of the choice, and its suit
-unfoldable pub eventFields : Event → List Field
-eventFields (played c) = field 6 c ∷ []
-eventFields (exposed c deliberate) = field 6 exposureCode ∷ field 6 c ∷ field 1 (if deliberate then 1 else 0) ∷ []
-eventFields (choice kind suit) = field 6 choiceCode ∷ field 2 kind ∷ field 2 suit ∷ []
-
--- the fields of plays in their order
-unfoldable pub playFields : List Event → List Field
-playFields [] = []
-playFields (v ∷ plays) = eventFields v ++ playFields plays
 
 -- the place of whatever stands before the next card: how many cards were played before it
 abbrev pub playPlace : List Event → ℕ
@@ -84,10 +71,6 @@ module _ (trump opening : ℕ) (deal : List ℕ) where
   unfoldable pub EachStands : List Event → List Event → Type 0
   EachStands e [] = Unit {0}
   EachStands e (v ∷ plays) = MayStand e v × EachStands (v ∷ e) plays
-
--- how many cards there are among the plays
-unfoldable pub cardsAmong : List Event → ℕ
-cardsAmong plays = length (cardsOf plays)
 
 -- codes stand before cards: each has a card after it
 unfoldable pub CardsFollow : List Event → Type 0

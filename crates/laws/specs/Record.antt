@@ -4,15 +4,17 @@
 use Prim.Native.Nat.{ℕ, zero, suc, _+_, _-_, _*_, _/_, _%_, _^_}
 use mathlib.Core.List.{List, [], _∷_, _++_}
 use lib.ListN.{length}
+use Rattle.laws.specs.Choice.{if_then_else_}
+use Rattle.laws.specs.Events.{Event, played, exposed, choice, exposureCode, choiceCode, cardsAmong}
 use Rattle.laws.specs.Law68.{Claim, none, agreed}
 
--- what a record says: the holder of card 0, 1, .. 51, the calls and the cards in their order, and the claim
+-- what a record says: the holder of card 0, 1, .. 51, the calls in their order, the cards and the codes before them in their order, and the claim
 pub record Parts : Type 0 where
   pub board : ℕ
   pub table : ℕ
   pub deal : List ℕ
   pub calls : List ℕ
-  pub cards : List ℕ
+  pub plays : List Event
   pub claim : Claim
 
 -- a field: its width in bits, and its value
@@ -28,12 +30,23 @@ unfoldable pub row : ℕ → List ℕ → List Field
 row w [] = []
 row w (v ∷ vs) = field w v ∷ row w vs
 
+-- the fields of an event: a card; a code, the exposed card, and 1 for deliberately; a code, the kind of the choice, and its suit
+unfoldable pub eventFields : Event → List Field
+eventFields (played c) = field 6 c ∷ []
+eventFields (exposed c deliberate) = field 6 exposureCode ∷ field 6 c ∷ field 1 (if deliberate then 1 else 0) ∷ []
+eventFields (choice kind suit) = field 6 choiceCode ∷ field 2 kind ∷ field 2 suit ∷ []
+
+-- the fields of plays in their order
+unfoldable pub playFields : List Event → List Field
+playFields [] = []
+playFields (v ∷ plays) = eventFields v ++ playFields plays
+
 -- the claim's mark, and the claim where it is marked
 unfoldable pub claimFields : Claim → List Field
 claimFields none = field 1 0 ∷ []
 claimFields (agreed tricks) = field 1 1 ∷ field 4 tricks ∷ []
 
--- the fields of a record, up to the padding
+-- the fields of a record, up to the padding; the play count counts cards alone
 unfoldable pub layout : Parts → List Field
 layout p =
     field 7 (p .board)
@@ -41,8 +54,8 @@ layout p =
     ∷ row 2 (p .deal)
     ++ (field 9 (length (p .calls))
     ∷ row 6 (p .calls)
-    ++ (field 6 (length (p .cards))
-    ∷ row 6 (p .cards)
+    ++ (field 6 (cardsAmong (p .plays))
+    ∷ playFields (p .plays)
     ++ claimFields (p .claim)))
 
 -- how many bits the fields take

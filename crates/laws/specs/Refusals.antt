@@ -27,7 +27,7 @@ refusalNumber n place = n * 1024 + place
 abbrev pub accepted : ℕ
 accepted = 0
 
--- a lent buffer is too short: the answer's, place 0, or the list's, place 1
+-- a lent buffer is too short: the answer's, place 0, the list's, place 1, or that of the plays against 50C or 50D1, place 2
 abbrev pub shortBuffer : ℕ
 shortBuffer = 1
 
@@ -151,10 +151,10 @@ tooManyBoards = 30
 abbrev pub tooManyCalls : ℕ
 tooManyCalls = 33
 
--- the numbers that a record is refused with: 1 to 16, 23 and 24
+-- the numbers that a record is refused with: 1 to 16 and 23 to 27
 abbrev pub refusesRecord : ℕ → Bool
-refusesRecord n = (leb 1 n && leb n 16) || (leb 23 n && leb n 24)
+refusesRecord n = (leb 1 n && leb n 16) || (leb 23 n && leb n 27)
 
--- the numbers that contents are refused with when a record is written from them: 3 to 15, 22 to 24, and 33
+-- the numbers that contents are refused with when a record is written from them: 3 to 15, 22 to 27, and 33
 abbrev pub refusesContents : ℕ → Bool
-refusesContents n = (leb 3 n && leb n 15) || ((leb 22 n && leb n 24) || eqb n tooManyCalls)
+refusesContents n = (leb 3 n && leb n 15) || ((leb 22 n && leb n 27) || eqb n tooManyCalls)

@@ -6,9 +6,9 @@ use lib.Dec.{ltb}
 use lib.ListN.{length}
 use Rattle.laws.specs.Choice.{if_then_else_}
 use Rattle.laws.specs.Refusals.{refusalNumber, shortRecordBuffer}
-use Rattle.laws.specs.Record.{Parts, encode}
+use Rattle.laws.specs.Record.{encode}
 use Rattle.laws.specs.Judge.{Outcome, Outcome.refused as declined, Outcome.accepted}
-use Rattle.laws.specs.Contents.{contentsOf}
+use Rattle.laws.specs.Contents.{Given, contentsOf}
 use Rattle.laws.specs.Lent.{_over_}
 
 -- a refusal with its number and place, or the bytes of the record
@@ -22,8 +22,8 @@ writeBy (declined n place) room = refused n place
 writeBy (accepted p) room = if ltb room (length (encode p)) then refused shortRecordBuffer 0 else written (encode p)
 
 -- what the writer says of the contents, given a buffer of so many bytes
-unfoldable pub writeOf : Parts → ℕ → Written
-writeOf p room = writeBy (contentsOf p) room
+unfoldable pub writeOf : Given → ℕ → Written
+writeOf c room = writeBy (contentsOf c) room
 
 -- the number returned: how many bytes were written, or refusal × 1024 + place
 abbrev pub numberOf : Written → ℕ

@@ -26,9 +26,8 @@ use Rattle.play.specs.Told.{revokeByte, cardBefore, bytesIn}
 use Rattle.play.specs.History.{revokedOf, byteOf}
 use Rattle.play.proofs.Masks.{half, lowest}
 use Rattle.play.proofs.Filling.{none-in}
-use Rattle.play.proofs.Entries.{allEntries, all-entries, byte-is, lead-byte-is}
+use Rattle.play.proofs.Entries.{allEntries, all-entries, byte-is, lead-byte-is, drop-next}
 use Rattle.play.proofs.Thirteen.{at-most-52}
-use Rattle.play.proofs.Listed.{drop-next}
 use Rattle.penalty.specs.Found.{namedBy}
 use Rattle.penalty.specs.Listed.{toldOf, listedByte, flagAt, bitsIn, listedIn, freeIn, listedOf, revokesIn}
 use Rattle.penalty.specs.declared.table.Table.{Table}

@@ -19,7 +19,7 @@ use Rattle.laws.specs.CodeRefusal.{eventRefusal}
 use Rattle.laws.specs.Kept.{NoneRefused}
 use Rattle.laws.proofs.Tests.{by-test, and-left}
 use Rattle.laws.proofs.Counts.{any-default}
-use Rattle.laws.proofs.CardsAlone.{without-codes, none-required, none-forbidden, none-faced, none-major, no-codes}
+use Rattle.laws.proofs.CardsAlone.{without-codes, none-required, none-forbidden, none-faced, none-major, no-codes, refused-alone}
 use Rattle.laws.proofs.CodeRefusals.{exposable, chosen, room}
 use Rattle.laws.proofs.KeptCards.{defenders-card, exposed-defender, exposed-unplayed, exposed-unfaced}
 use Rattle.laws.proofs.KeptChoices.{opened}
@@ -38,13 +38,19 @@ use Rattle.play.proofs.Worth.{winner-low}
 use Rattle.play.proofs.Stands as PlayStands
 use Rattle.penalty.specs.declared.Penalty.{Penalty}
 use Rattle.penalty.specs.declared.table.Table.{Table}
-use Rattle.penalty.specs.Table.{tableOf, turnIn, entryIn, revokesIn, foundOf, foundAfter, keepsLead, afterPlay, ownerWord, partnerWord}
-use Rattle.penalty.specs.Table.{afterExposed, afterChoice}
+use Rattle.penalty.specs.Position.{startOf}
+use Rattle.penalty.specs.Table.{tableOf, tableWith, turnIn, entryIn, revokesIn, foundOf, foundAfter, keepsLead, afterPlay}
+use Rattle.penalty.specs.Table.{withPlay, ownerWord, partnerWord, afterExposed, afterChoice}
 use Rattle.penalty.specs.History.{positionOf, entryOf}
 use Rattle.penalty.proofs.AtMost.{cards-allowed, card-held, at-most-24}
 use Rattle.penalty.proofs.Stands.{Stands, AtTurn, starts, obeys-is, excused-is, fails-is}
 use Rattle.penalty.proofs.Stepping.{dealtWord, card-stands, exposed-stands, choice-stands}
 use Rattle.penalty.proofs.FoundStands.{FoundStands, found-starts, found-exposed, found-choice, found-by, found-alone}
+
+-- the table with the play after a card is the table after it
+pub one-table : (t : Table) (c : ℕ) {after : Table} {q : Play} → after ≡ withPlay t q c → q ≡ step (t .play) c → after ≡ afterPlay t c
+unfolding afterPlay
+one-table t c e s = e ∙ ap (λ (x : Play). withPlay t x c) s
 
 module _ (deal : List ℕ) (trump opening : ℕ) where
   -- the play's position is that of the cards
@@ -60,6 +66,18 @@ module _ (deal : List ℕ) (trump opening : ℕ) where
       (λ (q : eqb (before .penalty .codes) 0 ≡ false). rw (q, lt-leb 52 c (f .code)) (ap (λ (p : Play). step p c) (play-is e (w .1))))
   play-is (exposed c deliberate ∷ e) w = play-is e (w .1)
   play-is (choice kind suit ∷ e) w = play-is e (w .1)
+
+  -- cards alone leave the penalty cards as they were
+  pub alone-is : (g : List ℕ) → positionOf deal trump opening (asEvents g) ≡ tableWith (PlayHistory.positionOf deal trump opening g) opening
+  unfolding positionOf asEvents PlayHistory.positionOf afterPlay tableOf startOf
+  alone-is [] = refl
+  alone-is (c ∷ g) = rw (alone-is g)
+
+  -- cards that are allowed are events of which none is refused
+  pub none-alone : (g : List ℕ) → AllPlayed deal trump opening g → NoneRefused trump opening deal (asEvents g)
+  unfolding AllPlayed NoneRefused asEvents
+  none-alone [] w = tt
+  none-alone (c ∷ g) w = (refused-alone trump opening deal g c ∙ w .0, none-alone g (w .1))
 
   pub side-is : (e : List Event) → positionOf deal trump opening e .side ≡ opening % 2
   unfolding positionOf tableOf afterPlay afterExposed afterChoice
@@ -186,7 +204,7 @@ module _ (deal : List ℕ) (trump opening : ℕ) where
     module _ (low : opening < 4) where
       -- the leader keeps the lead, by the position and by the Law
       keeps-is : {t : Table} (e : List Event) (c : ℕ) → TableStands all t e → step (t .play) c .leader ≡ leader trump opening (c ∷ cardsOf e) % 4
-          → keepsLead t c ≡ eqb (leader trump opening (c ∷ cardsOf e)) (leader trump opening (cardsOf e))
+          → keepsLead t (step (t .play) c) ≡ eqb (leader trump opening (c ∷ cardsOf e)) (leader trump opening (cardsOf e))
       unfolding keepsLead
       keeps-is e c s next =
           rw (next, s .play .leads, mod-eq-of-lt (leader-low low (c ∷ cardsOf e)), mod-eq-of-lt (leader-low low (cardsOf e)))
@@ -212,7 +230,7 @@ module _ (deal : List ℕ) (trump opening : ℕ) where
           let code = card-held deal trump opening c e w .0 in
           let n = rw (q, lt-leb 52 c code) at (next .leads) in
           rw (q, lt-leb 52 c code) (
-            card-stands deal trump opening c (keepsLead t c) (s .penalty) code (keeps-is e c s n),
+            card-stands deal trump opening c (keepsLead t (step (t .play) c)) (s .penalty) code (keeps-is e c s n),
             found-is s (w .1) c w,
           ))
 

@@ -1,14 +1,19 @@
 -- The position after a history of events, latest first, and what its words of entries are by the Laws.
 -- `deal` has the holder of each card, `trump` is the contract's strain, `opening` leads to the first trick.
 -- Assumes nothing.
-use Prim.Native.Nat.{ℕ, zero, suc, _+_, _*_, _/_, _%_, _^_}
+use Prim.Native.Nat.{ℕ, zero, suc, _+_, _*_, _/_, _%_, _^_, _<_}
+use mathlib.Core.Path.{_≡_}
 use mathlib.Core.Bool.{_&&_}
 use mathlib.Core.List.{List, [], _∷_}
+use lib.ListN.{length}
 use Rattle.laws.specs.Choice.{if_then_else_}
+use Rattle.laws.specs.Cards.{cardsDealt}
 use Rattle.laws.specs.Events.{Event, played, exposed, choice}
 use Rattle.laws.specs.Law51.{required}
 use Rattle.laws.specs.LeadRevoke.{leads, disobeys, isExcused}
 use Rattle.laws.specs.Failures.{Failure, isFailure, failureBy}
+use Rattle.laws.specs.Kept.{NoneRefused}
+use Rattle.laws.specs.Plays.{playPlace}
 use Rattle.deal.specs.Hands.{wordsOf}
 use Rattle.play.specs.Words.{bitOf}
 use Rattle.penalty.specs.declared.table.Table.{Table}
@@ -21,6 +26,19 @@ positionOf deal trump opening [] = tableOf deal (wordsOf deal) trump opening
 positionOf deal trump opening (played c ∷ e) = afterPlay (positionOf deal trump opening e) c
 positionOf deal trump opening (exposed c deliberate ∷ e) = afterExposed (positionOf deal trump opening e) c deliberate
 positionOf deal trump opening (choice kind suit ∷ e) = afterChoice (positionOf deal trump opening e) kind suit
+
+-- thirteen cards each
+pub record ThirteenEach (deal : List ℕ) : Type 0 where
+  pub places : length deal ≡ 52
+  pub thirteen : (seat : ℕ) → seat < 4 → cardsDealt seat deal ≡ 13
+
+-- the position is that of the events e, none of which is refused, before the card at a place
+pub record OfEvents (deal : List ℕ) (trump opening : ℕ) (e : List Event) (t : Table) (place : ℕ) : Type 0 where
+  pub deal-of : ThirteenEach deal
+  pub seat : opening < 4
+  pub position : t ≡ positionOf deal trump opening e
+  pub none-refused : NoneRefused trump opening deal e
+  pub many : place ≡ playPlace e
 
 module _ (deal : List ℕ) (trump opening : ℕ) where
   -- a bit for each card, the last lowest: 1 for a lead that is a revoke

@@ -9,6 +9,7 @@ use Rattle.laws.specs.Choice.{if_then_else_}
 use Rattle.laws.specs.Cards.{partnerOf}
 use Rattle.laws.specs.Refusals.{accepted, notExposable, choiceNotOpen}
 use Rattle.laws.specs.CodeRefusal.{mostCodes}
+use Rattle.play.specs.declared.Play.{Play}
 use Rattle.play.specs.Position as Position
 use Rattle.play.specs.Position.{turnOf, handOf, leads, step}
 use Rattle.penalty.specs.declared.Turn.{Turn}
@@ -17,10 +18,13 @@ use Rattle.penalty.specs.declared.table.Table.{Table}
 use Rattle.penalty.specs.Position.{startOf, obeysIn, excusedIn, failsIn, exposableIn, openIn, afterCard, withExposed, withChoice}
 use Rattle.penalty.specs.Found.{noneFound, withRevoke, withLead, withFailure}
 
+-- after cards alone
+abbrev pub tableWith : Play → ℕ → Table
+tableWith p opening = record { play = p; side = opening % 2; penalty = startOf; found = noneFound }
+
 -- before the first event
 unfoldable pub tableOf : List ℕ → List ℕ → ℕ → ℕ → Table
-tableOf holders dealt trump opening =
-    record { play = Position.startOf holders dealt trump opening; side = opening % 2; penalty = startOf; found = noneFound }
+tableOf holders dealt trump opening = tableWith (Position.startOf holders dealt trump opening) opening
 
 -- what the seat at turn has before it plays
 unfoldable pub turnIn : Table → Turn
@@ -44,16 +48,20 @@ foundOf t card =
 unfoldable pub foundAfter : Table → ℕ → Found
 foundAfter t card = if failsIn (t .penalty) (turnIn t) card then withFailure (foundOf t card) (entryIn t card) else foundOf t card
 
--- the leader of the next position is that of this one
-unfoldable pub keepsLead : Table → ℕ → Bool
-keepsLead t card = eqb (step (t .play) card .leader) (t .play .leader)
+-- the leader of the next position, whose play is `after`, is that of this one
+unfoldable pub keepsLead : Table → Play → Bool
+keepsLead t after = eqb (after .leader) (t .play .leader)
 
--- with one card more; where no code was given, the penalty cards need no step
-unfoldable pub afterPlay : Table → ℕ → Table
-afterPlay t card =
-    if eqb (t .penalty .codes) 0 then record { play = step (t .play) card; side = t .side; penalty = t .penalty; found = t .found }
+-- with one card more, after which the play is `after`; where no code was given, the penalty cards need no step
+abbrev pub withPlay : Table → Play → ℕ → Table
+withPlay t after card =
+    if eqb (t .penalty .codes) 0 then record { play = after; side = t .side; penalty = t .penalty; found = t .found }
     else if leb 52 card then t
-    else record { play = step (t .play) card; side = t .side; penalty = afterCard (t .penalty) card (keepsLead t card); found = foundAfter t card }
+    else record { play = after; side = t .side; penalty = afterCard (t .penalty) card (keepsLead t after); found = foundAfter t card }
+
+-- with one card more
+unfoldable pub afterPlay : Table → ℕ → Table
+afterPlay t card = withPlay t (step (t .play) card) card
 
 -- ---- codes
 -- there is no room for a code

@@ -14,6 +14,7 @@ use crate::words::meets;
 use crate::words::suit_word;
 use crate::words::without;
 ghost use mathlib.Core.Path.{_≡_};
+ghost use Rattle.laws.specs.Events.{beginsCode};
 ghost use Rattle.penalty.specs.Position.{
   startOf,
   askedOfLead,
@@ -33,6 +34,16 @@ ghost use Rattle.penalty.specs.Position.{
   withKind,
   withChoice,
 };
+
+// Whether a number in a card's place begins a code: 52 an exposure, 53 a choice.
+pub fn begins_code(number: u8) -> bool
+    ensures { λ r. ⌜ r ≡ beginsCode number ⌝ }
+{
+    if number == 52 {
+        return true;
+    }
+    number == 53
+}
 
 // The penalty cards, and what binds the next lead.
 pub struct Penalty {

@@ -9,9 +9,11 @@ use play::Play;
 ghost use mathlib.Core.Path.{_≡_};
 ghost use Rattle.penalty.specs.Table.{
   tableOf,
+  tableWith,
   turnIn,
   entryIn,
   foundAfter,
+  withPlay,
   afterPlay,
   fullIn,
   ownerWord,
@@ -37,6 +39,13 @@ impl Table {
         ensures { λ r. ⌜ r ≡ tableOf holders dealt trump opening ⌝ }
     {
         let play = Play::new(holders, dealt, trump, opening);
+        Table::after_cards(play, opening)
+    }
+
+    // The position of a play of cards alone.
+    pub fn after_cards(play: Play, opening: u8) -> Self
+        ensures { λ r. ⌜ r ≡ tableWith play opening ⌝ }
+    {
         let penalty = Penalty::new();
         let found = Found::new();
         Table {
@@ -84,12 +93,11 @@ impl Table {
         found
     }
 
-    // The position with one card more, played by the seat at turn. Where no code was given, the penalty cards need no step.
-    pub fn play(mut self, card: u8) -> Self
-        ensures { λ r. ⌜ r ≡ afterPlay self card ⌝ }
+    // The position with one card more, after which the play is `after`. Where no code was given, the penalty cards need no step.
+    pub fn with_play(mut self, after: Play, card: u8) -> Self
+        ensures { λ r. ⌜ r ≡ withPlay self after card ⌝ }
     {
         let before = self.play;
-        let after = before.play(card);
         let pen = self.penalty;
         if pen.codes == 0 {
             self.play = after;
@@ -104,6 +112,14 @@ impl Table {
         self.penalty = next;
         self.found = found;
         self
+    }
+
+    // The position with one card more, played by the seat at turn.
+    pub fn play(self, card: u8) -> Self
+        ensures { λ r. ⌜ r ≡ afterPlay self card ⌝ }
+    {
+        let before = self.play;
+        self.with_play(before.play(card), card)
     }
 }
 

@@ -204,3 +204,10 @@ all-entries deal trump opening all {p} {g} s most =
     (λ (q : eqb (cardsInTrick g) 0 ≡ true). rw q)
     (λ (q : eqb (cardsInTrick g) 0 ≡ false). rw (q, s .led (eqb-false (cardsInTrick g) 0 q), mod-eq-of-lt (few-entries deal trump opening all g most))
     (omega arith)))
+
+-- what is left of a history without its k latest cards
+pub drop-next : (k : ℕ) (full g : List ℕ) (c : ℕ) → c ∷ g ≡ drop k full → g ≡ drop (suc k) full
+drop-next zero [] g c e = absurd (let z : _≡_ {A = ℕ} 0 1 = cc in omega arith)
+drop-next zero (d ∷ full) g c e = cc
+drop-next (suc k) [] g c e = absurd (let z : _≡_ {A = ℕ} 0 1 = cc in omega arith)
+drop-next (suc k) (d ∷ full) g c e = drop-next k full g c e

@@ -6,7 +6,7 @@ use mathlib.Core.Bool.{true, false}
 use mathlib.Core.List.{List, [], _∷_, _++_, append-nil, append-assoc}
 use native.Mathlib.Nat.{pow-suc, div-one}
 use native.Mathlib.Omega.{arith}
-use borrow.Author.Tests.{eqb-true, eqb-false, eq-eqb, ne-eqb, lt-ltb, le-ltb}
+use borrow.Author.Tests.{eqb-true, eqb-false, eq-eqb, ne-eqb}
 use lib.Count.{ones, onesIn, ones-step, trailingZeros}
 use lib.Dec.{eqb}
 use lib.ListN.{length, set, drop, replicate, length-append, length-replicate, length-set}
@@ -18,10 +18,8 @@ use Rattle.laws.specs.Cards.{sideOf}
 use Rattle.laws.specs.Law44.{tricksWon}
 use Rattle.laws.proofs.Tests.{by-test}
 use Rattle.laws.proofs.Counts.{many-append}
-use Rattle.play.specs.declared.Play.{Play}
 use Rattle.play.specs.declared.Tricks.{Tricks}
-use Rattle.play.specs.declared.Revokes.{Revokes}
-use Rattle.play.specs.Told.{winnersIn, tricksOf, entriesIn, byteAfter, bytesIn, revokedIn, revokesIn}
+use Rattle.play.specs.Told.{winnersIn, tricksOf, bytesIn}
 
 -- ---- arrays filled from the end
 pub padded-rest : {A : Type 0} (z : A) (n : ℕ) (l : List A) → length l ≤ n → l ++ drop (length l) (replicate n z) ≡ padded z n l
@@ -250,18 +248,3 @@ list-ends {byte} {size} {bits} {list} {rest} {n} {later} r e =
     let none : bytesIn byte (64 - later) rest later ≡ [] = rw e (none-in byte (64 - later) later) in
     let zero : n ≡ 0 = r .many ∙ rw none in
     rw (zero, none) at (r .same)
-
--- ---- the ways out
-pub too-many : (p : Play) → p .revoked < 2 ^ 64 → 36 < ones (p .revoked) → _≡_ {A = Revokes} (record { count = 0; list = replicate 36 0 }) (revokesIn p)
-unfolding revokesIn revokedIn padded
-too-many p b h =
-    let many = bytes-many (byteAfter (entriesIn p) (p .played)) 64 (p .revoked) 0 b in
-    rw (many, lt-ltb 36 (ones (p .revoked)) h)
-
-pub as-listed : (p : Play) {entries n : ℕ} {list : List ℕ} → p .revoked < 2 ^ 64 → n ≤ 36 → n ≡ ones (p .revoked) → entries ≡ entriesIn p
-    → list ≡ padded 0 36 (bytesIn (byteAfter entries (p .played)) 64 (p .revoked) 0)
-    → _≡_ {A = Revokes} (record { count = n; list = list }) (revokesIn p)
-unfolding revokesIn revokedIn
-as-listed p {entries} {n} {list} b h e q l =
-    let many = bytes-many (byteAfter (entriesIn p) (p .played)) 64 (p .revoked) 0 b in
-    rw (many, ← e, le-ltb 36 n h, l, q)

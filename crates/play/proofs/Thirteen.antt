@@ -1,19 +1,18 @@
 -- Each seat holds what it was dealt less the cards it has played, so no more than 52 cards are played, and a seat that has played to twelve tricks
--- cannot revoke. Assumes nothing.
+-- does not hold two. Assumes nothing.
 use Prim.Native.Nat.{ℕ, suc, _≤_, _<_, _+_, _-_, _%_}
 use mathlib.Core.Path.{_≡_, _∙_}
-use mathlib.Core.Bool.{Bool, true, false, not, _&&_}
+use mathlib.Core.Bool.{Bool, true, false}
 use mathlib.Core.List.{List, [], _∷_}
 use native.Mathlib.Omega.{arith}
-use borrow.Author.Tests.{eqb-true, eqb-false, eq-eqb, ne-eqb, ltb-true, ltb-false, lt-ltb, le-ltb, not-true}
+use borrow.Author.Tests.{eqb-true, eqb-false, ne-eqb, ltb-true, ltb-false, lt-ltb, le-ltb}
 use lib.Dec.{eqb, ltb}
 use lib.ListN.{length}
-use Rattle.laws.specs.Choice.{if_then_else_, howMany, someBelow}
-use Rattle.laws.specs.Cards.{noSeat, clockwise, dealtTo, cardsDealt}
-use Rattle.laws.specs.Law44.{cardsPlayed, tricksComplete, cardsInTrick, leader, trickUnderWay, suitLed, isOf, toPlay, holds}
-use Rattle.laws.specs.Law61.{holdsSuit, isRevoke}
-use Rattle.laws.proofs.Tests.{by-test, not-both, and-left, and-right}
-use Rattle.laws.proofs.Counts.{many-le, below-some}
+use Rattle.laws.specs.Choice.{if_then_else_, howMany}
+use Rattle.laws.specs.Cards.{noSeat, clockwise, cardsDealt}
+use Rattle.laws.specs.Law44.{cardsPlayed, tricksComplete, cardsInTrick, leader, toPlay, holds}
+use Rattle.laws.proofs.Tests.{by-test}
+use Rattle.laws.proofs.Counts.{many-le}
 use Rattle.laws.proofs.Stores.{many-set, two-places}
 use Rattle.play.specs.History.{holdersOf, AllPlayed, playsOf}
 use Rattle.play.proofs.Cards.{fair, fewer-than-four, tricks-same, tricks-more, leader-same, in-trick-more, in-trick-last}
@@ -118,18 +117,3 @@ module _ (deal : List ℕ) (trump opening : ℕ) (all : length deal ≡ 52) wher
         let two = two-places mine noSeat 4 (ne-eqb 4 seat (λ e. omega arith)) (holders g) c d (omega arith) (omega arith) differ
         (holds-law deal trump opening all g w seat c low ∙ at-c) (holds-law deal trump opening all g w seat d low ∙ at-d) in
         omega (arith, two, thirteen-less seat g low w, turn-plays g, dealt seat low)
-
-    pub none-on-thirteen : (c : ℕ) (g : List ℕ) → AllPlayed deal trump opening (c ∷ g) → isRevoke trump opening deal g c ≡ true → tricksComplete g < 12
-    unfolding AllPlayed isRevoke holdsSuit holds
-    none-on-thirteen c g w r =
-        let seat = toPlay trump opening g in
-        let suit = suitLed (trickUnderWay g) in
-        let has : ℕ → Bool = λ (card : ℕ). isOf suit card && holds deal g seat card in
-        let rest = and-right (not (eqb (cardsInTrick g) 0)) (not (isOf suit c) && someBelow 52 has) r in
-        let other = not-true (isOf suit c) (and-left (not (isOf suit c)) (someBelow 52 has) rest) in
-        let d = below-some has 52 (and-right (not (isOf suit c)) (someBelow 52 has) rest) in
-        let f = fair trump opening deal g c (w .0) in
-        let differ : d .0 ≡ c → ⊥ =
-        λ e. not-both (isOf suit c) (rw e at (and-left (isOf suit (d .0)) (holds deal g seat (d .0)) (d .2))) other in
-        two-held c (d .0) g (w .1) (f .code) (d .1) differ (rw (eq-eqb (dealtTo deal c) seat (f .held), f .unplayed))
-        (and-right (isOf suit (d .0)) (holds deal g seat (d .0)) (d .2))

@@ -3,18 +3,17 @@
 -- Assumes nothing.
 use Prim.Native.Nat.{ℕ, _+_, _*_, _%_}
 use mathlib.Core.Path.{_≡_}
-use mathlib.Core.List.{List, [], _∷_, map}
+use mathlib.Core.List.{List, [], _∷_}
 use lib.Dec.{eqb}
 use lib.ListN.{set}
 use Rattle.laws.specs.Choice.{if_then_else_}
 use Rattle.laws.specs.Refusals.{accepted}
 use Rattle.laws.specs.Law44.{cardsInTrick, trickUnderWay, suitLed, winningCard, leader, winner, toPlay, winners}
-use Rattle.laws.specs.Law61.{Revoke, isRevoke, revokes}
+use Rattle.laws.specs.Law61.{Revoke, isRevoke}
 use Rattle.laws.specs.CardRefusal.{cardRefusal}
 use Rattle.deal.specs.Hands.{wordsOf}
 use Rattle.play.specs.declared.Play.{Play}
 use Rattle.play.specs.declared.Tricks.{Tricks}
-use Rattle.play.specs.declared.Revokes.{Revokes}
 use Rattle.play.specs.Words.{bitOf, worth}
 use Rattle.play.specs.Position.{startOf, step}
 use Rattle.play.specs.Told as Told
@@ -64,7 +63,3 @@ playsOf trump opening seat (c ∷ g) = (if eqb (toPlay trump opening g) seat the
 -- the complete tricks as the Laws have them: how many, those of each side, and the winners in order
 unfoldable pub tricksOf : ℕ → ℕ → List ℕ → Tricks
 tricksOf trump opening g = Told.tricksOf (winners trump opening g)
-
--- the revokes as the Laws have them, a byte each in order of play
-unfoldable pub revokesOf : List ℕ → ℕ → ℕ → List ℕ → Revokes
-revokesOf deal trump opening g = Told.revokesOf (map byteOf (revokes trump opening deal g))

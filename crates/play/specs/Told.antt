@@ -1,4 +1,4 @@
--- What a position tells at the end: the complete tricks, and the revokes as bytes.
+-- What a position tells at the end: the complete tricks, and the bytes of cards whose bit is set.
 -- Assumes nothing.
 use Prim.Native.Nat.{ℕ, zero, suc, _+_, _-_, _*_, _/_, _%_, _^_}
 use mathlib.Core.List.{List, [], _∷_, _++_}
@@ -9,7 +9,6 @@ use Rattle.laws.specs.Padded.{padded}
 use Rattle.laws.specs.Law44.{tricksWon}
 use Rattle.play.specs.declared.Play.{Play}
 use Rattle.play.specs.declared.Tricks.{Tricks}
-use Rattle.play.specs.declared.Revokes.{Revokes}
 use Rattle.play.specs.Words.{withEntry}
 use Rattle.play.specs.Position.{leads}
 
@@ -58,15 +57,3 @@ byteAfter entries played later =
 unfoldable pub bytesIn : (ℕ → ℕ) → ℕ → ℕ → ℕ → List ℕ
 bytesIn byte zero bits later = []
 bytesIn byte (suc n) bits later = bytesIn byte n (bits / 2) (suc later) ++ (if eqb (bits % 2) 1 then (byte later ∷ []) else [])
-
--- the revokes' bytes of a position
-unfoldable pub revokedIn : Play → List ℕ
-revokedIn p = bytesIn (byteAfter (entriesIn p) (p .played)) 64 (p .revoked) 0
-
--- revokes with these bytes, in 36 places
-abbrev pub revokesOf : List ℕ → Revokes
-revokesOf bytes = record { count = length bytes; list = padded 0 36 bytes }
-
--- the revokes; more than 36 do not occur in a play, and tell none
-unfoldable pub revokesIn : Play → Revokes
-revokesIn p = if ltb 36 (length (revokedIn p)) then revokesOf [] else revokesOf (revokedIn p)

@@ -40,8 +40,6 @@ ghost use Rattle.play.specs.Position.{
 
 // What the code keeps of the play. A word of entries has the last entry lowest.
 pub struct Play {
-    // Who holds each card.
-    pub holders: [u8; 52],
     // The hands as they were dealt, a bit for each card, and the cards that nobody has played.
     pub dealt: [u64; 4],
     pub left: u64,
@@ -56,6 +54,8 @@ pub struct Play {
     pub tricks: u64,
     // A bit for each card played: 1 for a revoke.
     pub revoked: u64,
+    // Who holds each card.
+    pub holders: [u8; 52],
 }
 
 // The complete tricks: how many, those of each side, and their winners.
@@ -63,12 +63,6 @@ pub struct Tricks {
     pub count: u8,
     pub won: [u8; 2],
     pub winners: [u8; 13],
-}
-
-// The revokes: how many, and a byte for each in order of play: trick 4 bits, seat 2, suit led 2.
-pub struct Revokes {
-    pub count: u8,
-    pub list: [u8; 36],
 }
 
 // What is said of a card before it is played.

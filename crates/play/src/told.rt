@@ -1,11 +1,10 @@
-// What a position tells at the end: the complete tricks with their winners, and the revokes.
+// What a position tells at the end: the complete tricks with their winners, and the byte of a revoke.
 use crate::Play;
-use crate::Revokes;
 use crate::Tricks;
 use crate::words::entered;
 ghost use mathlib.Core.Path.{_≡_};
 ghost use Prim.Native.Nat.{_+_, _<_, _≤_, _*_, _^_};
-ghost use Rattle.play.specs.Told.{completeIn, tricksIn, entriesIn, byteAfter, revokesIn};
+ghost use Rattle.play.specs.Told.{completeIn, tricksIn, entriesIn, byteAfter};
 
 fn narrow(x: u64) -> u8
     requires { ⌜ x < 256 ⌝ }
@@ -68,31 +67,4 @@ pub fn byte_after(entries: u64, played: u64, later: u64) -> u8
     let from = ((played % 64 + 3) / 4 + 15 - card / 4) % 16;
     let here = entries >> (4 * from);
     narrow((card / 4 + 1) % 16 * 16 + (here / 64 % 4 + card % 4) % 4 * 4 + here % 4)
-}
-
-impl Play {
-    // The revokes, from the last card played to the first.
-    pub fn revokes(self) -> Revokes
-        ensures { λ r. ⌜ r ≡ revokesIn self ⌝ }
-    {
-        let mut list = [0u8; 36];
-        let entries = self.entries();
-        let played = self.played;
-        let mut rest = self.revoked;
-        let mut n = u64::count_ones(rest) as usize;
-        if 36 < n {
-            return Revokes { count: 0, list };
-        }
-        let count = n as u8;
-        let mut later: u64 = 0;
-        while rest != 0 {
-            let low = u64::trailing_zeros(rest) as u64;
-            rest = (rest >> low) / 2;
-            let byte = byte_after(entries, played, later + low);
-            later = later + low + 1;
-            n -= 1;
-            list[n] = byte;
-        }
-        Revokes { count, list }
-    }
 }

@@ -7,8 +7,10 @@ use lib.ListN.{length, take, drop, length-append, length-drop, length-map}
 use Rattle.laws.specs.Record.{Parts}
 use Rattle.laws.specs.Reading.{Reading, Reading.refused as stopped, Reading.found}
 use Rattle.laws.specs.Judge.{Outcome, Outcome.refused, Outcome.accepted, outcome, readRecord, Rooms, numberOf}
-use Rattle.laws.specs.Judgement.{answerBytes, revokesOf, revokeByte, revokeBytes}
-use Rattle.laws.specs.Lent.{roomsOf, _over_, answerLeft, listLeft}
+use Rattle.laws.specs.Judgement.{answerBytes, revokesOf, revokeByte, revokeBytes, failuresOf, failuresBytes}
+use Rattle.laws.specs.Failures.{failureBytes}
+use Rattle.laws.specs.Lent.{roomsOf, _over_, answerLeft, listLeft, failuresLeft}
+use Rattle.laws.proofs.Padded.{length-padded}
 use Rattle.laws.proofs.Accepts.{lent-is}
 use Rattle.laws.proofs.Numbered.{ruled}
 use Rattle.judge.proofs.Answering.{seven-long, few-revokes}
@@ -40,17 +42,21 @@ revoke-bytes-long : (p : Parts) → length (revokeBytes p) ≡ length (revokesOf
 unfolding revokeBytes
 revoke-bytes-long p = length-map (revokesOf p) revokeByte
 
-module _ (bytes answer list : List ℕ) where
+pub failures-long : (p : Parts) → length (failuresBytes p) ≡ 52
+unfolding failuresBytes
+failures-long p = length-padded 0 52 (failureBytes (failuresOf p))
+
+module _ (bytes answer list failures : List ℕ) where
   abbrev rooms : Rooms
-  rooms = roomsOf answer list
+  rooms = roomsOf answer list failures
 
   abbrev said : Outcome
-  said = saidOf bytes answer list
+  said = saidOf bytes answer list failures
 
   -- ---- refused
-  untouched : (o : Outcome) → (numberOf o ≡ 0 → ⊥) → (answerLeft o answer ≡ answer) × (listLeft o list ≡ list)
-  unfolding answerLeft listLeft
-  untouched (refused n place) h = (refl, refl)
+  untouched : (o : Outcome) → (numberOf o ≡ 0 → ⊥) → (answerLeft o answer ≡ answer) × (listLeft o list ≡ list) × (failuresLeft o failures ≡ failures)
+  unfolding answerLeft listLeft failuresLeft
+  untouched (refused n place) h = (refl, refl, refl)
   untouched (accepted p) h = absurd (h refl)
 
   -- ---- accepted
@@ -61,20 +67,22 @@ module _ (bytes answer list : List ℕ) where
       go (stopped n place) e o = let z : _≡_ {A = ℕ} 0 1 = cc in absurd (omega arith)
       go (found a end) e o = let same : a ≡ p = cc in (end, e ∙ ap (λ (x : Parts). found x end) same)
 
-  few : (p : Parts) → said ≡ accepted p → length (revokesOf p) ≤ 36
+  few : (p : Parts) → said ≡ accepted p → length (revokesOf p) ≤ 48
   few p q = few-revokes bytes (was-read p q .1)
 
-  lengths : (o : Outcome) → said ≡ o → (length (answerLeft o answer) ≡ length answer) × (length (listLeft o list) ≡ length list)
-  unfolding answerLeft listLeft
-  lengths (refused n place) q = (refl, refl)
+  lengths : (o : Outcome) → said ≡ o
+      → (length (answerLeft o answer) ≡ length answer) × (length (listLeft o list) ≡ length list) × (length (failuresLeft o failures) ≡ length failures)
+  unfolding answerLeft listLeft failuresLeft
+  lengths (refused n place) q = (refl, refl, refl)
   lengths (accepted p) q =
       let lent = lent-enough bytes rooms p q in (
         length-over (answerBytes p) answer (omega (arith, seven-long p, lent .answer)),
         length-over (revokeBytes p) list (omega (arith, revoke-bytes-long p, few p q, lent .list)),
+        length-over (failuresBytes p) failures (omega (arith, failures-long p, lent .failures)),
       )
 
-  pub demand-1 : Demand1 bytes answer list
-  unfolding answerLeft listLeft
+  pub demand-1 : Demand1 bytes answer list failures
+  unfolding answerLeft listLeft failuresLeft
   demand-1 =
       record {
         number = either said (ruled bytes rooms);
@@ -83,6 +91,8 @@ module _ (bytes answer list : List ℕ) where
         answer-behind = λ p q. rw q (rw (seven-long p) at (behind-is (answerBytes p) answer));
         list-front = λ p q. rw q (rw (revoke-bytes-long p) at (front-is (revokeBytes p) list));
         list-behind = λ p q. rw q (rw (revoke-bytes-long p) at (behind-is (revokeBytes p) list));
-        at-most-36 = few;
+        at-most-48 = few;
+        failures-front = λ p q. rw q (rw (failures-long p) at (front-is (failuresBytes p) failures));
+        failures-behind = λ p q. rw q (rw (failures-long p) at (behind-is (failuresBytes p) failures));
         same-lengths = lengths said refl;
       }

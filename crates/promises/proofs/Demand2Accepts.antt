@@ -41,9 +41,13 @@ module _ (bytes : List ℕ) (rooms : Rooms) where
   unfolding judgeOf readLent
   short-answer h = simp (lt-ltb (rooms .answer) 7 h, test-stops)
 
-  short-list : 7 ≤ rooms .answer → rooms .list < 36 → judgeOf bytes rooms ≡ refused shortBuffer 1
+  short-list : 7 ≤ rooms .answer → rooms .list < 48 → judgeOf bytes rooms ≡ refused shortBuffer 1
   unfolding judgeOf readLent
-  short-list h k = simp (le-ltb (rooms .answer) 7 h, lt-ltb (rooms .list) 36 k, test-is, test-stops)
+  short-list h k = simp (le-ltb (rooms .answer) 7 h, lt-ltb (rooms .list) 48 k, test-is, test-stops)
+
+  short-failures : 7 ≤ rooms .answer → 48 ≤ rooms .list → rooms .failures < 52 → judgeOf bytes rooms ≡ refused shortBuffer 2
+  unfolding judgeOf readLent
+  short-failures h k f = simp (le-ltb (rooms .answer) 7 h, le-ltb (rooms .list) 48 k, lt-ltb (rooms .failures) 52 f, test-is, test-stops)
 
   -- two constructors of an outcome
   pub never : {P : Type 0} {n place : ℕ} {p : Parts} → judgeOf bytes rooms ≡ refused n place → judgeOf bytes rooms ≡ accepted p → P
@@ -52,16 +56,20 @@ module _ (bytes : List ℕ) (rooms : Rooms) where
       clash : {n place : ℕ} {p : Parts} (o : Outcome) → o ≡ refused n place → o ≡ accepted p → _≡_ {A = ℕ} 0 1
       clash o e f = cc
 
-  -- what is accepted was lent buffers of at least 7 and 36 bytes
+  -- what is accepted was lent buffers of at least 7, 48 and 52 bytes
   pub lent-enough : (p : Parts) → judgeOf bytes rooms ≡ accepted p → Enough rooms
   lent-enough p q =
       by-test (ltb (rooms .answer) 7)
       (λ (a : ltb (rooms .answer) 7 ≡ true). never (short-answer (ltb-true (rooms .answer) 7 a)) q)
       (λ (a : ltb (rooms .answer) 7 ≡ false).
       let long : 7 ≤ rooms .answer = ltb-false (rooms .answer) 7 a in
-      by-test (ltb (rooms .list) 36)
-      (λ (b : ltb (rooms .list) 36 ≡ true). never (short-list long (ltb-true (rooms .list) 36 b)) q)
-      (λ (b : ltb (rooms .list) 36 ≡ false). record { answer = long; list = ltb-false (rooms .list) 36 b }))
+      by-test (ltb (rooms .list) 48)
+      (λ (b : ltb (rooms .list) 48 ≡ true). never (short-list long (ltb-true (rooms .list) 48 b)) q)
+      (λ (b : ltb (rooms .list) 48 ≡ false).
+      let list : 48 ≤ rooms .list = ltb-false (rooms .list) 48 b in
+      by-test (ltb (rooms .failures) 52)
+      (λ (f : ltb (rooms .failures) 52 ≡ true). never (short-failures long list (ltb-true (rooms .failures) 52 f)) q)
+      (λ (f : ltb (rooms .failures) 52 ≡ false). record { answer = long; list = list; failures = ltb-false (rooms .failures) 52 f })))
 
   -- what is accepted is the encoding of lawful parts
   pub accepted-lawful : Bytes bytes → (p : Parts) → judgeOf bytes rooms ≡ accepted p → Lawful p × (bytes ≡ encode p)
@@ -97,6 +105,7 @@ demand-2-accepts =
       zero-or-refusal = λ bytes rooms. either (judgeOf bytes rooms) (ruled bytes rooms);
       short-answer = short-answer;
       short-list = short-list;
+      short-failures = short-failures;
       at-least-20 = λ bytes small rooms p q. accepted-20 bytes rooms small p q;
       passed-out = (by-judging passedOutParts (judged .passed-out), judged .no-contract, judged .bytes);
       one-byte-less = judged .one-less;

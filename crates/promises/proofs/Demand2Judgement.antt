@@ -11,31 +11,86 @@ use Rattle.laws.specs.Record.{Parts, encode, Field, field, bits}
 use Rattle.laws.specs.Reading.{numberAt}
 use Rattle.laws.specs.Auction.{passedOut}
 use Rattle.laws.specs.Judge.{leastRooms, Outcome, Outcome.accepted, numberOf}
-use Rattle.laws.specs.Judgement.{callsOf, contractOf, declarerOf, trumpOf, openingOf, cardsOf, wonOf, afterOf, revokesOf, scoreOf}
-use Rattle.laws.specs.Judgement.{twosComplement, playedFields, answerFields, answerBytes, revokeBytes}
+use Rattle.laws.specs.LeadRevoke.{revokeBy, RevokedBy, disobeys, allRevokes}
+use Rattle.laws.specs.Failures.{Failure, failureBy, isFailure, failures}
+use Rattle.laws.specs.Judgement.{callsOf, contractOf, declarerOf, trumpOf, openingOf, playOf, wonOf, afterOf, revokesOf, failuresOf, scoreOf}
+use Rattle.laws.specs.Judgement.{twosComplement, playedFields, answerFields, answerBytes, revokeBytes, failuresBytes}
 use Rattle.laws.specs.Lawful.{Lawful}
-use Rattle.laws.specs.Lent.{roomsOf, _over_, answerLeft, listLeft}
+use Rattle.laws.specs.Lent.{roomsOf, _over_, answerLeft, listLeft, failuresLeft}
 use Rattle.laws.proofs.Accepts as Accepts
 use Rattle.laws.proofs.Tests.{by-test}
 use Rattle.laws.proofs.Written.{Fit, read-back}
 use Rattle.judge.proofs.Answering.{answer-bits, seven-bytes, few-revokes}
 use Rattle.promises.proofs.Demand1.{was-read}
 use Rattle.judge.proofs.Widths.{won-le, after-le, declarer-lt, level-le, strain-le, doubled-le, valid, word-lt}
-use Rattle.laws.proofs.Revokes.{listed-exactly}
+use Rattle.laws.proofs.PlaysListed.{listed-exactly}
+use Rattle.laws.proofs.LeadRevokes.{disobeys-exactly}
+use Rattle.laws.proofs.FailuresInFull.{failure-exactly}
 use Rattle.promises.specs.Demand1.{saidOf}
-use Rattle.promises.specs.Demand2Judgement.{RevokeOf, Demand2Judgement, ContractBits, AnswerBits, Demand2Bits}
+use Rattle.promises.specs.Demand2Judgement.{RevokeOf, FailureOf, Demand2Judgement, ContractBits, AnswerBits, Demand2Bits}
 
-left : (p : Parts) (answer list : List ℕ) (o : Outcome) → o ≡ accepted p
-    → (numberOf o ≡ 0) × (answerLeft o answer ≡ answerBytes p over answer) × (listLeft o list ≡ revokeBytes p over list)
-unfolding answerLeft listLeft
-left p answer list o q = rw q (refl, refl, refl)
+left : (p : Parts) (answer list failures : List ℕ) (o : Outcome) → o ≡ accepted p
+    → (numberOf o ≡ 0)
+    × (answerLeft o answer ≡ answerBytes p over answer)
+    × (listLeft o list ≡ revokeBytes p over list)
+    × (failuresLeft o failures ≡ failuresBytes p over failures)
+unfolding answerLeft listLeft failuresLeft
+left p answer list failures o q = rw q (refl, refl, refl, refl)
 
-revokes : (p : Parts) (r : Revoke) → List·Memᴰ r (revokesOf p) ↔ RevokeOf p r
-unfolding revokesOf
-revokes p r =
-    let e = listed-exactly (trumpOf p) (openingOf p) (p .deal) (cardsOf p) r in (
-      λ m. let i = e .0 m in record { later = i .after; card = i .card; earlier = i .before; play = i .parts; revoked = i .revoke; as-listed = i .as-listed },
-      λ i. e .1 (record { after = i .later; card = i .card; before = i .earlier; parts = i .play; revoke = i .revoked; as-listed = i .as-listed }),
+revoked : (p : Parts) (r : Revoke) → List·Memᴰ r (revokesOf p) ↔ RevokeOf p r
+unfolding revokesOf allRevokes
+revoked p r =
+    let trump = trumpOf p in
+    let opening = openingOf p in
+    let e = listed-exactly (disobeys trump opening (p .deal)) (revokeBy trump opening) (playOf p) r in (
+      λ m.
+          let i = e .0 m in
+          record {
+            later = i .after;
+            card = i .card;
+            earlier = i .before;
+            play = i .parts;
+            revoked = disobeys-exactly trump opening (p .deal) (i .before) (i .card) .0 (i .passes);
+            as-listed = i .as-listed;
+          },
+      λ i.
+          e .1
+          (record {
+            after = i .later;
+            card = i .card;
+            before = i .earlier;
+            parts = i .play;
+            passes = disobeys-exactly trump opening (p .deal) (i .earlier) (i .card) .1 (i .revoked);
+            as-listed = i .as-listed;
+          }),
+    )
+
+failed : (p : Parts) (f : Failure) → List·Memᴰ f (failuresOf p) ↔ FailureOf p f
+unfolding failuresOf failures
+failed p f =
+    let trump = trumpOf p in
+    let opening = openingOf p in
+    let e = listed-exactly (isFailure trump opening (p .deal)) (failureBy trump opening) (playOf p) f in (
+      λ m.
+          let i = e .0 m in
+          record {
+            later = i .after;
+            card = i .card;
+            earlier = i .before;
+            play = i .parts;
+            against = failure-exactly trump opening (p .deal) (i .before) (i .card) .0 (i .passes);
+            as-listed = i .as-listed;
+          },
+      λ i.
+          e .1
+          (record {
+            after = i .later;
+            card = i .card;
+            before = i .earlier;
+            parts = i .play;
+            passes = failure-exactly trump opening (p .deal) (i .earlier) (i .card) .1 (i .against);
+            as-listed = i .as-listed;
+          }),
     )
 
 -- ---- every bit of the answer
@@ -46,8 +101,10 @@ field-back p before f behind e fit =
     rw (seven-bytes p, e) (read-back before f behind 7 fit (ap bits (sym e) ∙ answer-bits p))
 
 module _ (p : Parts) (ok : Lawful p) where
-  few : length (revokesOf p) ≤ 36
-  few = few-revokes (encode p) (was-read (encode p) (replicate 7 0) (replicate 36 0) p (Accepts.read-back leastRooms Accepts.least-enough p ok) .1)
+  few : length (revokesOf p) ≤ 48
+  few =
+      few-revokes (encode p)
+      (was-read (encode p) (replicate 7 0) (replicate 48 0) (replicate 52 0) p (Accepts.read-back leastRooms Accepts.least-enough p ok) .1)
 
   head-fit : (rest : List Field) → Fit rest → Fit (field 7 (p .board) ∷ field 9 (p .table) ∷ rest)
   unfolding Fit
@@ -149,6 +206,8 @@ demand-2-bits p ok = bits-of-answer p ok
 pub demand-2-judgement : Demand2Judgement
 demand-2-judgement =
     record {
-      answers = λ p ok answer list enough. left p answer list (saidOf (encode p) answer list) (Accepts.read-back (roomsOf answer list) enough p ok);
-      revokes = revokes;
+      answers = λ p ok answer list failures enough.
+          left p answer list failures (saidOf (encode p) answer list failures) (Accepts.read-back (roomsOf answer list failures) enough p ok);
+      revokes = revoked;
+      failures = failed;
     }

@@ -11,9 +11,11 @@ use Rattle.laws.specs.Auction
 use Rattle.laws.specs.CallRefusal
 use Rattle.laws.specs.Law44
 use Rattle.laws.specs.CardRefusal
+use Rattle.laws.specs.Events
 use Rattle.laws.specs.Law68
 use Rattle.laws.specs.Record
 use Rattle.laws.specs.Reading
+use Rattle.laws.specs.Plays
 use Rattle.laws.specs.Judge
 use Rattle.laws.specs.Auction.{passedOut}
 use Rattle.laws.specs.Record.{encode}
@@ -45,8 +47,10 @@ unfolding
     Law44.cardsPlayed Law44.allPlayed Law44.tricksComplete Law44.tricksLeft Law44.cardsInTrick Law44.trickUnderWay
     Law44.suitLed Law44.highest Law44.winningCard Law44.playerOf Law44.winner Law44.leader Law44.toPlay
     Law44.isPlayed Law44.holds Law44.hasPlayed Law44.playable CardRefusal.cardRefusal Law68.atClaimPoint Law68.claimable
-    Record.row Record.claimFields Record.layout Record.bits Record.padding Record.padded Record.number Record.bytesOf Record.packed Record.encode
-    Reading.bitAt Reading.numberAt Reading.read Reading.refuse Reading.readRow Reading.readEach Reading.overfull Reading.ending
+    Events.cardsOf Events.cardsAmong Events.asEvents
+    Record.row Record.eventFields Record.playFields Record.claimFields Record.layout
+    Record.bits Record.padding Record.padded Record.number Record.bytesOf Record.packed Record.encode
+    Reading.bitAt Reading.numberAt Reading.read Reading.refuse Reading.readRow Reading.readEach Reading.overfull Reading.ending Plays.readPlays
     Judge.readHeading Judge.readDeal Judge.readCalls Judge.readCards Judge.readNoClaim Judge.readMarkedClaim Judge.readClaim
     Judge.readRecord Judge.readLent Judge.judgeOf
 judged =

@@ -14,7 +14,7 @@ unfolding
     Choice.howMany Choice.some
     Auction.isOver Auction.hasBid Auction.lastBid Auction.passesInARow
     Cards.clockwise Law44.tricksWon
-    Law64.repeated Law64.entitlement Law64.wonFrom Law64.dues Law64.total Law64.sideRevoked Law64.bothRevoked Law64.transferredTricks
+    Law64.repeated Law64.isExempt Law64.entitlement Law64.wonFrom Law64.dues Law64.total Law64.sideRevoked Law64.bothRevoked Law64.transferredTricks
     Law77.isMade Law77.trickValue Law77.firstTrickValue Law77.trickPoints Law77.overtrickValue Law77.overtrickPoints
     Law77.doubledUndertrick Law77.undertrickValue Law77.undertricks Law77.undertrickPoints
     Law77.isGame Law77.partScorePoints Law77.gamePoints Law77.slamPoints Law77.doublingPoints Law77.declarerScore Law77.validScore

@@ -8,16 +8,18 @@ use Rattle.laws.specs.Auction
 use Rattle.laws.specs.CallRefusal
 use Rattle.laws.specs.Law44
 use Rattle.laws.specs.CardRefusal
+use Rattle.laws.specs.Events
 use Rattle.laws.specs.Law68
 use Rattle.laws.specs.Record
 use Rattle.laws.specs.Reading
+use Rattle.laws.specs.Plays
 use Rattle.laws.specs.Judge
 use Rattle.laws.specs.Lengths
 use lib.ListN.{length}
 use Rattle.laws.specs.Record.{encode}
 use Rattle.laws.specs.Judge.{Outcome.accepted, leastRooms, judgeOf}
 use Rattle.laws.proofs.LongestAuction.{at-most-319, at-most-319-in-order, longest-allowed, longest-unmarked, longest-over, longest-length}
-use Rattle.laws.proofs.Lengths.{at-most-296, at-most-440}
+use Rattle.laws.proofs.Lengths.{at-most-296, at-most-361, at-most-440, at-most-505}
 use Rattle.promises.specs.Lengths.{ranksInTurn, longestParts, oneClubAgain, markedParts, Lengths}
 use Rattle.promises.proofs.Demand2Accepts.{accepted-lawful, by-judging}
 
@@ -33,8 +35,10 @@ unfolding
     Law44.cardsPlayed Law44.allPlayed Law44.tricksComplete Law44.tricksLeft Law44.cardsInTrick Law44.trickUnderWay
     Law44.suitLed Law44.highest Law44.winningCard Law44.playerOf Law44.winner Law44.leader Law44.toPlay
     Law44.isPlayed Law44.holds Law44.playable CardRefusal.cardRefusal Law68.atClaimPoint Law68.claimable
-    Record.row Record.claimFields Record.layout Record.bits Record.padding Record.padded Record.number Record.bytesOf Record.packed Record.encode
-    Reading.bitAt Reading.numberAt Reading.read Reading.refuse Reading.readRow Reading.readEach Reading.overfull Reading.ending
+    Events.cardsOf Events.cardsAmong Events.asEvents
+    Record.row Record.eventFields Record.playFields Record.claimFields Record.layout
+    Record.bits Record.padding Record.padded Record.number Record.bytesOf Record.packed Record.encode
+    Reading.bitAt Reading.numberAt Reading.read Reading.refuse Reading.readRow Reading.readEach Reading.overfull Reading.ending Plays.readPlays
     Judge.readHeading Judge.readDeal Judge.readCalls Judge.readCards Judge.readNoClaim Judge.readMarkedClaim Judge.readClaim
     Judge.readRecord Judge.readLent Judge.judgeOf
     Lengths.bidsInTurn Lengths.longestAuction ranksInTurn longestParts oneClubAgain markedParts
@@ -42,7 +46,9 @@ judged = (refl, refl)
 
 bytes-296 : length (encode longestParts) ≡ 296
 unfolding
-    Record.row Record.claimFields Record.layout Record.bits Record.padding Record.padded Record.number Record.bytesOf Record.packed Record.encode
+    Events.cardsOf Events.cardsAmong Events.asEvents
+    Record.row Record.eventFields Record.playFields Record.claimFields Record.layout
+    Record.bits Record.padding Record.padded Record.number Record.bytesOf Record.packed Record.encode
     Lengths.bidsInTurn Lengths.longestAuction ranksInTurn longestParts
 bytes-296 = refl
 
@@ -52,7 +58,9 @@ codes-511 = refl
 
 bytes-440 : length (encode markedParts) ≡ 440
 unfolding
-    Record.row Record.claimFields Record.layout Record.bits Record.padding Record.padded Record.number Record.bytesOf Record.packed Record.encode
+    Events.cardsOf Events.cardsAmong Events.asEvents
+    Record.row Record.eventFields Record.playFields Record.claimFields Record.layout
+    Record.bits Record.padding Record.padded Record.number Record.bytesOf Record.packed Record.encode
     ranksInTurn oneClubAgain markedParts
 bytes-440 = refl
 
@@ -65,14 +73,19 @@ lengths =
       longest-unmarked = longest-unmarked;
       longest-over = longest-over;
       longest-calls = longest-length;
-      most-bytes-unmarked = λ bytes small rooms p q n.
-          let w = accepted-lawful bytes rooms small p q in rw (w .1) (omega (arith, at-most-296 p (w .0) n));
+      most-bytes-unmarked = λ bytes small rooms p q n alone.
+          let w = accepted-lawful bytes rooms small p q in rw (w .1) (omega (arith, at-most-296 p (w .0) alone n));
       longest-record = judged .0;
       longest-lawful = by-judging longestParts (judged .0);
       longest-bytes = bytes-296;
-      most-bytes = λ bytes small rooms p q. let w = accepted-lawful bytes rooms small p q in rw (w .1) (omega (arith, at-most-440 p (w .0)));
+      most-bytes-alone = λ bytes small rooms p q alone.
+          let w = accepted-lawful bytes rooms small p q in rw (w .1) (omega (arith, at-most-440 p (w .0) alone));
       marked-record = judged .1;
       marked-lawful = by-judging markedParts (judged .1);
       marked-codes = codes-511;
       marked-bytes = bytes-440;
+      most-codes = λ bytes small rooms p q. accepted-lawful bytes rooms small p q .0 .cards .codes;
+      most-bytes-unmarked-coded = λ bytes small rooms p q n.
+          let w = accepted-lawful bytes rooms small p q in rw (w .1) (omega (arith, at-most-361 p (w .0) n));
+      most-bytes = λ bytes small rooms p q. let w = accepted-lawful bytes rooms small p q in rw (w .1) (omega (arith, at-most-505 p (w .0)));
     }

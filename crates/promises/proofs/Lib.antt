@@ -6,7 +6,9 @@ pub mod Marks
 pub mod BestTotal
 pub mod Demand1
 pub mod Demand2Judgement
+pub mod PlaysInOrder
 pub mod Demand2Revokes
+pub mod Demand2Failures
 pub mod Demand3
 pub mod Demand3OneDeal
 pub mod TalliesMatchpoints
@@ -14,8 +16,10 @@ pub mod Tallies
 pub mod TalliesMerging
 pub mod Demand2Imps
 pub mod Percentages
+pub mod WritingBeyond
 pub mod Writing
 pub mod UnfinishedTrick
+pub mod PenaltyCards
 pub mod TeamMatchRuns
 pub mod TeamMatchOrder
 pub mod TeamMatchReached

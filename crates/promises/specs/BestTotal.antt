@@ -5,10 +5,10 @@ use mathlib.Core.Bool.{true}
 use Rattle.laws.specs.Cards.{partnerOf}
 use Rattle.laws.specs.Allotment.{Greatest, oneSideRevoked}
 use Rattle.laws.specs.Record.{Parts}
-use Rattle.laws.specs.Judgement.{declarerOf, winnersOf, claimedOf, revokesOf, transferredOf}
+use Rattle.laws.specs.Judgement.{declarerOf, winnersOf, claimedOf, countedOf, transferredOf}
 use Rattle.laws.specs.Lawful.{Lawful}
 
 pub record BestTotal : Type 0 where
   -- an allotment of as many pairs as tricks change sides is exhibited, and every allotment has at most so many
-  pub best : (p : Parts) → Lawful p → oneSideRevoked (revokesOf p) ≡ true
-      → Greatest (partnerOf (declarerOf p)) (winnersOf p) (claimedOf p) (revokesOf p) (transferredOf p)
+  pub best : (p : Parts) → Lawful p → oneSideRevoked (countedOf p) ≡ true
+      → Greatest (partnerOf (declarerOf p)) (winnersOf p) (claimedOf p) (countedOf p) (transferredOf p)

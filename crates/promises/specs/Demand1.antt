@@ -1,5 +1,6 @@
--- Demand 1 of the judge: its number, and what it leaves in the two lent buffers, for every list of bytes.
--- `answer` and `list` are the buffers as they are lent; `judge_record` returns `numberOf` and leaves `answerLeft` and `listLeft` of what is said here.
+-- Demand 1 of the judge: its number, and what it leaves in the three lent buffers, for every list of bytes.
+-- `answer`, `list` and `failures` are the buffers as they are lent; `judge_record` returns `numberOf` and leaves `answerLeft`, `listLeft` and `failuresLeft` of
+-- what is said here.
 -- Assumes nothing.
 use Prim.Native.Nat.{ℕ, _≤_}
 use mathlib.Core.Path.{_≡_}
@@ -8,26 +9,31 @@ use mathlib.Core.List.{List}
 use lib.ListN.{length, take, drop}
 use Rattle.laws.specs.Record.{Parts}
 use Rattle.laws.specs.Judge.{Outcome, Outcome.accepted, judgeOf, numberOf}
-use Rattle.laws.specs.Judgement.{answerBytes, revokesOf, revokeBytes}
-use Rattle.laws.specs.Lent.{roomsOf, answerLeft, listLeft}
+use Rattle.laws.specs.Judgement.{answerBytes, revokesOf, revokeBytes, failuresBytes}
+use Rattle.laws.specs.Lent.{roomsOf, answerLeft, listLeft, failuresLeft}
 use Rattle.promises.specs.Demand2.{Refusal}
 
-module _ (bytes answer list : List ℕ) where
+module _ (bytes answer list failures : List ℕ) where
   -- what the judge says of the bytes, given these buffers
   abbrev pub saidOf : Outcome
-  saidOf = judgeOf bytes (roomsOf answer list)
+  saidOf = judgeOf bytes (roomsOf answer list failures)
 
   pub record Demand1 : Type 0 where
-    -- the number is 0, or a refusal of a record, 1 to 16, 23 or 24, × 1024 and a place below 1024
+    -- the number is 0, or a refusal of a record, 1 to 16 or 23 to 27, × 1024 and a place below 1024
     pub number : (numberOf saidOf ≡ 0) ⊎ Refusal (numberOf saidOf)
-    -- with any number but 0 both buffers are as they were
-    pub refusal-leaves : (numberOf saidOf ≡ 0 → ⊥) → (answerLeft saidOf answer ≡ answer) × (listLeft saidOf list ≡ list)
+    -- with any number but 0 the buffers are as they were
+    pub refusal-leaves : (numberOf saidOf ≡ 0 → ⊥)
+        → (answerLeft saidOf answer ≡ answer) × (listLeft saidOf list ≡ list) × (failuresLeft saidOf failures ≡ failures)
     -- accepted: the seven bytes of the answer, and the bytes behind them as they were
     pub answer-front : (p : Parts) → saidOf ≡ accepted p → take 7 (answerLeft saidOf answer) ≡ answerBytes p
     pub answer-behind : (p : Parts) → saidOf ≡ accepted p → drop 7 (answerLeft saidOf answer) ≡ drop 7 answer
-    -- a byte for each revoke, at most 36, and the bytes behind them as they were
+    -- a byte for each revoke, at most 48, and the bytes behind them as they were
     pub list-front : (p : Parts) → saidOf ≡ accepted p → take (length (revokesOf p)) (listLeft saidOf list) ≡ revokeBytes p
     pub list-behind : (p : Parts) → saidOf ≡ accepted p → drop (length (revokesOf p)) (listLeft saidOf list) ≡ drop (length (revokesOf p)) list
-    pub at-most-36 : (p : Parts) → saidOf ≡ accepted p → length (revokesOf p) ≤ 36
+    pub at-most-48 : (p : Parts) → saidOf ≡ accepted p → length (revokesOf p) ≤ 48
+    -- the 52 bytes of the plays against 50C or 50D1, on every acceptance, and the bytes behind them as they were
+    pub failures-front : (p : Parts) → saidOf ≡ accepted p → take 52 (failuresLeft saidOf failures) ≡ failuresBytes p
+    pub failures-behind : (p : Parts) → saidOf ≡ accepted p → drop 52 (failuresLeft saidOf failures) ≡ drop 52 failures
     -- no buffer grows or shrinks
     pub same-lengths : (length (answerLeft saidOf answer) ≡ length answer) × (length (listLeft saidOf list) ≡ length list)
+        × (length (failuresLeft saidOf failures) ≡ length failures)

@@ -12,12 +12,13 @@ use Rattle.laws.specs.Cards.{north, east, south, west, dealtTo}
 use Rattle.laws.specs.Auction.{pass, passedOut}
 use Rattle.laws.specs.Law44.{toPlay, isPlayed}
 use Rattle.laws.specs.CardRefusal.{cardRefusal}
+use Rattle.laws.specs.Events.{asEvents}
 use Rattle.laws.specs.Law68.{none, agreed}
 use Rattle.laws.specs.Record.{Parts, encode}
 use Rattle.laws.specs.Judge.{Outcome.refused, Outcome.accepted, Rooms, leastRooms, Enough, judgeOf, numberOf}
 use Rattle.laws.specs.Lawful.{Lawful}
 
--- a number that is a refusal of a record, 1 to 16, 23 or 24, × 1024, and a place below 1024
+-- a number that is a refusal of a record, 1 to 16 or 23 to 27, × 1024, and a place below 1024
 pub record Refusal (number : ℕ) : Type 0 where
   pub refusal : ℕ
   pub place : ℕ
@@ -35,7 +36,7 @@ abbrev pub oneSuitEach : List ℕ
 oneSuitEach = replicate 13 north ++ (replicate 13 east ++ (replicate 13 south ++ replicate 13 west))
 
 abbrev pub passedOutParts : Parts
-passedOutParts = record { board = 1; table = 1; deal = oneSuitEach; calls = pass ∷ pass ∷ pass ∷ pass ∷ []; cards = []; claim = none }
+passedOutParts = record { board = 1; table = 1; deal = oneSuitEach; calls = pass ∷ pass ∷ pass ∷ pass ∷ []; plays = []; claim = none }
 
 -- the same deal: North bids one club, East leads the two of diamonds to a first trick of twos, and so many tricks are claimed
 abbrev pub oneClub : ℕ → Parts
@@ -45,7 +46,7 @@ oneClub tricks =
       table = 1;
       deal = oneSuitEach;
       calls = 3 ∷ pass ∷ pass ∷ pass ∷ [];
-      cards = 13 ∷ 26 ∷ 39 ∷ 0 ∷ [];
+      plays = asEvents (13 ∷ 26 ∷ 39 ∷ 0 ∷ []);
       claim = agreed tricks;
     }
 
@@ -57,7 +58,7 @@ fifthCard card =
       table = 1;
       deal = oneSuitEach;
       calls = 3 ∷ pass ∷ pass ∷ pass ∷ [];
-      cards = 13 ∷ 26 ∷ 39 ∷ 0 ∷ card ∷ [];
+      plays = asEvents (13 ∷ 26 ∷ 39 ∷ 0 ∷ card ∷ []);
       claim = none;
     }
 
@@ -77,9 +78,11 @@ pub record Demand2Accepts : Type 0 where
   -- the number is 0 exactly when a record is accepted, and else a refusal and its place
   pub zero-accepts : (bytes : List ℕ) (rooms : Rooms) → (numberOf (judgeOf bytes rooms) ≡ 0) ↔ ((p : Parts) × (judgeOf bytes rooms ≡ accepted p))
   pub zero-or-refusal : (bytes : List ℕ) (rooms : Rooms) → (numberOf (judgeOf bytes rooms) ≡ 0) ⊎ Refusal (numberOf (judgeOf bytes rooms))
-  -- a buffer that is too short comes first: the answer's, then the list's
+  -- a buffer that is too short comes first: the answer's, then the list's, then that of the plays against 50C or 50D1
   pub short-answer : (bytes : List ℕ) (rooms : Rooms) → rooms .answer < 7 → judgeOf bytes rooms ≡ refused shortBuffer 0
-  pub short-list : (bytes : List ℕ) (rooms : Rooms) → 7 ≤ rooms .answer → rooms .list < 36 → judgeOf bytes rooms ≡ refused shortBuffer 1
+  pub short-list : (bytes : List ℕ) (rooms : Rooms) → 7 ≤ rooms .answer → rooms .list < 48 → judgeOf bytes rooms ≡ refused shortBuffer 1
+  pub short-failures : (bytes : List ℕ) (rooms : Rooms) → 7 ≤ rooms .answer → 48 ≤ rooms .list → rooms .failures < 52
+      → judgeOf bytes rooms ≡ refused shortBuffer 2
   -- an accepted record has at least 20 bytes
   pub at-least-20 : (bytes : List ℕ) → Bytes bytes → (rooms : Rooms) (p : Parts) → judgeOf bytes rooms ≡ accepted p → 20 ≤ length bytes
   -- lawful parts that are passed out, in the bytes of docs/RULES.md; one byte less is 2, one more is 16

@@ -1,40 +1,57 @@
--- Demand 2, what the judge answers: for lawful parts the answer and the revokes are the Laws' on those parts.
+-- Demand 2, what the judge answers: for lawful parts the answer, the revokes and the plays against 50C or 50D1 are the Laws' on those parts.
 -- Assumes nothing.
 use Prim.Native.Nat.{ℕ}
 use mathlib.Core.Path.{_≡_}
-use mathlib.Core.Logic.{_↔_}
+use mathlib.Core.Logic.{_↔_, _⊎_}
 use mathlib.Core.Bool.{true, false}
 use mathlib.Core.List.{List, _∷_, _++_, List·Memᴰ}
 use lib.ListN.{length}
-use Rattle.laws.specs.Law61.{Revoke, RevokedAt, revokeAt}
+use Rattle.laws.specs.Law61.{Revoke}
+use Rattle.laws.specs.Events.{Event, played}
+use Rattle.laws.specs.LeadRevoke.{revokeBy, RevokedBy}
+use Rattle.laws.specs.Failures.{Failure, failureBy, Against50C, Against50D1}
 use Rattle.laws.specs.Record.{Parts, encode}
 use Rattle.laws.specs.Judge.{Enough, Outcome.accepted, numberOf}
 use Rattle.laws.specs.Auction.{passedOut}
 use Rattle.laws.specs.Law77.{validScore}
 use Rattle.laws.specs.Reading.{numberAt}
-use Rattle.laws.specs.Judgement.{callsOf, contractOf, declarerOf, trumpOf, openingOf, cardsOf, wonOf, afterOf, revokesOf, scoreOf}
-use Rattle.laws.specs.Judgement.{twosComplement, answerBytes, revokeBytes}
+use Rattle.laws.specs.Judgement.{callsOf, playOf, contractOf, declarerOf, trumpOf, openingOf, wonOf, afterOf, revokesOf, failuresOf, scoreOf}
+use Rattle.laws.specs.Judgement.{twosComplement, answerBytes, revokeBytes, failuresBytes}
 use Rattle.laws.specs.Lawful.{Lawful}
-use Rattle.laws.specs.Lent.{roomsOf, _over_, answerLeft, listLeft}
+use Rattle.laws.specs.Lent.{roomsOf, _over_, answerLeft, listLeft, failuresLeft}
 use Rattle.promises.specs.Demand1.{saidOf}
 
--- r is a revoke of the parts: at some card the seat at turn held a card of the suit led and played another suit
+-- r is a revoke of the parts: at some card the seat at turn held a card of the suit led and played another suit, or it led otherwise than declarer's choice
+-- asked for, and could have obeyed it
 pub record RevokeOf (p : Parts) (r : Revoke) : Type 0 where
-  pub later : List ℕ
+  pub later : List Event
   pub card : ℕ
-  pub earlier : List ℕ
-  pub play : cardsOf p ≡ later ++ (card ∷ earlier)
-  pub revoked : RevokedAt (trumpOf p) (openingOf p) (p .deal) earlier card
-  pub as-listed : r ≡ revokeAt (trumpOf p) (openingOf p) earlier
+  pub earlier : List Event
+  pub play : playOf p ≡ later ++ (played card ∷ earlier)
+  pub revoked : RevokedBy (trumpOf p) (openingOf p) (p .deal) earlier card
+  pub as-listed : r ≡ revokeBy (trumpOf p) (openingOf p) earlier card
+
+-- f is a play of the parts against 50C or 50D1, on the hand of that moment
+pub record FailureOf (p : Parts) (f : Failure) : Type 0 where
+  pub later : List Event
+  pub card : ℕ
+  pub earlier : List Event
+  pub play : playOf p ≡ later ++ (played card ∷ earlier)
+  pub against : Against50C (trumpOf p) (openingOf p) (p .deal) earlier card ⊎ Against50D1 (trumpOf p) (openingOf p) (p .deal) earlier card
+  pub as-listed : f ≡ failureBy (trumpOf p) (openingOf p) earlier card
 
 pub record Demand2Judgement : Type 0 where
-  -- lawful parts are accepted, and the buffers hold their answer and their revokes over what was there
-  pub answers : (p : Parts) → Lawful p → (answer list : List ℕ) → Enough (roomsOf answer list)
-      → (numberOf (saidOf (encode p) answer list) ≡ 0)
-      × (answerLeft (saidOf (encode p) answer list) answer ≡ answerBytes p over answer)
-      × (listLeft (saidOf (encode p) answer list) list ≡ revokeBytes p over list)
+  -- lawful parts are accepted, and the buffers hold their answer, their revokes and their plays against 50C or 50D1 over what was there
+  pub answers : (p : Parts) → Lawful p → (answer list failures : List ℕ) → Enough (roomsOf answer list failures)
+      → (let said = saidOf (encode p) answer list failures in
+      (numberOf said ≡ 0)
+      × (answerLeft said answer ≡ answerBytes p over answer)
+      × (listLeft said list ≡ revokeBytes p over list)
+      × (failuresLeft said failures ≡ failuresBytes p over failures))
   -- a revoke is listed exactly when it is one
   pub revokes : (p : Parts) (r : Revoke) → List·Memᴰ r (revokesOf p) ↔ RevokeOf p r
+  -- a play is in the fourth slice exactly when it is against 50C or 50D1
+  pub failures : (p : Parts) (f : Failure) → List·Memᴰ f (failuresOf p) ↔ FailureOf p f
 
 -- the answer's bits behind board and table, read as numbers, where there is a contract
 pub record ContractBits (p : Parts) : Type 0 where

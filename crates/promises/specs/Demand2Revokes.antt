@@ -1,17 +1,20 @@
--- Demand 2, the revoke list: each byte read back, and the list in order of play with each revoke in it once.
+-- Demand 2, the revoke list and the fourth slice: each entry read back, and both in order of play with each entry in them once.
 -- Assumes nothing.
-use Prim.Native.Nat.{ℕ, _+_, _*_, _≤_, _<_}
+use Prim.Native.Nat.{ℕ, suc, _+_, _*_, _≤_, _<_}
 use mathlib.Core.Path.{_≡_}
-use mathlib.Core.Logic.{_↔_}
-use mathlib.Core.List.{List, [], _∷_, _++_, map, List·Memᴰ}
-use lib.ListN.{length, getD}
-use Rattle.laws.specs.Law61.{Revoke, RevokedAt, revokeAt}
+use mathlib.Core.Logic.{_↔_, _⊎_}
+use mathlib.Core.List.{List, [], _∷_, _++_, map, reverse, List·Memᴰ}
+use lib.ListN.{length, getD, take, drop}
+use Rattle.laws.specs.Law61.{Revoke}
+use Rattle.laws.specs.Events.{Event, played, exposed, choice}
+use Rattle.laws.specs.LeadRevoke.{revokeBy, RevokedBy}
+use Rattle.laws.specs.Failures.{Failure, failureBy, Against50C, Against50D1}
 use Rattle.laws.specs.Record.{Parts}
 use Rattle.laws.specs.Reading.{numberAt}
-use Rattle.laws.specs.Judgement.{trumpOf, openingOf, revokesOf, revokeBytes}
-use Rattle.laws.specs.Lawful.{firstOf, Lawful}
+use Rattle.laws.specs.Judgement.{trumpOf, openingOf, revokesOf, revokeBytes, failuresOf, failuresBytes}
+use Rattle.laws.specs.Lawful.{Lawful}
 
--- the byte behind those of `before` gives a revoke: its trick by 4 bits, its seat by 2, the suit led by 2
+-- the byte behind those of `before` gives a revoke: its trick by 4 bits, its seat by 2, its suit by 2
 pub record ByteBits (p : Parts) (before : List Revoke) (r : Revoke) : Type 0 where
   pub trick : numberAt (revokeBytes p) (8 * length before) 4 ≡ r .trick
   pub trick-from : 1 ≤ r .trick
@@ -19,22 +22,62 @@ pub record ByteBits (p : Parts) (before : List Revoke) (r : Revoke) : Type 0 whe
   pub seat : numberAt (revokeBytes p) (8 * length before + 4) 2 ≡ r .seat
   pub suit : numberAt (revokeBytes p) (8 * length before + 6) 2 ≡ r .suit
 
--- the card at a place of the play, counted from 0, was a revoke: the seat at turn held a card of the suit led and played another suit
+-- the two bytes behind those of `before` give a play against 50C or 50D1: its trick by 4 bits, its seat by 2, the card by 6, and four zeros
+pub record PairBits (p : Parts) (before : List Failure) (f : Failure) : Type 0 where
+  pub trick : numberAt (failuresBytes p) (16 * length before) 4 ≡ f .trick
+  pub trick-from : 1 ≤ f .trick
+  pub trick-to : f .trick ≤ 12
+  pub seat : numberAt (failuresBytes p) (16 * length before + 4) 2 ≡ f .seat
+  pub card : numberAt (failuresBytes p) (16 * length before + 6) 6 ≡ f .card
+  pub zeros : numberAt (failuresBytes p) (16 * length before + 12) 4 ≡ 0
+
+-- the events before a place of the plays, counted from 0, latest first, and the event there
+abbrev pub eventsBefore : Parts → ℕ → List Event
+eventsBefore p k = reverse (take k (p .plays))
+
+-- the play at a place, codes counted too, was the card, and a revoke: the seat at turn held a card of the suit led and played another suit, or it led otherwise
+-- than declarer's choice asked for, and could have obeyed it
 pub record RevokedAtPlace (p : Parts) (k : ℕ) : Type 0 where
-  pub played : k < length (p .cards)
-  pub revoked : RevokedAt (trumpOf p) (openingOf p) (p .deal) (firstOf k (p .cards)) (getD (p .cards) k 0)
+  pub card : ℕ
+  pub there : drop k (p .plays) ≡ played card ∷ drop (suc k) (p .plays)
+  pub revoked : RevokedBy (trumpOf p) (openingOf p) (p .deal) (eventsBefore p k) card
+
+-- the play at a place was the card, and against 50C or 50D1
+pub record FailedAtPlace (p : Parts) (k : ℕ) : Type 0 where
+  pub card : ℕ
+  pub there : drop k (p .plays) ≡ played card ∷ drop (suc k) (p .plays)
+  pub against : Against50C (trumpOf p) (openingOf p) (p .deal) (eventsBefore p k) card
+      ⊎ Against50D1 (trumpOf p) (openingOf p) (p .deal) (eventsBefore p k) card
 
 -- each member is below all those behind it
 unfoldable pub Rising : List ℕ → Type 0
 Rising [] = Unit {0}
 Rising (k ∷ ks) = ((m : ℕ) → List·Memᴰ m ks → k < m) × Rising ks
 
+-- the card that plays begin with; 0 where a code is first, or nothing
+unfoldable pub firstCard : List Event → ℕ
+firstCard [] = 0
+firstCard (played c ∷ plays) = c
+firstCard (exposed c deliberate ∷ plays) = 0
+firstCard (choice kind suit ∷ plays) = 0
+
+-- the card at a place of the plays
+abbrev pub cardAt : Parts → ℕ → ℕ
+cardAt p k = firstCard (drop k (p .plays))
+
 -- the places of the revokes, rising, and the list has their revokes one for one
 pub record InOrder (p : Parts) : Type 0 where
   pub places : List ℕ
   pub exactly : (k : ℕ) → List·Memᴰ k places ↔ RevokedAtPlace p k
   pub rising : Rising places
-  pub listed : revokesOf p ≡ map (λ k. revokeAt (trumpOf p) (openingOf p) (firstOf k (p .cards))) places
+  pub listed : revokesOf p ≡ map (λ k. revokeBy (trumpOf p) (openingOf p) (eventsBefore p k) (cardAt p k)) places
+
+-- the same of the plays against 50C or 50D1
+pub record FailuresInOrder (p : Parts) : Type 0 where
+  pub places : List ℕ
+  pub exactly : (k : ℕ) → List·Memᴰ k places ↔ FailedAtPlace p k
+  pub rising : Rising places
+  pub listed : failuresOf p ≡ map (λ k. failureBy (trumpOf p) (openingOf p) (eventsBefore p k) (cardAt p k)) places
 
 pub record Demand2Revokes : Type 0 where
   -- no part of a revoke is cut: read back, each byte gives its trick, seat and suit
@@ -43,3 +86,15 @@ pub record Demand2Revokes : Type 0 where
   pub in-order : (p : Parts) → InOrder p
   -- no two entries of the list are the same
   pub once : (p : Parts) (before : List Revoke) (r : Revoke) (behind : List Revoke) → revokesOf p ≡ before ++ (r ∷ behind) → List·Memᴰ r behind → ⊥
+
+pub record Demand2Failures : Type 0 where
+  -- at most 24, and behind their bytes the rest of the 52 is zero
+  pub at-most-24 : (p : Parts) → Lawful p → length (failuresOf p) ≤ 24
+  pub bytes-52 : (p : Parts) → length (failuresBytes p) ≡ 52
+  pub rest-zero : (p : Parts) → Lawful p → (i : ℕ) → 2 * length (failuresOf p) ≤ i → getD (failuresBytes p) i 0 ≡ 0
+  -- no part of an entry is cut: read back, its two bytes give its trick, seat and card
+  pub pairs : (p : Parts) → Lawful p → (before : List Failure) (f : Failure) (behind : List Failure) → failuresOf p ≡ before ++ (f ∷ behind)
+      → PairBits p before f
+  -- they are in order of play, each once
+  pub in-order : (p : Parts) → FailuresInOrder p
+  pub once : (p : Parts) (before : List Failure) (f : Failure) (behind : List Failure) → failuresOf p ≡ before ++ (f ∷ behind) → List·Memᴰ f behind → ⊥

@@ -8,7 +8,7 @@ use lib.IntN.{ℤ, pos, negℤ}
 use Rattle.laws.specs.Refusals.{Answer, answered}
 use Rattle.laws.specs.Cards.{clubs, diamonds, spades, notrump, north, east, south, west}
 use Rattle.laws.specs.Auction.{pass, isOver}
-use Rattle.laws.specs.Law61.{Revoke}
+use Rattle.laws.specs.LeadRevoke.{Counted}
 use Rattle.laws.specs.Law64.{transferredTricks}
 use Rattle.laws.specs.Law77.{Stake, declarerScore}
 use Rattle.laws.specs.Law78.{imps, nsMatchpoints}
@@ -26,11 +26,11 @@ abbrev pub field : List ℤ
 field = pos 420 ∷ pos 420 ∷ negℤ (pos 50) ∷ pos 450 ∷ []
 
 -- South declares, North is dummy, East and West defend; nothing is claimed
-abbrev pub transferred : List ℕ → List Revoke → ℕ
+abbrev pub transferred : List ℕ → List Counted → ℕ
 transferred winners revokes = transferredTricks north winners (λ side. 0) revokes
 
-abbrev pub revoke : ℕ → ℕ → ℕ → Revoke
-revoke trick seat suit = record { trick = trick; seat = seat; suit = suit }
+abbrev pub revoke : ℕ → ℕ → ℕ → Counted
+revoke trick seat suit = record { trick = trick; seat = seat; suit = suit; excused = false }
 
 -- East wins trick 3 and no defender a later one
 abbrev pub onlyThird : List ℕ

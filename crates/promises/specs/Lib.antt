@@ -12,6 +12,7 @@ pub mod Demand2Imps
 pub mod Percentages
 pub mod Writing
 pub mod UnfinishedTrick
+pub mod PenaltyCards
 pub mod TeamMatch
 pub mod Slip
 pub mod BestPlay

@@ -96,12 +96,12 @@ module _ (bytes : List ℕ) {x : Explained} (ex : x ≡ explainedOf (judgeOf byt
       rw (g .2) (parts-short (g .0) (accepted-lawful bytes (g .0) (g .1)))
 
 -- ---- every slip has at most 72 bytes, whatever the bytes that it is of
-number-le : (n : ℕ) → refusesRecord n ≡ true → n ≤ 24
+number-le : (n : ℕ) → refusesRecord n ≡ true → n ≤ 27
 number-le n e =
-    by-test (leb n 24)
-    (λ (q : leb n 24 ≡ true). leb-true n 24 q)
-    (λ (q : leb n 24 ≡ false).
-    let above : 24 < n = leb-false n 24 q in
+    by-test (leb n 27)
+    (λ (q : leb n 27 ≡ true). leb-true n 27 q)
+    (λ (q : leb n 27 ≡ false).
+    let above : 27 < n = leb-false n 27 q in
     not-both (refusesRecord n) e (rw (le-leb 1 n (omega arith), lt-leb n 16 (omega arith), le-leb 23 n (omega arith), q)))
 
 refused-short : (n place : ℕ) → refusesRecord n ≡ true → place < 1024 → length (refusalLine n place) ≤ mostSlipBytes

@@ -1,55 +1,78 @@
 -- What the play tells is what Law 64 counts on: the revokes and the winners of the history. Assumes nothing.
-use Prim.Native.Nat.{ℕ, suc, _≤_, _<_, _+_, _*_, _/_, _%_}
+use Prim.Native.Nat.{ℕ, _≤_, _<_, _+_, _*_, _/_, _%_}
 use mathlib.Core.Path.{_≡_, refl, sym, ap, ap₂, _∙_}
-use mathlib.Core.Bool.{true, false}
+use mathlib.Core.Bool.{Bool, true, false}
 use mathlib.Core.List.{List, [], _∷_, _++_, map}
 use native.Mathlib.Omega.{arith}
+use borrow.Author.Tests.{eqb-false}
+use lib.Dec.{eqb}
 use lib.ListN.{length, take, length-map}
+use Rattle.laws.specs.Choice.{if_then_else_}
 use Rattle.laws.specs.Padded.{padded}
 use Rattle.laws.specs.Cards.{partnerOf, suitOf, cardsDealt}
-use Rattle.laws.specs.Law44.{cardsPlayed, tricksComplete, winners, toPlay, suitLed, trickUnderWay}
-use Rattle.laws.specs.Law61.{Revoke, isRevoke, revokeAt, revokes}
+use Rattle.laws.specs.Law44.{cardsPlayed, tricksComplete, winners}
+use Rattle.laws.specs.Events.{Event, played, exposed, choice, cardsOf, listPlays}
+use Rattle.laws.specs.Law51.{noSuit, required}
+use Rattle.laws.specs.LeadRevoke.{leads, ledAfter, disobeys, listedSuit, revokeBy, Counted, listedAs, countedBy, countedRevokes, allRevokes}
+use Rattle.laws.specs.Kept.{NoneRefused}
 use Rattle.laws.specs.Law64.{transferredTricks}
 use Rattle.laws.specs.Judgement
 use Rattle.laws.proofs.Tests.{by-test}
 use Rattle.laws.proofs.Padded.{padded-back}
 use Rattle.laws.proofs.Revokes.{revoke-exactly}
+use Rattle.laws.proofs.KeptChoices.{kept-choices}
+use Rattle.laws.proofs.LeadRevokes.{following, counted-listed}
+use Rattle.play.specs.Words.{bitOf}
 use Rattle.play.specs.Told.{revokeByte}
-use Rattle.play.specs.History.{AllPlayed, tricksOf, revokesOf, byteOf}
+use Rattle.play.specs.History.{tricksOf, byteOf}
 use Rattle.play.proofs.Holders.{turn-seat}
-use Rattle.play.proofs.Thirteen.{at-most-52, none-on-thirteen}
+use Rattle.play.proofs.Thirteen.{at-most-52}
 use Rattle.play.proofs.Complete.{winners-count}
-use Rattle.play.proofs.Listed.{at-most-36}
-use Rattle.transfer.specs.Inputs.{revokeOf, revokesIn, winnersIn, claimedBy, transferredIn}
+use Rattle.penalty.specs.declared.listed.Listed.{Listed}
+use Rattle.penalty.specs.Listed.{listedOf}
+use Rattle.penalty.proofs.AtMost.{cards-allowed, card-held, at-most-48}
+use Rattle.transfer.specs.Inputs.{countedOf, countedIn, revokesIn, winnersIn, claimedBy, transferredIn}
 
 -- ---- a revoke whose parts fit their bits is read back from its byte
-record Within (r : Revoke) : Type 0 where
+record Within (r : Counted) : Type 0 where
   trick : r .trick < 16
   seat : r .seat < 4
   suit : r .suit < 4
 
-AllWithin : List Revoke → Type 0
+AllWithin : List Counted → Type 0
 AllWithin [] = Unit {0}
 AllWithin (r ∷ rs) = Within r × AllWithin rs
 
-same-revoke : (r s : Revoke) → r .trick ≡ s .trick → r .seat ≡ s .seat → r .suit ≡ s .suit → r ≡ s
-same-revoke r s e f g = rw (← e, ← f, ← g)
+same-counted : (r s : Counted) → r .trick ≡ s .trick → r .seat ≡ s .seat → r .suit ≡ s .suit → r .excused ≡ s .excused → r ≡ s
+same-counted r s e f g h = rw (← e, ← f, ← g, ← h)
 
-byte-back : (r : Revoke) → Within r → revokeOf (byteOf r) ≡ r
+bit-back : (b : Bool) → eqb (bitOf b) 1 ≡ b
+bit-back true = refl
+bit-back false = refl
+
+byte-back : (r : Counted) → Within r → countedOf (byteOf (listedAs r)) (bitOf (r .excused)) ≡ r
 unfolding revokeByte
-byte-back r w = same-revoke (revokeOf (byteOf r)) r (omega (arith, w)) (omega (arith, w)) (omega (arith, w))
+byte-back r w =
+    same-counted (countedOf (byteOf (listedAs r)) (bitOf (r .excused))) r (omega (arith, w)) (omega (arith, w)) (omega (arith, w)) (bit-back (r .excused))
 
-bytes-back : (rs : List Revoke) → AllWithin rs → map revokeOf (map byteOf rs) ≡ rs
-unfolding AllWithin
-bytes-back [] w = refl
-bytes-back (r ∷ rs) w = ap₂ (λ (x : Revoke) (xs : List Revoke). x ∷ xs) (byte-back r (w .0)) (bytes-back rs (w .1))
+-- the bytes of revokes, and their bits
+abbrev bytesFor : List Counted → List ℕ
+bytesFor rs = map byteOf (map listedAs rs)
 
-plain : (rs : List Revoke) → AllWithin rs → map byteOf rs ≡ map Judgement.revokeByte rs
+abbrev bitsFor : List Counted → List ℕ
+bitsFor rs = map (λ (r : Counted). bitOf (r .excused)) rs
+
+counted-back : (rs : List Counted) → AllWithin rs → countedIn (bytesFor rs) (bitsFor rs) ≡ rs
+unfolding AllWithin countedIn
+counted-back [] w = refl
+counted-back (r ∷ rs) w = ap₂ (λ (x : Counted) (xs : List Counted). x ∷ xs) (byte-back r (w .0)) (counted-back rs (w .1))
+
+plain : (rs : List Counted) → AllWithin rs → bytesFor rs ≡ map Judgement.revokeByte (map listedAs rs)
 unfolding AllWithin revokeByte Judgement.revokeByte
 plain [] w = refl
 plain (r ∷ rs) w = ap₂ (λ (x : ℕ) (xs : List ℕ). x ∷ xs) (omega (arith, w .0)) (plain rs (w .1))
 
-all-append : (rs ss : List Revoke) → AllWithin rs → AllWithin ss → AllWithin (rs ++ ss)
+all-append : (rs ss : List Counted) → AllWithin rs → AllWithin ss → AllWithin (rs ++ ss)
 unfolding AllWithin
 all-append [] ss v w = w
 all-append (r ∷ rs) ss v w = (v .0, all-append rs ss (v .1) w)
@@ -58,44 +81,76 @@ few-winners : (trump opening : ℕ) (g : List ℕ) → cardsPlayed g ≤ 52 → 
 unfolding tricksComplete
 few-winners trump opening g h = omega (arith, winners-count trump opening g)
 
+module _ (deal : List ℕ) (trump opening : ℕ) where
+  -- the revokes of a history as the code lists them
+  abbrev pub listedFor : List Event → Listed
+  listedFor e = listedOf (map byteOf (allRevokes trump opening deal e)) (map (λ (r : Counted). bitOf (r .excused)) (countedRevokes trump opening deal e))
+
 module _ (deal : List ℕ) (trump opening : ℕ) (all : length deal ≡ 52) (dealt : (seat : ℕ) → seat < 4 → cardsDealt seat deal ≡ 13) where
-  revoke-within : (c : ℕ) (g : List ℕ) → AllPlayed deal trump opening (c ∷ g) → isRevoke trump opening deal g c ≡ true → Within (revokeAt trump opening g)
-  unfolding revokeAt
-  revoke-within c g w q =
-      let r = revoke-exactly trump opening deal g c .0 q in
-      let few = none-on-thirteen deal trump opening all dealt c g w q in
-      record { trick = omega arith; seat = turn-seat trump opening g; suit = omega (arith, r .could-card, r .could-suit) }
+  -- a revoke is listed with one of the four suits
+  suit-low : (c : ℕ) (e : List Event) → NoneRefused trump opening deal (played c ∷ e) → disobeys trump opening deal e c ≡ true → listedSuit e c < 4
+  unfolding listedSuit NoneRefused
+  suit-low c e w q =
+      by-test (leads e)
+      (λ (l : leads e ≡ true). rw l (by-test (eqb (required e) noSuit)
+      (λ (n : eqb (required e) noSuit ≡ true). rw n (omega (arith, card-held deal trump opening c e w .0)))
+      (λ (n : eqb (required e) noSuit ≡ false). rw n (kept-choices trump opening deal e (w .1) .required-suit (eqb-false (required e) noSuit n)))))
+      (λ (l : leads e ≡ false).
+      let r = revoke-exactly trump opening deal (cardsOf e) c .0 (sym (following trump opening deal e c l) ∙ q) in
+      rw l (omega (arith, r .could-card, r .could-suit)))
 
-  all-within : (g : List ℕ) → AllPlayed deal trump opening g → AllWithin (revokes trump opening deal g)
-  unfolding AllPlayed AllWithin revokes
+  revoke-within : (c : ℕ) (e : List Event) → NoneRefused trump opening deal (played c ∷ e) → disobeys trump opening deal e c ≡ true
+      → Within (countedBy trump opening deal e c)
+  unfolding countedBy revokeBy cardsOf cardsPlayed tricksComplete
+  revoke-within c e w q =
+      let few = at-most-52 deal trump opening all (c ∷ cardsOf e) (cards-allowed deal trump opening (played c ∷ e) w) in
+      record { trick = omega arith; seat = turn-seat trump opening (cardsOf e); suit = suit-low c e w q }
+
+  all-within : (e : List Event) → NoneRefused trump opening deal e → AllWithin (countedRevokes trump opening deal e)
+  unfolding NoneRefused AllWithin countedRevokes listPlays
   all-within [] w = tt
-  all-within (c ∷ g) w =
-      by-test (isRevoke trump opening deal g c)
-      (λ (q : isRevoke trump opening deal g c ≡ true). rw q (all-append (revokes trump opening deal g) _ (all-within g (w .1)) (revoke-within c g w q, tt)))
-      (λ (q : isRevoke trump opening deal g c ≡ false). rw q (all-append (revokes trump opening deal g) [] (all-within g (w .1)) tt))
+  all-within (played c ∷ e) w =
+      by-test (disobeys trump opening deal e c)
+      (λ (q : disobeys trump opening deal e c ≡ true).
+      rw q (all-append (countedRevokes trump opening deal e) _ (all-within e (w .1)) (revoke-within c e w q, tt)))
+      (λ (q : disobeys trump opening deal e c ≡ false). rw q (all-append (countedRevokes trump opening deal e) [] (all-within e (w .1)) tt))
+  all-within (exposed c deliberate ∷ e) w = all-within e (w .1)
+  all-within (choice kind suit ∷ e) w = all-within e (w .1)
 
-  -- the list of revokes, read back, is the Laws'
-  pub revokes-back : (g : List ℕ) → AllPlayed deal trump opening g → revokesIn (revokesOf deal trump opening g) ≡ revokes trump opening deal g
-  unfolding revokesIn revokesOf
-  revokes-back g w =
-      let rs = revokes trump opening deal g in
-      let n = length-map rs byteOf in
-      rw (padded-back 0 36 (map byteOf rs) (omega (arith, at-most-36 deal trump opening all dealt g w)))
-      (bytes-back rs (all-within g w))
+  module _ (e : List Event) (w : NoneRefused trump opening deal e) where
+    abbrev cs : List Counted
+    cs = countedRevokes trump opening deal e
 
-  pub winners-back : (g : List ℕ) → AllPlayed deal trump opening g → winnersIn (tricksOf trump opening g) ≡ winners trump opening g
-  unfolding winnersIn tricksOf
-  winners-back g w =
-      padded-back 0 13 (winners trump opening g) (few-winners trump opening g (at-most-52 deal trump opening all g w))
+    bytes-is : map byteOf (allRevokes trump opening deal e) ≡ bytesFor cs
+    bytes-is = ap (map byteOf) (sym (counted-listed trump opening deal e))
 
-  -- the theorem: the count on what the play tells is Law 64 on the history
-  pub transferred-law : (g : List ℕ) → AllPlayed deal trump opening g → (declarer claim left : ℕ)
-      → transferredIn (revokesOf deal trump opening g) (tricksOf trump opening g) declarer claim left
-      ≡ transferredTricks (partnerOf declarer) (winners trump opening g) (claimedBy declarer claim left) (revokes trump opening deal g)
-  unfolding transferredIn
-  transferred-law g w declarer claim left = rw (revokes-back g w, winners-back g w)
+    as-many : length (bytesFor cs) ≡ length (bitsFor cs)
+    as-many =
+        length-map (map listedAs cs) byteOf ∙ length-map cs listedAs ∙ sym (length-map cs (λ (r : Counted). bitOf (r .excused)))
 
-  -- the bytes of the list are the revokes' numbers as they are, since each part fits its bits
-  pub plain-bytes : (g : List ℕ) → AllPlayed deal trump opening g
-      → map byteOf (revokes trump opening deal g) ≡ map Judgement.revokeByte (revokes trump opening deal g)
-  plain-bytes g w = plain (revokes trump opening deal g) (all-within g w)
+    few : length (bytesFor cs) ≤ 48
+    few = rw (← bytes-is, length-map (allRevokes trump opening deal e) byteOf) (at-most-48 deal trump opening all dealt e w)
+
+    -- the list of revokes, read back, is the Laws'
+    pub revokes-back : revokesIn (listedFor deal trump opening e) ≡ cs
+    unfolding revokesIn
+    revokes-back =
+        let free : take (length (bytesFor cs)) (padded 0 48 (bitsFor cs)) ≡ bitsFor cs = rw as-many (padded-back 0 48 (bitsFor cs) (rw (← as-many) few)) in
+        rw (bytes-is, padded-back 0 48 (bytesFor cs) few, free) (counted-back cs (all-within e w))
+
+    pub winners-back : winnersIn (tricksOf trump opening (cardsOf e)) ≡ winners trump opening (cardsOf e)
+    unfolding winnersIn tricksOf
+    winners-back =
+        let g = cardsOf e in
+        padded-back 0 13 (winners trump opening g) (few-winners trump opening g (at-most-52 deal trump opening all g (cards-allowed deal trump opening e w)))
+
+    -- the theorem: the count on what the play tells is Law 64 on the history
+    pub transferred-law : (declarer claim left : ℕ)
+        → transferredIn (listedFor deal trump opening e) (tricksOf trump opening (cardsOf e)) declarer claim left
+        ≡ transferredTricks (partnerOf declarer) (winners trump opening (cardsOf e)) (claimedBy declarer claim left) cs
+    unfolding transferredIn
+    transferred-law declarer claim left = rw (revokes-back, winners-back)
+
+    -- the bytes of the list are the revokes' numbers as they are, since each part fits its bits
+    pub plain-bytes : map byteOf (allRevokes trump opening deal e) ≡ map Judgement.revokeByte (allRevokes trump opening deal e)
+    plain-bytes = bytes-is ∙ plain cs (all-within e w) ∙ ap (map Judgement.revokeByte) (counted-listed trump opening deal e)

@@ -2,7 +2,7 @@
 use Prim.Native.Nat.{ℕ, zero, suc, _≤_, _<_, _+_, _-_, _/_, _%_, min}
 use mathlib.Core.Path.{_≡_, refl, sym, ap, _∙_}
 use mathlib.Core.Bool.{Bool, true, false, _&&_, _||_}
-use mathlib.Core.List.{List, [], _∷_, map}
+use mathlib.Core.List.{List, [], _∷_}
 use native.Mathlib.Omega.{arith}
 use native.Mathlib.Numerals.{add-one}
 use borrow.Author.Tests.{eqb-true, eq-eqb}
@@ -12,13 +12,13 @@ use lib.Seq.{drop-cons, getD-take}
 use Rattle.laws.specs.Choice.{if_then_else_, some, howMany}
 use Rattle.laws.specs.Cards.{noSeat}
 use Rattle.laws.specs.Law44.{tricksWon}
-use Rattle.laws.specs.Law61.{Revoke}
+use Rattle.laws.specs.LeadRevoke.{Counted}
 use Rattle.laws.specs.Law64.{repeated, sideRevoked}
 use Rattle.laws.proofs.Tests.{same-test, and-left, and-right, and-both}
 use Rattle.laws.proofs.Counts.{any-default}
 use Rattle.play.specs.declared.Tricks.{Tricks}
-use Rattle.play.specs.declared.Revokes.{Revokes}
-use Rattle.transfer.specs.Inputs.{revokeOf, revokesIn, winnersIn, earlier}
+use Rattle.penalty.specs.declared.listed.Listed.{Listed}
+use Rattle.transfer.specs.Inputs.{countedOf, countedAt, countedIn, revokesIn, winnersIn, earlier}
 
 -- ---- the first n of a list, from a place on
 from-place : (l : List ℕ) (n i : ℕ) → i < length l → i < n → drop i (take n l) ≡ getD l i 0 ∷ drop (suc i) (take n l)
@@ -30,24 +30,32 @@ past-end [] (suc i) h = refl
 past-end (x ∷ l) zero h = absurd (omega arith)
 past-end (x ∷ l) (suc i) h = past-end l i (omega arith)
 
-drop-map : {A B : Type 0} (f : A → B) (i : ℕ) (l : List A) → drop i (map f l) ≡ map f (drop i l)
-drop-map f zero l = refl
-drop-map f (suc i) [] = refl
-drop-map f (suc i) (x ∷ l) = drop-map f i l
+drop-counted : (i : ℕ) (bytes free : List ℕ) → length bytes ≡ length free → drop i (countedIn bytes free) ≡ countedIn (drop i bytes) (drop i free)
+unfolding countedIn
+drop-counted zero bytes free e = refl
+drop-counted (suc i) [] free e = refl
+drop-counted (suc i) (b ∷ bytes) [] e = absurd (omega arith)
+drop-counted (suc i) (b ∷ bytes) (f ∷ free) e = drop-counted i bytes free (omega arith)
 
-module _ (rs : Revokes) (all : length (rs .list) ≡ 36) where
-  pub next-revoke : (i : ℕ) → i < min (rs .count) 36 → drop i (revokesIn rs) ≡ revokeOf (getD (rs .list) i 0) ∷ drop (suc i) (revokesIn rs)
-  unfolding revokesIn
+module _ (rs : Listed) (all : length (rs .list) ≡ 48) (free : length (rs .excused) ≡ 48) where
+  same-length : length (take (rs .count) (rs .list)) ≡ length (take (rs .count) (rs .excused))
+  same-length = rw (length-take (rs .count) (rs .list), length-take (rs .count) (rs .excused), all, free)
+
+  pub next-revoke : (i : ℕ) → i < min (rs .count) 48 → drop i (revokesIn rs) ≡ countedAt rs i ∷ drop (suc i) (revokesIn rs)
+  unfolding revokesIn countedIn
   next-revoke i h =
-      let l = take (rs .count) (rs .list) in
-      drop-map revokeOf i l ∙ ap (map revokeOf) (from-place (rs .list) (rs .count) i (omega arith) (omega arith))
-      ∙ ap (λ (m : List Revoke). revokeOf (getD (rs .list) i 0) ∷ m) (sym (drop-map revokeOf (suc i) l))
+      drop-counted i (take (rs .count) (rs .list)) (take (rs .count) (rs .excused)) same-length
+      ∙ rw (
+        from-place (rs .list) (rs .count) i (omega arith) (omega arith),
+        from-place (rs .excused) (rs .count) i (omega arith) (omega arith),
+      )
+      (ap (λ (m : List Counted). countedAt rs i ∷ m) (sym (drop-counted (suc i) (take (rs .count) (rs .list)) (take (rs .count) (rs .excused)) same-length)))
 
-  pub revokes-end : (i : ℕ) → min (rs .count) 36 ≤ i → drop i (revokesIn rs) ≡ []
-  unfolding revokesIn
+  pub revokes-end : (i : ℕ) → min (rs .count) 48 ≤ i → drop i (revokesIn rs) ≡ []
+  unfolding revokesIn countedIn
   revokes-end i h =
-      let l = take (rs .count) (rs .list) in
-      drop-map revokeOf i l ∙ ap (map revokeOf) (past-end l i (rw (length-take (rs .count) (rs .list)) (omega arith)))
+      drop-counted i (take (rs .count) (rs .list)) (take (rs .count) (rs .excused)) same-length
+      ∙ rw (past-end (take (rs .count) (rs .list)) i (rw (length-take (rs .count) (rs .list)) (omega arith)))
 
 module _ (ts : Tricks) (all : length (ts .winners) ≡ 13) where
   pub next-winner : (i : ℕ) → i < min (ts .count) 13 → drop i (winnersIn ts) ≡ getD (ts .winners) i 0 ∷ drop (suc i) (winnersIn ts)
@@ -70,23 +78,24 @@ same-low a b =
     let low = eqb-true (a % 16) (b % 16) e in
     and-both (eqb (a / 4 % 4) (b / 4 % 4)) (eqb (a % 4) (b % 4)) (eq-eqb (a / 4 % 4) (b / 4 % 4) (omega arith)) (eq-eqb (a % 4) (b % 4) (omega arith)))
 
-pub none-before : (byte : ℕ) (l : List ℕ) → repeated (earlier 0 l) (revokeOf byte) ≡ false
+pub none-before : (l free : List ℕ) (r : Counted) → repeated (earlier 0 l free) r ≡ false
 unfolding repeated some earlier
-none-before byte l = refl
+none-before l free r = refl
 
-pub one-before : (byte j : ℕ) (l : List ℕ)
-    → repeated (earlier (suc j) l) (revokeOf byte) ≡ (eqb (getD l j 0 % 16) (byte % 16) || repeated (earlier j l) (revokeOf byte))
+pub one-before : (byte f j : ℕ) (l free : List ℕ) → repeated (earlier (suc j) l free) (countedOf byte f)
+    ≡ (eqb (getD l j 0 % 16) (byte % 16) || repeated (earlier j l free) (countedOf byte f))
 unfolding repeated some earlier
-one-before byte j l = rw (same-low (getD l j 0) byte)
+one-before byte f j l free = rw (same-low (getD l j 0) byte)
 
 -- ---- a side's revokes and tricks from a place on
 pub side-none : (side : ℕ) → sideRevoked side [] ≡ false
 unfolding sideRevoked some
 side-none side = refl
 
-pub side-next : (side byte : ℕ) (rest : List Revoke) → sideRevoked side (revokeOf byte ∷ rest) ≡ (eqb (byte / 4 % 2) side || sideRevoked side rest)
+pub side-next : (side byte free : ℕ) (rest : List Counted)
+    → sideRevoked side (countedOf byte free ∷ rest) ≡ (eqb (byte / 4 % 2) side || sideRevoked side rest)
 unfolding sideRevoked some
-side-next side byte rest = let e : byte / 4 % 4 % 2 ≡ byte / 4 % 2 = omega arith in rw e
+side-next side byte free rest = let e : byte / 4 % 4 % 2 ≡ byte / 4 % 2 = omega arith in rw e
 
 pub won-none : (side : ℕ) → tricksWon side [] ≡ 0
 unfolding tricksWon howMany
@@ -97,20 +106,21 @@ unfolding tricksWon howMany
 won-next side seat rest = refl
 
 -- the place before a place that is not the first
-pub place-before : (byte j : ℕ) (l : List ℕ) → 0 < j
-    → repeated (earlier j l) (revokeOf byte) ≡ (eqb (getD l (j - 1) 0 % 16) (byte % 16) || repeated (earlier (j - 1) l) (revokeOf byte))
-place-before byte zero l h = absurd (omega arith)
-place-before byte (suc j) l h = let e : suc j - 1 ≡ j = omega arith in rw e (one-before byte j l)
+pub place-before : (byte f j : ℕ) (l free : List ℕ) → 0 < j
+    → repeated (earlier j l free) (countedOf byte f) ≡ (eqb (getD l (j - 1) 0 % 16) (byte % 16) || repeated (earlier (j - 1) l free) (countedOf byte f))
+place-before byte f zero l free h = absurd (omega arith)
+place-before byte f (suc j) l free h = let e : suc j - 1 ≡ j = omega arith in rw e (one-before byte f j l free)
 
 -- ---- the same at a place of the arrays
-module _ (rs : Revokes) (all : length (rs .list) ≡ 36) where
-  pub side-at : (side i : ℕ) → i < min (rs .count) 36
+module _ (rs : Listed) (all : length (rs .list) ≡ 48) (free : length (rs .excused) ≡ 48) where
+  pub side-at : (side i : ℕ) → i < min (rs .count) 48
       → sideRevoked side (drop i (revokesIn rs)) ≡ (eqb (getD (rs .list) i 0 / 4 % 2) side || sideRevoked side (drop (i + 1) (revokesIn rs)))
   side-at side i h =
-      ap (sideRevoked side) (next-revoke rs all i h) ∙ side-next side (getD (rs .list) i 0) (drop (suc i) (revokesIn rs)) ∙ rw add-one
+      ap (sideRevoked side) (next-revoke rs all free i h)
+      ∙ side-next side (getD (rs .list) i 0) (getD (rs .excused) i 0) (drop (suc i) (revokesIn rs)) ∙ rw add-one
 
-  pub side-end : (side i : ℕ) → min (rs .count) 36 ≤ i → sideRevoked side (drop i (revokesIn rs)) ≡ false
-  side-end side i h = ap (sideRevoked side) (revokes-end rs all i h) ∙ side-none side
+  pub side-end : (side i : ℕ) → min (rs .count) 48 ≤ i → sideRevoked side (drop i (revokesIn rs)) ≡ false
+  side-end side i h = ap (sideRevoked side) (revokes-end rs all free i h) ∙ side-none side
 
 module _ (ts : Tricks) (all : length (ts .winners) ≡ 13) where
   pub won-at : (side i : ℕ) → i < min (ts .count) 13

@@ -2,19 +2,19 @@
 -- Assumes nothing.
 use Prim.Native.Nat.{ℕ}
 use mathlib.Core.Path.{_≡_}
-use mathlib.Core.Bool.{true, _||_}
+use mathlib.Core.Bool.{true}
 use mathlib.Core.List.{List, [], _∷_}
 use lib.Dec.{eqb}
 use Rattle.laws.specs.Choice.{if_then_else_}
-use Rattle.laws.specs.Law61.{Revoke}
-use Rattle.laws.specs.Law64.{Due, repeated}
+use Rattle.laws.specs.LeadRevoke.{Counted}
+use Rattle.laws.specs.Law64.{Due, isExempt}
 
 -- the tricks that the offending side won from its first rectified revoke on; 0 where none is rectified
 unfoldable pub wonFromFirst : List Due → ℕ
 wonFromFirst [] = 0
 wonFromFirst (d ∷ ds) = if eqb (d .tricks) 0 then wonFromFirst ds else d .available
 
--- every revoke of a list, after those before it, is dummy's, on trick 12 or a repeat
-unfoldable pub AllExempt : ℕ → List Revoke → List Revoke → Type 0
+-- every revoke of a list, after those before it, is exempt: dummy's, on trick 12, a repeat, or excused
+unfoldable pub AllExempt : ℕ → List Counted → List Counted → Type 0
 AllExempt dummy before [] = Unit {0}
-AllExempt dummy before (r ∷ rs) = ((eqb (r .seat) dummy || (eqb (r .trick) 12 || repeated before r)) ≡ true) × AllExempt dummy (r ∷ before) rs
+AllExempt dummy before (r ∷ rs) = (isExempt dummy before r ≡ true) × AllExempt dummy (r ∷ before) rs

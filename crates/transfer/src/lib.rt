@@ -1,14 +1,16 @@
 // Law 64: the tricks that change sides for the revokes of a board, counted from the last revoke to the first.
-use play::Revokes;
+use penalty::Listed;
 use play::Tricks;
 ghost use mathlib.Core.Path.{_≡_};
-ghost use Prim.Native.Nat.{_<_, _-_, min};
+ghost use mathlib.Core.List.{List};
+ghost use Prim.Native.Nat.{ℕ, _<_, _-_, min};
 ghost use lib.ListN.{getD, drop};
 ghost use Rattle.laws.specs.Cards.{noSeat, sideOf};
 ghost use Rattle.laws.specs.Law44.{tricksWon};
 ghost use Rattle.laws.specs.Law64.{repeated, entitlement, wonFrom, sideRevoked, bothRevoked, tricksAfter};
 ghost use Rattle.transfer.specs.Inputs.{
-  revokeOf,
+  countedOf,
+  countedAt,
   revokesIn,
   winnersIn,
   claimedBy,
@@ -34,9 +36,9 @@ fn one_less(trick: u8) -> u8
 }
 
 // Whether the seat of revoke i has revoked in the same suit before.
-fn is_repeat(list: [u8; 36], i: usize) -> bool
-    requires { ⌜ i < 36 ⌝ }
-    ensures { λ r. ⌜ r ≡ repeated (earlier i list) (revokeOf (getD list i 0)) ⌝ }
+fn is_repeat(list: [u8; 48], i: usize) -> bool
+    requires { ⌜ i < 48 ⌝ }
+    ensures { λ r. ⌜ ((free : List ℕ) (f : ℕ) → r ≡ repeated (earlier i list free) (countedOf (getD list i 0) f)) ⌝ }
 {
     let mine = list[i] % 16;
     let mut j = i;
@@ -61,9 +63,9 @@ fn winner_of(ts: Tricks, trick: u8) -> u8
 }
 
 // The tricks that revoke i entitles the other side to.
-fn entitled(rs: Revokes, ts: Tricks, dummy: u8, i: usize) -> u16
-    requires { ⌜ i < 36 ⌝ }
-    ensures { λ r. ⌜ r ≡ entitlement dummy (winnersIn ts) (earlier i (rs .list)) (revokeOf (getD (rs .list) i 0)) ⌝ }
+fn entitled(rs: Listed, ts: Tricks, dummy: u8, i: usize) -> u16
+    requires { ⌜ i < 48 ⌝ }
+    ensures { λ r. ⌜ r ≡ entitlement dummy (winnersIn ts) (earlier i (rs .list) (rs .excused)) (countedAt rs i) ⌝ }
 {
     let byte = rs.list[i];
     let seat = byte / 4 % 4;
@@ -75,6 +77,9 @@ fn entitled(rs: Revokes, ts: Tricks, dummy: u8, i: usize) -> u16
     }
     let list = rs.list;
     if is_repeat(list, i) {
+        return 0;
+    }
+    if rs.excused[i] == 1 {
         return 0;
     }
     if winner_of(ts, byte / 16) == seat {
@@ -113,10 +118,10 @@ fn claimed_by(declarer: u8, claim: u8, left: u8, side: u8) -> u16
 }
 
 // Whether some revoke is by the side.
-pub fn side_revoked(rs: Revokes, side: u8) -> bool
+pub fn side_revoked(rs: Listed, side: u8) -> bool
     ensures { λ r. ⌜ r ≡ sideRevoked side (revokesIn rs) ⌝ }
 {
-    let end = at_most(rs.count as u16, 36) as usize;
+    let end = at_most(rs.count as u16, 48) as usize;
     let mut i: usize = 0;
     while i < end {
         if rs.list[i] / 4 % 2 == side {
@@ -129,18 +134,18 @@ pub fn side_revoked(rs: Revokes, side: u8) -> bool
 
 // The tricks that a side won from the trick of revoke byte on, claimed ones included.
 fn available(ts: Tricks, declarer: u8, claim: u8, left: u8, byte: u8) -> u16
-    ensures { λ r. ⌜ r ≡ wonFrom (winnersIn ts) (claimedBy declarer claim left) (sideOf (revokeOf byte .seat)) (revokeOf byte .trick) ⌝ }
+    ensures { λ r. ⌜ r ≡ wonFrom (winnersIn ts) (claimedBy declarer claim left) (sideOf (countedOf byte 0 .seat)) (countedOf byte 0 .trick) ⌝ }
 {
     let side = byte / 4 % 4 % 2;
     won_from(ts, side, byte / 16) + claimed_by(declarer, claim, left, side)
 }
 
 // From the last revoke to the first: its tricks are added, up to what its side won from there on.
-fn total(rs: Revokes, ts: Tricks, declarer: u8, claim: u8, left: u8) -> u16
+fn total(rs: Listed, ts: Tricks, declarer: u8, claim: u8, left: u8) -> u16
     ensures { λ r. ⌜ r ≡ totalFrom 0 rs ts declarer claim left ⌝ }
 {
     let dummy = (declarer % 4 + 2) % 4;
-    let mut i = at_most(rs.count as u16, 36) as usize;
+    let mut i = at_most(rs.count as u16, 48) as usize;
     let mut sum: u16 = 0;
     while 0 < i {
         i -= 1;
@@ -152,7 +157,7 @@ fn total(rs: Revokes, ts: Tricks, declarer: u8, claim: u8, left: u8) -> u16
 }
 
 // Whether both sides have revoked.
-fn both_revoked(rs: Revokes) -> bool
+fn both_revoked(rs: Listed) -> bool
     ensures { λ r. ⌜ r ≡ bothRevoked (revokesIn rs) ⌝ }
 {
     if !side_revoked(rs, 0) {
@@ -162,7 +167,7 @@ fn both_revoked(rs: Revokes) -> bool
 }
 
 // The tricks that change sides, where declarer's side claimed so many of the tricks left; without a claim both numbers are 0.
-pub fn transferred(rs: Revokes, ts: Tricks, declarer: u8, claim: u8, left: u8) -> u16
+pub fn transferred(rs: Listed, ts: Tricks, declarer: u8, claim: u8, left: u8) -> u16
     ensures { λ r. ⌜ r ≡ transferredIn rs ts declarer claim left ⌝ }
 {
     if both_revoked(rs) {
@@ -172,7 +177,7 @@ pub fn transferred(rs: Revokes, ts: Tricks, declarer: u8, claim: u8, left: u8) -
 }
 
 // Declarer's tricks after the transfer.
-pub fn tricks_after(rs: Revokes, declarer: u8, won: u16, moved: u16) -> u32
+pub fn tricks_after(rs: Listed, declarer: u8, won: u16, moved: u16) -> u32
     ensures { λ r. ⌜ r ≡ tricksAfter declarer (revokesIn rs) won moved ⌝ }
 {
     if side_revoked(rs, declarer % 2) {

@@ -1,8 +1,9 @@
 // Worked plays, four lines each: the winners of the tricks, the revokes (trick, seat, suit led), the tricks of each side, and what Law 64 makes of a claim.
 // A card is 13 × suit + rank: clubs from 0, diamonds from 13, hearts from 26, spades from 39, the two first. Seats are 0 North to 3 West.
 use libc::STDOUT_FILENO;
+use penalty::Listed;
+use penalty::Table;
 use play::Play;
-use play::Revokes;
 use play::Tricks;
 ghost use Prim.Native.Nat.{_<_};
 
@@ -39,10 +40,10 @@ fn show_winners(ts: Tricks) {
     text(b"\n");
 }
 
-fn show_revokes(rs: Revokes) {
+fn show_revokes(rs: Listed) {
     text(b"revokes");
     let mut i: usize = 0;
-    while i < 36 {
+    while i < 48 {
         if i < rs.count as usize {
             text(b" ");
             let revoke = rs.list[i] as u64;
@@ -72,7 +73,7 @@ fn wide(x: u8) -> u16
 }
 
 // South's claim of so many of the tricks left.
-fn show_claim(ts: Tricks, rs: Revokes, claim: u8, left: u8) {
+fn show_claim(ts: Tricks, rs: Listed, claim: u8, left: u8) {
     let won = wide(ts.won[0]) + wide(claim);
     let moved = transfer::transferred(rs, ts, 2, claim, left);
     text(b"claim ");
@@ -104,7 +105,7 @@ fn show(cards: &[u8], claim: u8, left: u8) {
         i += 1;
     }
     let ts = p.tricks();
-    let rs = p.revokes();
+    let rs = Table::after_cards(p, 3).revokes();
     show_winners(ts);
     show_revokes(rs);
     show_sides(ts);

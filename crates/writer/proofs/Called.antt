@@ -1,4 +1,4 @@
--- The calls and the cards in the code are the Laws' sections of contents: what follows the loops. Assumes nothing.
+-- The calls and the plays in the code are the Laws' sections of contents: what follows the loops. Assumes nothing.
 use Prim.Native.Nat.{ℕ, _≤_, _<_, min}
 use native.Mathlib.Omega.{arith}
 use mathlib.Core.Path.{_≡_, refl, sym, ap, _∙_}
@@ -11,13 +11,13 @@ use Rattle.laws.specs.Choice.{if_then_else_}
 use Rattle.laws.specs.Refusals.{refusalNumber, auctionUnfinished, tooManyCards, tooManyCalls}
 use Rattle.laws.specs.Auction.{isOver}
 use Rattle.laws.specs.CallRefusal.{callRefusal, callPlace}
-use Rattle.laws.specs.CardRefusal.{cardRefusal, cardPlace}
+use Rattle.laws.specs.FlatPlay.{itemsOf, cardsIn}
 use Rattle.laws.specs.Reading.{Reading, Reading.refused, Reading.found, onward, refuse}
-use Rattle.laws.specs.Contents.{takeEach, takeCalls}
+use Rattle.laws.specs.Contents.{takeEach, takeCalls, takeItems}
 use Rattle.laws.proofs.ContentsStop.{each-numbered}
 use Rattle.auction.specs.Asked.{overOf}
 use Rattle.auction.proofs.History.{over-is}
-use Rattle.writer.specs.declared.codes.Calls.{Calls}
+use Rattle.writer.specs.declared.calls.Calls.{Calls}
 use Rattle.writer.specs.Checked.{refusalIn, noCalls, callsBy, cardsBy}
 
 -- a number that is not 0 makes no refusal 0
@@ -81,23 +81,25 @@ pub few-cards : (out : Bool) (n : ℕ) → n ≤ (if out then 0 else 52) → n �
 few-cards true n h = omega arith
 few-cards false n h = h
 
-module _ (out : Bool) (trump opening : ℕ) (deal cards : List ℕ) where
+module _ (out : Bool) (trump opening : ℕ) (deal plays : List ℕ) where
   abbrev most : ℕ
   most = if out then 0 else 52
 
-  pub cards-over : most < length cards → refusalNumber tooManyCards (min (length cards) 63) ≡ refusalIn (cardsBy out trump opening deal cards [] 0)
+  abbrev n : ℕ
+  n = cardsIn plays
+
+  pub cards-over : most < n → refusalNumber tooManyCards (min n 63) ≡ refusalIn (cardsBy out trump opening deal plays [] 0)
   unfolding cardsBy refuse
   cards-over h = rw (over-most out h)
     where
-      over-most : (b : Bool) → (if b then 0 else 52) < length cards → (ltb 52 (length cards) || (b && ltb 0 (length cards))) ≡ true
-      over-most true h = rw (lt-ltb 0 (length cards) h) (or-true (ltb 52 (length cards)))
-      over-most false h = rw (lt-ltb 52 (length cards) h)
+      over-most : (b : Bool) → (if b then 0 else 52) < n → (ltb 52 n || (b && ltb 0 n)) ≡ true
+      over-most true h = rw (lt-ltb 0 n h) (or-true (ltb 52 n))
+      over-most false h = rw (lt-ltb 52 n h)
 
-  pub cards-counted : length cards ≤ most → refusalIn (takeEach cardPlace (cardRefusal trump opening deal) cards [] [] 0)
-      ≡ refusalIn (cardsBy out trump opening deal cards [] 0)
+  pub cards-counted : n ≤ most → refusalIn (takeItems trump opening deal (itemsOf plays) [] [] 0) ≡ refusalIn (cardsBy out trump opening deal plays [] 0)
   unfolding cardsBy refuse
   cards-counted h = rw (within out h)
     where
-      within : (b : Bool) → length cards ≤ (if b then 0 else 52) → (ltb 52 (length cards) || (b && ltb 0 (length cards))) ≡ false
-      within true h = rw (le-ltb 52 (length cards) (omega arith), le-ltb 0 (length cards) h)
-      within false h = rw (le-ltb 52 (length cards) h)
+      within : (b : Bool) → n ≤ (if b then 0 else 52) → (ltb 52 n || (b && ltb 0 n)) ≡ false
+      within true h = rw (le-ltb 52 n (omega arith), le-ltb 0 n h)
+      within false h = rw (le-ltb 52 n h)

@@ -2,20 +2,22 @@
 use Prim.Native.Nat.{ℕ, _≤_, _<_}
 use native.Mathlib.Omega.{arith}
 use mathlib.Core.Path.{_≡_, refl, sym, ap, _∙_}
-use mathlib.Core.List.{List, []}
+use mathlib.Core.List.{List, [], reverse}
 use lib.ListN.{length}
 use Rattle.laws.specs.Law2.{dealer}
 use Rattle.laws.specs.Record.{Parts}
 use Rattle.laws.specs.Reading.{Reading, Reading.refused, Reading.found, onward}
 use Rattle.laws.specs.Judge.{outcome, numberOf}
-use Rattle.laws.specs.Contents.{takeHeading, takeDeal, takeCalls, takeCards, takeClaim, takeParts, contentsOf}
+use Rattle.laws.specs.Events.{Event, cardsOf}
+use Rattle.laws.specs.Contents.{Given, takeHeading, takeDeal, takeCalls, takeCards, takeClaim, takeParts, contentsOf}
 use Rattle.laws.proofs.ContentsStop.{heading-stays, deal-stays, calls-stay}
-use Rattle.laws.proofs.ContentsLawful.{heading-kept}
+use Rattle.laws.proofs.ContentsLawful.{heading-kept, deal-thirteen}
+use Rattle.penalty.specs.History.{ThirteenEach}
 use Rattle.laws.proofs.ContentsNumbered.{sound-heading, sound-deal, sound-calls}
 use Rattle.deal.specs.Hands.{wordsOf}
 use Rattle.auction.specs.Position.{positionOf}
 use Rattle.writer.specs.declared.sections.Deal.{Deal}
-use Rattle.writer.specs.declared.codes.Calls.{Calls}
+use Rattle.writer.specs.declared.calls.Calls.{Calls}
 use Rattle.writer.specs.Checked.{refusalIn, dealBy, callsBy, afterCalls}
 use Rattle.writer.proofs.Composing.{stops-first, passed-on}
 
@@ -32,24 +34,27 @@ number-is : (r : Reading Parts) → numberOf (outcome r) ≡ refusalIn r
 number-is (refused n place) = refl
 number-is (found p m) = refl
 
--- giving the contents at the end refuses nothing
-gives : {A B : Type 0} (p : Parts) (r : Reading A) (s : A → ℕ → Reading B)
-    → refusalIn (onward r (λ a m. onward (s a m) (λ b k. found p k))) ≡ refusalIn (onward r s)
-gives p (refused n place) s = refl
-gives p (found a m) s = last (s a m)
+-- giving the parts at the end refuses nothing
+gives : {A B : Type 0} (f : A → Parts) (r : Reading A) (s : A → ℕ → Reading B)
+    → refusalIn (onward r (λ a m. onward (s a m) (λ b k. found (f a) k))) ≡ refusalIn (onward r s)
+gives f (refused n place) s = refl
+gives f (found a m) s = last (f a) (s a m)
   where
-    last : {B : Type 0} (t : Reading B) → refusalIn (onward t (λ b k. found p k)) ≡ refusalIn t
-    last (refused n place) = refl
-    last (found b k) = refl
+    last : {B : Type 0} (p : Parts) (t : Reading B) → refusalIn (onward t (λ b k. found p k)) ≡ refusalIn t
+    last p (refused n place) = refl
+    last p (found b k) = refl
 
-module _ (p : Parts) where
+module _ (p : Given) where
   abbrev d : ℕ
   d = dealer (p .board)
+
+  abbrev parts : List Event → Parts
+  parts e = record { board = p .board; table = p .table; deal = p .deal; calls = p .calls; plays = reverse e; claim = p .claim }
 
   abbrev afterDeal : ℕ → Reading Parts
   afterDeal from =
       onward (takeCalls d (p .calls) [] from) (λ h m.
-      onward (takeCards d (p .deal) h (p .cards) [] m) (λ g k. onward (takeClaim h g (p .claim) [] k) (λ u i. found p i)))
+      onward (takeCards d (p .deal) h (p .plays) [] m) (λ e k. onward (takeClaim h (cardsOf e) (p .claim) [] k) (λ u i. found (parts e) i)))
 
   abbrev afterHeading : ℕ → Reading Parts
   afterHeading from = onward (takeDeal (p .deal) [] from) (λ u m. afterDeal m)
@@ -94,6 +99,11 @@ module _ (p : Parts) where
           pub hands-are : t .hands ≡ wordsOf (t .holders)
           hands-are = ap (λ (x : Deal). x .hands) as-dealt ∙ ap wordsOf (sym holders-are)
 
+          pub thirteen-are : ThirteenEach (t .holders)
+          thirteen-are =
+              let k = deal-thirteen (p .deal) 0 (dealt .1) in
+              rw holders-are (record { places = k .0; thirteen = k .1 })
+
           whole-calls : numberOf (contentsOf p) ≡ refusalIn (afterDeal 0)
           whole-calls = whole-deal ∙ rw (dealt .1)
 
@@ -116,17 +126,18 @@ module _ (p : Parts) where
                   (ek ∙ ap (λ (s : ℕ). callsBy s (takeCalls s (p .calls) [] 0)) es ∙ ap (callsBy (dealer (p .board))) (called .1))
 
               abbrev afterCalling : List ℕ → Reading Parts
-              afterCalling h = onward (takeCards d (p .deal) h (p .cards) [] 0) (λ g m. onward (takeClaim h g (p .claim) [] m) (λ u i. found p i))
+              afterCalling h =
+                  onward (takeCards d (p .deal) h (p .plays) [] 0) (λ e m. onward (takeClaim h (cardsOf e) (p .claim) [] m) (λ u i. found (parts e) i))
 
               whole-play : {h : List ℕ} → takeCalls (dealer (p .board)) (p .calls) [] 0 ≡ found h 0 → numberOf (contentsOf p) ≡ refusalIn (afterCalling h)
               whole-play q = whole-calls ∙ rw q
 
               pub rest-checked : (r : ℕ)
-                  → ((s : ℕ) (h : List ℕ) → k .after ≡ positionOf s h → r ≡ afterCalls s (t .holders) h (p .cards) (p .claim))
+                  → ((s : ℕ) (h : List ℕ) → k .after ≡ positionOf s h → r ≡ afterCalls s (t .holders) h (p .plays) (p .claim))
                   → r ≡ numberOf (contentsOf p)
               unfolding afterCalls
               rest-checked r f =
                   let h = called .0 in
-                  let same = ap (λ (l : List ℕ). afterCalls (dealer (p .board)) l h (p .cards) (p .claim)) holders-are in
-                  let last = gives p (takeCards (dealer (p .board)) (p .deal) h (p .cards) [] 0) (λ g m. takeClaim h g (p .claim) [] m) in
+                  let same = ap (λ (l : List ℕ). afterCalls (dealer (p .board)) l h (p .plays) (p .claim)) holders-are in
+                  let last = gives parts (takeCards (dealer (p .board)) (p .deal) h (p .plays) [] 0) (λ e m. takeClaim h (cardsOf e) (p .claim) [] m) in
                   f (dealer (p .board)) h position ∙ same ∙ sym last ∙ sym (whole-play (called .1))

@@ -13,28 +13,26 @@ use Rattle.laws.specs.Record.{bits, claimFields, layout, encode}
 use Rattle.laws.proofs.Tests.{by-test}
 use Rattle.laws.proofs.Spelled.{length-packed}
 use Rattle.laws.proofs.Lengths.{layout-bits}
-use Rattle.writer.specs.Given.{claimOf, partsOf, lengthOf}
+use Rattle.writer.specs.Given.{claimOf, partsOf, fieldsOf, lengthOf}
 
-pub unmarked-length : (calls cards marked : ℕ) {a b : ℕ} → marked ≡ 0 → a ≡ min calls 511 → b ≡ min cards 63
-    → (143 + 6 * (a + b)) / 8 ≡ lengthOf calls cards marked
+pub unmarked-length : (calls plays marked : ℕ) {a : ℕ} → marked ≡ 0 → a ≡ min calls 511 → (143 + (6 * a + plays)) / 8 ≡ lengthOf calls plays marked
 unfolding lengthOf
-unmarked-length calls cards marked z e f = rw (eq-eqb marked 0 z, e, f) (omega arith)
+unmarked-length calls plays marked z e = rw (eq-eqb marked 0 z, e) (omega arith)
 
-pub marked-length : (calls cards marked : ℕ) {a b : ℕ} → (marked ≡ 0 → ⊥) → a ≡ min calls 511 → b ≡ min cards 63
-    → (147 + 6 * (a + b)) / 8 ≡ lengthOf calls cards marked
+pub marked-length : (calls plays marked : ℕ) {a : ℕ} → (marked ≡ 0 → ⊥) → a ≡ min calls 511 → (147 + (6 * a + plays)) / 8 ≡ lengthOf calls plays marked
 unfolding lengthOf
-marked-length calls cards marked z e f = rw (ne-eqb marked 0 z, e, f) (omega arith)
+marked-length calls plays marked z e = rw (ne-eqb marked 0 z, e) (omega arith)
 
 claim-bits : (marked tricks : ℕ) → bits (claimFields (claimOf marked tricks)) ≡ (if eqb marked 0 then 1 else 5)
 unfolding claimFields bits
 claim-bits marked tricks =
     by-test (eqb marked 0) (λ (q : eqb marked 0 ≡ true). rw q) (λ (q : eqb marked 0 ≡ false). rw q)
 
--- with 52 holders, and counts that their fields can hold, it is the record's length
-pub length-encoded : (board table : ℕ) (holders calls cards : List ℕ) (marked tricks : ℕ) → length holders ≡ 52 → length calls ≤ 511 → length cards ≤ 63
-    → lengthOf (length calls) (length cards) marked ≡ length (encode (partsOf board table holders calls cards marked tricks))
-unfolding lengthOf encode
-length-encoded board table holders calls cards marked tricks h a b =
-    let p = partsOf board table holders calls cards marked tricks in
+-- with 52 holders, and calls that their count can tell, it is the record's length
+pub length-encoded : (board table : ℕ) (holders calls plays : List ℕ) (marked tricks : ℕ) → length holders ≡ 52 → length calls ≤ 511
+    → lengthOf (length calls) (bits (fieldsOf plays)) marked ≡ length (encode (partsOf board table holders calls plays marked tricks))
+unfolding lengthOf encode fieldsOf
+length-encoded board table holders calls plays marked tricks h a =
+    let p = partsOf board table holders calls plays marked tricks in
     let last = claim-bits marked tricks in
-    rw (min-eq-left a, min-eq-left b, ← last) (omega (arith, length-packed (layout p), layout-bits p))
+    rw (min-eq-left a, ← last) (omega (arith, length-packed (layout p), layout-bits p))

@@ -2,7 +2,10 @@ pub mod Writing
 pub mod Lengths
 pub mod Turns
 pub mod CallTurns
+pub mod Items
+pub mod PlayTurns
 pub mod CardTurns
+pub mod RunTurns
 pub mod Checks
 pub mod Called
 pub mod Composing

@@ -1,14 +1,18 @@
 // A table record written from its contents, given as plain numbers: they are checked in the judge's order, and then written into a lent buffer.
-mod codes;
+mod calls;
+mod plays;
+mod runs;
 mod sections;
 mod write;
 
-use crate::codes::cards_refusal;
-use crate::codes::take_calls;
+use crate::calls::take_calls;
+use crate::plays::count_cards;
+use crate::plays::plays_refusal;
 use crate::sections::claim_refusal;
 use crate::sections::heading_refusal;
 use crate::sections::take_deal;
 use crate::write::length_of;
+use crate::write::play_bits;
 use crate::write::write_contents;
 use auction::Auction;
 use laws::SHORT_RECORD_BUFFER;
@@ -22,8 +26,9 @@ ghost use Rattle.laws.specs.Judge as Judge;
 ghost use Rattle.laws.specs.Writing.{writeOf, numberOf, recordLeft};
 ghost use Rattle.deal.specs.Hands.{wordsOf};
 ghost use Rattle.auction.specs.Position.{positionOf};
+ghost use Rattle.penalty.specs.History.{ThirteenEach};
 ghost use Rattle.writer.specs.Checked.{refusalIn, afterCalls};
-ghost use Rattle.writer.specs.Given.{claimOf, partsOf};
+ghost use Rattle.writer.specs.Given.{claimOf, given};
 
 fn narrow(x: u32) -> u8
     requires { ⌜ x < 256 ⌝ }
@@ -32,25 +37,34 @@ fn narrow(x: u32) -> u8
     x as u8
 }
 
-// The number of the refusal of what follows the calls, 0 for none: the cards and the claim.
+// The number of the refusal of what follows the calls, 0 for none: the plays and the claim.
 fn play_refusal(
     holders: [u8; 52],
     hands: [u64; 4],
     a: Auction,
-    cards: &[u8],
+    plays: &[u8],
     marked: u32,
     claim: u32,
 ) -> u32
-    requires { ⌜ hands ≡ wordsOf holders ⌝ }
-    ensures { λ r. ⌜ ((d : ℕ) (h : List ℕ) → a ≡ positionOf d h → r ≡ afterCalls d holders h (now (cards .entry)) (claimOf marked claim)) ⌝ }
+    requires { ⌜ (hands ≡ wordsOf holders) × ThirteenEach holders ⌝ }
+    ensures { λ r. ⌜ ((d : ℕ) (h : List ℕ) → a ≡ positionOf d h → r ≡ afterCalls d holders h (now (plays .entry)) (claimOf marked claim)) ⌝ }
 {
     let out = a.is_passed_out();
     let k = a.contract();
-    let refusal = cards_refusal(cards, holders, hands, out, k.strain, k.opening_leader());
+    let cards = count_cards(plays);
+    let refusal = plays_refusal(
+        plays,
+        holders,
+        hands,
+        out,
+        k.strain,
+        k.opening_leader(),
+        cards,
+    );
     if refusal != 0 {
         return refusal;
     }
-    claim_refusal(out, cards.len() as u8, marked, claim)
+    claim_refusal(out, cards as u8, marked, claim)
 }
 
 // The number of the refusal of the contents, 0 for none.
@@ -59,12 +73,12 @@ fn contents_refusal(
     table: u32,
     holders: &[u8],
     calls: &[u8],
-    cards: &[u8],
+    plays: &[u8],
     marked: u32,
     claim: u32,
 ) -> u32
     ensures { λ r. ⌜ r
-        ≡ Judge.numberOf (contentsOf (partsOf board table (now (holders .entry)) (now (calls .entry)) (now (cards .entry)) marked claim)) ⌝ }
+        ≡ Judge.numberOf (contentsOf (given board table (now (holders .entry)) (now (calls .entry)) (now (plays .entry)) marked claim)) ⌝ }
 {
     let top = heading_refusal(board, table);
     if top != 0 {
@@ -81,37 +95,38 @@ fn contents_refusal(
     let row = dealt.holders;
     let hands = dealt.hands;
     let a = called.after;
-    play_refusal(row, hands, a, cards, marked, claim)
+    play_refusal(row, hands, a, plays, marked, claim)
 }
 
-// For C: writes a record from its contents over the front of a buffer; `marked` 0 is no claim, anything else a claim of `claim`. The answer is how many bytes
-// were written, which is below 1024; or a refusal × 1024 + its place, with the buffer as it was.
+// For C: writes a record from its contents over the front of a buffer. `plays` has the cards and the codes among them, a flat list of numbers; `marked` 0 is no
+// claim, anything else a claim of `claim`. The answer is how many bytes were written, which is below 1024; or a refusal × 1024 + its place, with the buffer as
+// it was.
 #[no_mangle]
 pub extern "C" fn judge_write_record(
     board: u32,
     table: u32,
     holders: &[u8],
     calls: &[u8],
-    cards: &[u8],
+    plays: &[u8],
     marked: u32,
     claim: u32,
     out: &mut [u8],
 ) -> u32
     ensures number { λ r. ⌜ r
-        ≡ numberOf (writeOf (partsOf board table (now (holders .entry)) (now (calls .entry)) (now (cards .entry)) marked claim)
+        ≡ numberOf (writeOf (given board table (now (holders .entry)) (now (calls .entry)) (now (plays .entry)) marked claim)
         (length (now (out .entry)))) ⌝ }
     ensures left { λ _. ⌜ now (out .exit)
-        ≡ recordLeft (writeOf (partsOf board table (now (holders .entry)) (now (calls .entry)) (now (cards .entry)) marked claim)
+        ≡ recordLeft (writeOf (given board table (now (holders .entry)) (now (calls .entry)) (now (plays .entry)) marked claim)
         (length (now (out .entry)))) (now (out .entry)) ⌝ }
 {
-    let number = contents_refusal(board, table, holders, calls, cards, marked, claim);
+    let number = contents_refusal(board, table, holders, calls, plays, marked, claim);
     if number != 0 {
         return number;
     }
-    let size = length_of(calls.len(), cards.len(), marked);
+    let size = length_of(calls.len(), play_bits(plays), marked);
     if out.len() < size {
         return refusal_number(SHORT_RECORD_BUFFER, 0);
     }
-    write_contents(board, table, holders, calls, cards, marked, claim, out);
+    write_contents(board, table, holders, calls, plays, marked, claim, out);
     size as u32
 }

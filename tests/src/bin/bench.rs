@@ -49,11 +49,13 @@ fn main() {
         let claim = |r: &mut Random| making::with_claim_after(r, tricks);
         judged(&format!("{} cards and a claim, 4 to 7 calls", 4 * tricks), &set(&mut random, claim));
     }
+    judged("52 cards with penalty cards, 4 to 7 calls", &set(&mut random, making::full_with_codes));
     println!("\n| records written | proved, a second | Rust, a second | proved / Rust |");
     println!("|---|---|---|---|");
     written("52 cards, 4 to 16 calls", &set(&mut random, |r| full(r, 4, 16)));
     written("all shapes that are accepted", &set(&mut random, making::lawful));
     written("52 cards, 319 calls", &set(&mut random, |r| full(r, 319, 319)));
+    written("52 cards with penalty cards, 4 to 7 calls", &set(&mut random, making::full_with_codes));
     written("4 cards and a claim, 4 to 7 calls", &set(&mut random, |r| making::with_claim_after(r, 1)));
     println!("\n| tallies merged in bytes | proved, a second | Rust, a second | proved / Rust |");
     println!("|---|---|---|---|");
@@ -78,8 +80,8 @@ fn set(random: &mut Random, make: impl Fn(&mut Random) -> Made) -> Vec<Made> {
 fn judged(what: &str, made: &[Made]) {
     let records: Vec<Vec<u8>> = made.iter().map(|m| m.parts.bytes()).collect();
     line(what, [proved::judge as Judge, judge::judge], &records, |judge, record| {
-        let (mut answer, mut list) = ([0; 7], [0; 36]);
-        let number = black_box(judge)(black_box(record), black_box(&mut answer), black_box(&mut list));
+        let (mut answer, mut list, mut failures) = ([0; 7], [0; 48], [0; 52]);
+        let number = black_box(judge)(black_box(record), black_box(&mut answer), black_box(&mut list), black_box(&mut failures));
         assert_eq!(number, 0, "a record that is accepted");
     });
 }
@@ -88,7 +90,7 @@ fn judged(what: &str, made: &[Made]) {
 fn written(what: &str, made: &[Made]) {
     let contents: Vec<Contents> = made.iter().map(|m| Contents::of(&m.parts)).collect();
     line(what, [proved::write as Writer, writer::write], &contents, |write, contents| {
-        let mut record = [0; 440];
+        let mut record = [0; 505];
         let number = black_box(write)(black_box(contents), black_box(&mut record));
         assert!(number < 1024, "contents that are written");
     });

@@ -1,6 +1,6 @@
 //! Writes records of all shapes, with what the judge has to answer, to standard output for tests/c/blocks.c.
 use outside::compare::Room;
-use outside::damage;
+use outside::damage::{self, codes};
 use outside::judge;
 use outside::making;
 use outside::random::Random;
@@ -20,6 +20,9 @@ fn main() {
         let mut cases = vec![whole.clone(), damage::flipped(&mut random, &whole), damage::noise(&mut random, &whole)];
         cases.extend(damage::KINDS.into_iter().filter_map(|kind| damage::damaged(&mut random, &made, kind)).map(|d| d.bytes));
         cases.extend((0..3).map(|_| making::lawful(&mut random).parts.bytes()));
+        let coded = making::with_codes(&mut random);
+        cases.extend([coded.parts.bytes(), codes::flipped(&mut random, &coded), making::with_codes(&mut random).parts.bytes()]);
+        cases.extend(codes::KINDS.into_iter().filter_map(|kind| codes::damaged(&mut random, &coded, kind)).map(|d| d.bytes));
         for record in &cases {
             let room = if random.percent(5) { Room::shorter(&mut random) } else { Room::EXACT };
             put(&mut out, record, room);
@@ -32,9 +35,9 @@ fn main() {
 }
 
 fn put(out: &mut Vec<u8>, record: &[u8], room: Room) {
-    let (mut answer, mut list) = (vec![0; room.answer], vec![0; room.list]);
-    let number = judge::judge(record, &mut answer, &mut list);
-    for length in [record.len(), room.answer, room.list] {
+    let [mut answer, mut list, mut failures] = [room.answer, room.list, room.failures].map(|length| vec![0; length]);
+    let number = judge::judge(record, &mut answer, &mut list, &mut failures);
+    for length in [record.len(), room.answer, room.list, room.failures] {
         out.extend((length as u16).to_be_bytes());
     }
     out.extend(number.to_be_bytes());
@@ -44,5 +47,6 @@ fn put(out: &mut Vec<u8>, record: &[u8], room: Room) {
         out.extend(&answer[..7]);
         out.push(revokes);
         out.extend(&list[..usize::from(revokes)]);
+        out.extend(&failures[..52]);
     }
 }

@@ -1,5 +1,6 @@
-//! Compares the proved program `slip` with the independent one, on records of all shapes, whole, damaged and with many bytes behind them.
-use outside::damage;
+//! Compares the proved program `slip` with the independent one, on records of all shapes, with penalty cards among them, whole, damaged and with many bytes
+//! behind them.
+use outside::damage::{self, codes};
 use outside::making::{self, Made};
 use outside::random::Random;
 use outside::run::{output_of, stop, Words};
@@ -34,7 +35,7 @@ fn main() {
 
 fn kinds() -> BTreeMap<String, u64> {
     let signed = |name: &&str| [format!("{name} +"), format!("{name} -")];
-    let refusals = damage::KINDS.iter().map(|number| format!("refused {number:02}"));
+    let refusals = damage::KINDS.iter().chain(&[25, 26, 27]).map(|number| format!("refused {number:02}"));
     let others = ["NS", "EW", "passed out"].map(String::from);
     ITEMS.iter().flat_map(signed).chain(refusals).chain(others).map(|kind| (kind, 0)).collect()
 }
@@ -64,9 +65,13 @@ fn compare(program: &str, record: &[u8], due: &Slip) {
     }
 }
 
-/// One in three is damaged in one of the ways that a refusal names; one in eight has many bytes behind it.
+/// One in five has penalty cards. One in three is damaged in one of the ways that a refusal names; one in eight has many bytes behind it.
 fn record(random: &mut Random, k: u64) -> Vec<u8> {
-    let mut made: Vec<Made> = (0..8).map(|_| making::lawful(random)).collect();
+    if k % 15 == 14 {
+        return damaged_code(random, codes::KINDS[(k / 15) as usize % codes::KINDS.len()]);
+    }
+    let coded = k % 5 == 4;
+    let mut made: Vec<Made> = (0..8).map(|_| if coded { making::with_codes(random) } else { making::lawful(random) }).collect();
     if k % 3 == 2 {
         let kind = damage::KINDS[(k / 3) as usize % damage::KINDS.len()];
         if let Some(damaged) = made.iter().find_map(|m| damage::damaged(random, m, kind)) {
@@ -79,4 +84,14 @@ fn record(random: &mut Random, k: u64) -> Vec<u8> {
         bytes.extend(random.bytes(more));
     }
     bytes
+}
+
+/// A record whose exposures and choices are damaged in this way.
+fn damaged_code(random: &mut Random, kind: &str) -> Vec<u8> {
+    loop {
+        let made = if kind.starts_with("27") { making::with_most_codes(random) } else { making::with_codes(random) };
+        if let Some(damaged) = codes::damaged(random, &made, kind) {
+            return damaged.bytes;
+        }
+    }
 }

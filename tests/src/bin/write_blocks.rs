@@ -14,12 +14,12 @@ fn main() {
     let mut out = Vec::new();
     let mut count = 0;
     while count < least {
-        let made: Vec<Made> = (0..4).map(|_| making::lawful(&mut random)).collect();
+        let made: Vec<Made> = (0..6).map(|k| if k < 4 { making::lawful(&mut random) } else { making::with_codes(&mut random) }).collect();
         let mut cases: Vec<Contents> = made.iter().map(|m| Contents::of(&m.parts)).collect();
-        cases.extend(contents::unlawful(&mut random, &made, &made[0]).into_iter().map(|(c, _)| c));
+        cases.extend(contents::unlawful(&mut random, &made, &made[0]).into_iter().map(|u| u.contents));
         for c in &cases {
             let length = writer::length(c);
-            for room in [length, length - 1, *random.pick(&[0, length + 1, 440])] {
+            for room in [length, length - 1, *random.pick(&[0, length + 1, 505])] {
                 put(&mut out, c, room);
                 count += 1;
             }

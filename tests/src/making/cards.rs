@@ -32,7 +32,7 @@ impl Random {
         }
     }
 
-    fn card_of(&mut self, cards: u64) -> u64 {
+    pub(crate) fn card_of(&mut self, cards: u64) -> u64 {
         let mut left = cards;
         for _ in 0..self.below(cards.count_ones() as usize) {
             left &= left - 1;
@@ -41,7 +41,7 @@ impl Random {
     }
 
     /// How often, in a hundred, each seat revokes where it can.
-    fn revoking(&mut self, declarer: u8) -> [usize; 4] {
+    pub(super) fn revoking(&mut self, declarer: u8) -> [usize; 4] {
         let often = *self.pick(&[2, 10, 40, 100]);
         let dummy = usize::from(declarer ^ 2);
         let mut chances = [0; 4];

@@ -8,6 +8,10 @@ use Rattle.best_play.proofs.Cards.{elsewhere, as-lead, in-suit, off-sui
 use Rattle.best_play.proofs.may_play.Statement.{statement}
 use Rattle.best_play.proofs.may_play.Tie as tie
 
+-- every card has a holder
+all-held : (s : tie.Start) → length (s .args .t1 .holders) ≡ 52
+all-held s = search needs
+
 returns : tie.Need-returns
 unfolding mayIn
 returns c = simp (le-leb _ _ (c .if1 .taken))
@@ -24,14 +28,14 @@ turn-requires c κs = search needs
 returns-2 : tie.Need-returns-2
 returns-2 c =
     let s = c .before .before .before .before in
-    let n : length (s .args .t1 .holders) ≡ 52 = search needs in
+    let n = all-held s in
     elsewhere (s .args .t1) (s .args .card) _ n (c .before .before .before .if1 .left) (c .before .turn .ensures) (c .if2 .taken)
 
 returns-3 : tie.Need-returns-3
 returns-3 c =
     let e = c .before in
     let s = e .before .before .before .before in
-    let n : length (s .args .t1 .holders) ≡ 52 = search needs in
+    let n = all-held s in
     as-lead (s .args .t1) (s .args .card) _ n (e .before .before .before .if1 .left) (e .before .turn .ensures) (e .if2 .left) (c .if3 .taken)
 
 cast-if4 : tie.Need-cast-if4
@@ -42,7 +46,7 @@ returns-4 c =
     let f = c .before in
     let e = f .before in
     let s = e .before .before .before .before in
-    let n : length (s .args .t1 .holders) ≡ 52 = search needs in
+    let n = all-held s in
     in-suit (s .args .t1) (s .args .card) _ n (e .before .before .before .if1 .left) (e .before .turn .ensures) (e .if2 .left) (f .if3 .left) (c .if4 .taken)
 
 hand-requires : tie.Need-hand-requires
@@ -60,7 +64,7 @@ returns-5 c =
     let f = o .before in
     let e = f .before in
     let s = e .before .before .before .before in
-    let n : length (s .args .t1 .holders) ≡ 52 = search needs in
+    let n = all-held s in
     off-suit (s .args .t1) (s .args .card) _ n (e .before .before .before .if1 .left) (e .before .turn .ensures) (e .if2 .left) (f .if3 .left) (o .if4 .left)
     (c .before .hand .ensures) (c .holds-suit .ensures)
 

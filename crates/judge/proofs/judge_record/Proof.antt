@@ -3,7 +3,7 @@ use Prim.Native.Nat.{_-_}
 use mathlib.Core.Path.{_∙_}
 use native.Mathlib.Omega.{arith}
 use borrow.Author.Needs.{needs}
-use Rattle.judge.proofs.Answering.{short-answer, short-list, judge-refuses, few-listed, judge-accepts}
+use Rattle.judge.proofs.Answering.{short-answer, short-list, short-failures, judge-refuses, few-listed, judge-accepts}
 use Rattle.judge.proofs.judge_record.Statement.{statement}
 use Rattle.judge.proofs.judge_record.Tie as tie
 
@@ -12,28 +12,38 @@ refusal-number-requires c κs = search needs
 
 returns : tie.Need-returns
 returns c =
-    let a = c .before .before .before .before .before .args in
-    let l = short-answer (a .bytes .now) (a .answer .now) (a .list .now) (c .before .if1 .taken) in
-    (c .refusal-number .ensures ∙ l .number, (l .answered, l .listed))
+    let a = c .before .before .before .before .before .before .args in
+    let l = short-answer (a .bytes .now) (a .answer .now) (a .list .now) (a .failures .now) (c .before .if1 .taken) in
+    (c .refusal-number .ensures ∙ l .number, (l .answered, (l .listed, l .failed)))
 
 refusal-number-requires-2 : tie.Need-refusal-number-requires-2
 refusal-number-requires-2 c κs = search needs
 
 returns-2 : tie.Need-returns-2
 returns-2 c =
-    let a = c .before .before .before .before .before .before .args in
-    let l = short-list (a .bytes .now) (a .answer .now) (a .list .now) (omega arith) (c .before .if2 .taken) in
-    (c .refusal-number2 .ensures ∙ l .number, (l .answered, l .listed))
+    let a = c .before .before .before .before .before .before .before .args in
+    let l = short-list (a .bytes .now) (a .answer .now) (a .list .now) (a .failures .now) (omega arith) (c .before .if2 .taken) in
+    (c .refusal-number2 .ensures ∙ l .number, (l .answered, (l .listed, l .failed)))
+
+refusal-number-requires-3 : tie.Need-refusal-number-requires-3
+refusal-number-requires-3 c κs = search needs
+
+returns-3 : tie.Need-returns-3
+returns-3 c =
+    let a = c .before .before .before .before .before .before .before .before .args in
+    let l = short-failures (a .bytes .now) (a .answer .now) (a .list .now) (a .failures .now) (omega arith) (omega arith) (c .before .if3 .taken) in
+    (c .refusal-number3 .ensures ∙ l .number, (l .answered, (l .listed, l .failed)))
 
 judge-requires : tie.Need-judge-requires
 judge-requires c κs = search needs
 
-returns-3 : tie.Need-returns-3
-returns-3 c =
+returns-4 : tie.Need-returns-4
+returns-4 c =
     let j = c .before in
-    let a = j .before .before .before .before .before .before .args in
-    let l = judge-refuses (a .bytes .now) (a .answer .now) (a .list .now) (omega arith) (omega arith) _ (j .judge .ensures) (λ z. c .if3 .taken (rw z)) in
-    (l .number, (l .answered, l .listed))
+    let a = j .before .before .before .before .before .before .before .before .args in
+    let l = judge-refuses (a .bytes .now) (a .answer .now) (a .list .now) (a .failures .now) (omega arith) (omega arith) (omega arith) _ (j .judge .ensures)
+    (λ z. c .if4 .taken (rw z)) in
+    (l .number, (l .answered, (l .listed, l .failed)))
 
 cast-count : tie.Need-cast-count
 cast-count c = search needs
@@ -45,8 +55,13 @@ put-list-requires : tie.Need-put-list-requires
 put-list-requires c κs =
     let e = c .before .before .before .before .before .before .before .before in
     let j = e .before in
-    let a = j .before .before .before .before .before .before .args in
-    (few-listed (a .bytes .now) (a .answer .now) (a .list .now) (omega arith) (omega arith) _ (j .judge .ensures) (e .if3 .left), omega arith)
+    let a = j .before .before .before .before .before .before .before .before .args in
+    let few = few-listed (a .bytes .now) (a .answer .now) (a .list .now) (a .failures .now) (omega arith) (omega arith) (omega arith) _ (j .judge .ensures)
+    (e .if4 .left) in
+    (few, omega arith)
+
+put-failures-requires : tie.Need-put-failures-requires
+put-failures-requires c κs = search needs
 
 same-length : tie.Need-same-length
 same-length c = search needs
@@ -54,15 +69,19 @@ same-length c = search needs
 same-length-2 : tie.Need-same-length-2
 same-length-2 c = search needs
 
-returns-4 : tie.Need-returns-4
-returns-4 c =
-    let p = c .before .before in
+same-length-3 : tie.Need-same-length-3
+same-length-3 c = search needs
+
+returns-5 : tie.Need-returns-5
+returns-5 c =
+    let f = c .before .before in
+    let p = f .before .before .before .before .before in
     let e = p .before .before .before .before .before .before .before .before .before in
     let j = e .before in
-    let a = j .before .before .before .before .before .before .args in
-    let l = judge-accepts (a .bytes .now) (a .answer .now) (a .list .now) (omega arith) (omega arith) _ (j .judge .ensures) (e .if3 .left)
-    (p .before .before .before .before .put7 .ensures, p .put-list .ensures) in
-    (l .number, (l .answered, l .listed))
+    let a = j .before .before .before .before .before .before .before .before .args in
+    let l = judge-accepts (a .bytes .now) (a .answer .now) (a .list .now) (a .failures .now) (omega arith) (omega arith) (omega arith) _ (j .judge .ensures)
+    (e .if4 .left) (p .before .before .before .before .put7 .ensures, p .put-list .ensures, f .put-failures .ensures) in
+    (l .number, (l .answered, (l .listed, l .failed)))
 
 pub judge-record-spec : {M : Type 1} → statement M
 judge-record-spec =
@@ -72,11 +91,15 @@ judge-record-spec =
     returns
     refusal-number-requires-2
     returns-2
-    judge-requires
+    refusal-number-requires-3
     returns-3
+    judge-requires
+    returns-4
     cast-count
     put7-requires
     put-list-requires
+    put-failures-requires
     same-length
     same-length-2
-    returns-4)
+    same-length-3
+    returns-5)

@@ -36,7 +36,7 @@ loop-again : tie.Need-loop-again Inv-loop μ-loop
 loop-again c =
     let l = c .before in
     let a = l .before .args in
-    let n : length (a .t2) ≡ 36 = search needs in
+    let n : length (a .t2) ≡ 48 = search needs in
     (search needs, front-more (l .loop .list) (a .list .now) (a .t2) (l .loop .i) (l .loop .inv .1) (omega arith) (omega arith), search needs)
 
 same-length : tie.Need-same-length Inv-loop μ-loop

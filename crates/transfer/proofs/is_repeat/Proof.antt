@@ -1,18 +1,22 @@
 -- `transfer::is_repeat` meets its contract. The loop goes back from the revoke: what is left to find is what the whole has. Assumes nothing.
 use Prim.Native.Nat.{ℕ, _≤_, _<_, _+_, _-_, _*_, _/_, _%_, min}
 use mathlib.Core.Path.{_≡_, refl, sym, ap, _∙_}
+use mathlib.Core.List.{List}
 use native.Mathlib.Omega.{arith}
 use borrow.Author.Needs.{needs}
 use borrow.Author.Tests.{eq-eqb, ne-eqb}
 use lib.ListN.{length, getD, drop}
 use Rattle.laws.specs.Law64.{repeated}
-use Rattle.transfer.specs.Inputs.{revokeOf, earlier}
+use Rattle.transfer.specs.Inputs.{countedOf, earlier}
 use Rattle.transfer.proofs.Lists.{none-before, place-before}
 use Rattle.transfer.proofs.is_repeat.Statement.{statement}
 use Rattle.transfer.proofs.is_repeat.Tie as tie
 
 abbrev Inv-loop : tie.InvT-loop
-Inv-loop i list mine j₀ j = (j ≤ i) × (repeated (earlier i list) (revokeOf (getD list i 0)) ≡ repeated (earlier j list) (revokeOf (getD list i 0)))
+Inv-loop i list mine j₀ j =
+    (j ≤ i)
+    × ((free : List ℕ) (f : ℕ)
+    → repeated (earlier i list free) (countedOf (getD list i 0) f) ≡ repeated (earlier j list free) (countedOf (getD list i 0) f))
 
 abbrev μ-loop : tie.MeasureT-loop
 μ-loop i list mine j₀ j = j
@@ -21,7 +25,7 @@ array-read-mine : tie.Need-array-read-mine Inv-loop μ-loop
 array-read-mine c = search needs
 
 loop-holds : tie.Need-loop-holds Inv-loop μ-loop
-loop-holds c = (omega arith, refl)
+loop-holds c = (omega arith, λ free f. refl)
 
 sub-j : tie.Need-sub-j Inv-loop μ-loop
 sub-j c = search needs
@@ -33,7 +37,8 @@ returns : tie.Need-returns Inv-loop μ-loop
 returns c = let l = c .before .before .loop in
     let list = c .before .before .before .args .t1 in
     let byte = getD list (c .before .before .before .args .i) 0 in
-    sym (l .inv .1 ∙ place-before byte (l .j) list (c .before .loop-test .taken) ∙ rw (eq-eqb (getD list (l .j - 1) 0 % 16) (byte % 16) (c .if1 .taken)))
+    λ free f. sym (l .inv .1 free f ∙ place-before byte f (l .j) list free (c .before .loop-test .taken)
+    ∙ rw (eq-eqb (getD list (l .j - 1) 0 % 16) (byte % 16) (c .if1 .taken)))
 
 loop-less : tie.Need-loop-less Inv-loop μ-loop
 loop-less c = search needs
@@ -43,14 +48,14 @@ loop-again c = let l = c .before .before .loop in
     let list = c .before .before .before .args .t1 in
     let byte = getD list (c .before .before .before .args .i) 0 in
     let other = ne-eqb (getD list (l .j - 1) 0 % 16) (byte % 16) (c .if1 .left) in
-    (omega arith, l .inv .1 ∙ place-before byte (l .j) list (c .before .loop-test .taken) ∙ rw other)
+    (omega arith, λ free f. l .inv .1 free f ∙ place-before byte f (l .j) list free (c .before .loop-test .taken) ∙ rw other)
 
 returns-2 : tie.Need-returns-2 Inv-loop μ-loop
 returns-2 c = let l = c .before .loop in
     let list = c .before .before .args .t1 in
     let byte = getD list (c .before .before .args .i) 0 in
     let z : l .j ≡ 0 = omega arith in
-    sym (l .inv .1 ∙ rw z (none-before byte list))
+    λ free f. sym (l .inv .1 free f ∙ rw z (none-before list free (countedOf byte f)))
 
 pub is-repeat-spec : {M : Type 1} → statement M
 is-repeat-spec =

@@ -14,7 +14,7 @@ use Rattle.transfer.proofs.side_revoked.Statement.{statement}
 use Rattle.transfer.proofs.side_revoked.Tie as tie
 
 abbrev Inv-loop : tie.InvT-loop
-Inv-loop side rs end i₀ i = (end ≡ min (rs .count) 36) × (sideRevoked side (revokesIn rs) ≡ sideRevoked side (drop i (revokesIn rs)))
+Inv-loop side rs end i₀ i = (end ≡ min (rs .count) 48) × (sideRevoked side (revokesIn rs) ≡ sideRevoked side (drop i (revokesIn rs)))
 
 abbrev μ-loop : tie.MeasureT-loop
 μ-loop side rs end i₀ i = end - i
@@ -38,8 +38,9 @@ returns : tie.Need-returns Inv-loop μ-loop
 returns c = let l = c .before .before .before .loop in
     let st = c .before .before .before .before .before in
     let rs = st .args .t1 in
-    let n : length (rs .list) ≡ 36 = search needs in
-    sym (l .inv .1 ∙ side-at rs n (st .args .side) (l .i) (omega arith) ∙ rw (eq-eqb (getD (rs .list) (l .i) 0 / 4 % 2) (st .args .side) (c .if1 .taken)))
+    let n : length (rs .list) ≡ 48 = search needs in
+    let f : length (rs .excused) ≡ 48 = search needs in
+    sym (l .inv .1 ∙ side-at rs n f (st .args .side) (l .i) (omega arith) ∙ rw (eq-eqb (getD (rs .list) (l .i) 0 / 4 % 2) (st .args .side) (c .if1 .taken)))
 
 add-i : tie.Need-add-i Inv-loop μ-loop
 add-i c = search needs
@@ -51,15 +52,20 @@ loop-again : tie.Need-loop-again Inv-loop μ-loop
 loop-again c = let l = c .before .before .before .loop in
     let st = c .before .before .before .before .before in
     let rs = st .args .t1 in
-    let n : length (rs .list) ≡ 36 = search needs in
-    (l .inv .0, l .inv .1 ∙ side-at rs n (st .args .side) (l .i) (omega arith) ∙ rw (ne-eqb (getD (rs .list) (l .i) 0 / 4 % 2) (st .args .side) (c .if1 .left)))
+    let n : length (rs .list) ≡ 48 = search needs in
+    let f : length (rs .excused) ≡ 48 = search needs in (
+      l .inv .0,
+      l .inv .1 ∙ side-at rs n f (st .args .side) (l .i) (omega arith)
+          ∙ rw (ne-eqb (getD (rs .list) (l .i) 0 / 4 % 2) (st .args .side) (c .if1 .left)),
+    )
 
 returns-2 : tie.Need-returns-2 Inv-loop μ-loop
 returns-2 c = let l = c .before .loop in
     let st = c .before .before .before in
     let rs = st .args .t1 in
-    let n : length (rs .list) ≡ 36 = search needs in
-    sym (l .inv .1 ∙ side-end rs n (st .args .side) (l .i) (omega arith))
+    let n : length (rs .list) ≡ 48 = search needs in
+    let f : length (rs .excused) ≡ 48 = search needs in
+    sym (l .inv .1 ∙ side-end rs n f (st .args .side) (l .i) (omega arith))
 
 pub side-revoked-spec : {M : Type 1} → statement M
 side-revoked-spec =

@@ -11,7 +11,7 @@ use Rattle.transfer.proofs.total.Statement.{statement}
 use Rattle.transfer.proofs.total.Tie as tie
 
 abbrev Inv-loop : tie.InvT-loop
-Inv-loop ts declarer claim left rs dummy i₀ sum₀ i sum = (i ≤ min (rs .count) 36) × (sum + 2 * i ≤ 72) × (sum ≡ totalFrom i rs ts declarer claim left)
+Inv-loop ts declarer claim left rs dummy i₀ sum₀ i sum = (i ≤ min (rs .count) 48) × (sum + 2 * i ≤ 96) × (sum ≡ totalFrom i rs ts declarer claim left)
 
 abbrev μ-loop : tie.MeasureT-loop
 μ-loop ts declarer claim left rs dummy i₀ sum₀ i sum = i
@@ -30,10 +30,11 @@ cast-i c = search needs
 
 loop-holds : tie.Need-loop-holds Inv-loop μ-loop
 loop-holds c = let st = c .before in
-    let n : length (st .args .t1 .list) ≡ 36 = search needs in
+    let n : length (st .args .t1 .list) ≡ 48 = search needs in
+    let f : length (st .args .t1 .excused) ≡ 48 = search needs in
     let e = c .at-most .ensures in
     let a = st .args in
-    (omega arith, omega arith, sym (total-end (a .t1) (a .ts) (a .declarer) (a .claim) (a .left) n (c .at-most .result) (omega arith)))
+    (omega arith, omega arith, sym (total-end (a .t1) (a .ts) (a .declarer) (a .claim) (a .left) n f (c .at-most .result) (omega arith)))
 
 sub-i : tie.Need-sub-i Inv-loop μ-loop
 sub-i c = search needs
@@ -60,14 +61,15 @@ loop-less c = search needs
 loop-again : tie.Need-loop-again Inv-loop μ-loop
 loop-again c = let st = c .before .before .before .before .before .before .before in
     let l = c .before .before .before .before .before .loop in
-    let n : length (st .args .t1 .list) ≡ 36 = search needs in
+    let n : length (st .args .t1 .list) ≡ 48 = search needs in
+    let f : length (st .args .t1 .excused) ≡ 48 = search needs in
     let two : c .before .before .before .entitled .result ≤ 2 = due-bound _ _ _ _ _ (c .before .before .before .entitled .ensures) in
     let sum = c .at-most2 .ensures in (
       omega arith,
       omega arith,
       let a = st .args in
           let more = c .before .before .before .before .loop-test .taken in
-          sum ∙ total-before (a .t1) (a .ts) (a .declarer) (a .claim) (a .left) n (l .i) _ _ _ more (l .inv .0)
+          sum ∙ total-before (a .t1) (a .ts) (a .declarer) (a .claim) (a .left) n f (l .i) _ _ _ more (l .inv .0)
           (l .inv .2) (rw (dummy-is (st .args .declarer)) at (c .before .before .before .entitled .ensures)) (c .before .available .ensures),
     )
 

@@ -74,6 +74,9 @@ loop-again c = search needs
 tricks-requires : tie.Need-tricks-requires Inv-loop μ-loop
 tricks-requires c κs = search needs
 
+after-cards-requires : tie.Need-after-cards-requires Inv-loop μ-loop
+after-cards-requires c κs = search needs
+
 revokes-requires : tie.Need-revokes-requires Inv-loop μ-loop
 revokes-requires c κs = search needs
 
@@ -119,6 +122,7 @@ show-spec =
     loop-less
     loop-again
     tricks-requires
+    after-cards-requires
     revokes-requires
     show-winners-requires
     show-revokes-requires

@@ -5,10 +5,10 @@ use Rattle.try_play.proofs.show_revokes.Statement.{statement}
 use Rattle.try_play.proofs.show_revokes.Tie as tie
 
 abbrev Inv-loop : tie.InvT-loop
-Inv-loop rs i₀ t6 t7 t8 t9 i = i ≤ 36
+Inv-loop rs i₀ t6 t7 t8 t9 i = i ≤ 48
 
 abbrev μ-loop : tie.MeasureT-loop
-μ-loop rs i₀ t6 t7 t8 t9 i = 36 - i
+μ-loop rs i₀ t6 t7 t8 t9 i = 48 - i
 
 slice-aggregate-text : tie.Need-slice-aggregate-text Inv-loop μ-loop
 slice-aggregate-text c = search needs

@@ -1,16 +1,16 @@
 -- `contents_refusal` meets its contract: a law of Contents for each way out. Assumes nothing.
 use mathlib.Core.Path.{_≡_, ap, _∙_}
-use Rattle.laws.specs.Record.{Parts}
+use Rattle.laws.specs.Contents.{Given}
 use Rattle.laws.specs.Law2.{dealer}
-use Rattle.writer.specs.Given.{partsOf}
-use Rattle.writer.proofs.Contents.{heading-refused, board-low, deal-refused, holders-are, hands-are, calls-refused, rest-checked}
+use Rattle.writer.specs.Given.{given}
+use Rattle.writer.proofs.Contents.{heading-refused, board-low, deal-refused, holders-are, hands-are, thirteen-are, calls-refused, rest-checked}
 use borrow.Author.Needs.{needs}
 use Rattle.writer.proofs.contents_refusal.Statement.{statement}
 use Rattle.writer.proofs.contents_refusal.Tie as tie
 
--- the parts that the function was given
-abbrev parts : tie.Start → Parts
-parts s = let a = s .args in partsOf (a .board) (a .table) (a .holders .now) (a .calls .now) (a .cards .now) (a .marked) (a .claim)
+-- the contents that the function was given
+abbrev parts : tie.Start → Given
+parts s = let a = s .args in given (a .board) (a .table) (a .holders .now) (a .calls .now) (a .plays .now) (a .marked) (a .claim)
 
 abbrev start-of : tie.After-heading-refusal → tie.Start
 start-of t = t .before .before .before .before
@@ -59,7 +59,10 @@ play-refusal-requires c κs =
     let k = c .before .before .before .before .before in
     let d = k .before .before .before .before .before in
     let t = d .before .before in
-    hands-are (parts (start-of t)) _ (t .heading-refusal .ensures) (d .before .if1 .left) _ (d .take-deal .ensures) (k .before .before .before .if2 .left)
+    let z = k .before .before .before .if2 .left in (
+      hands-are (parts (start-of t)) _ (t .heading-refusal .ensures) (d .before .if1 .left) _ (d .take-deal .ensures) z,
+      thirteen-are (parts (start-of t)) _ (t .heading-refusal .ensures) (d .before .if1 .left) _ (d .take-deal .ensures) z,
+    )
 
 returns-4 : tie.Need-returns-4
 returns-4 c =

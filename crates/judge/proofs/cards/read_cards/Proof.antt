@@ -6,7 +6,7 @@ use lib.Dec.{lit≤}
 use Rattle.field.specs.Field.{fieldAnswer}
 use Rattle.field.proofs.ThreeBytes.{value-reads, value-lt, short-stops}
 use Rattle.laws.specs.Reading.{Reading.found, read}
-use Rattle.judge.proofs.Sections.{cards-short, too-many-cards, cards-read}
+use Rattle.judge.proofs.Sections.{cards-short, too-many-cards, most-le, cards-read}
 use borrow.Author.Needs.{needs}
 use Rattle.judge.proofs.cards.read_cards.Statement.{statement}
 use Rattle.judge.proofs.cards.read_cards.Tie as tie
@@ -68,7 +68,10 @@ add-read-each-card c = search needs
 read-each-card-requires : tie.Need-read-each-card-requires
 read-each-card-requires c κs =
     let w = c .before .before in
-    (omega arith, omega arith, omega (arith, w .narrow .ensures, few (w .before)), w .before .before .before .before .before .before .pre .2)
+    let s = w .before .before .before .before .before .before in
+    let p = s .pre in
+    let most = rw (w .narrow .ensures, c .before .most-cards .ensures) at (c .if1 .left) in
+    (omega arith, omega arith, rw (w .narrow .ensures) (most-le (s .args .out) _ most), p .2, p .3, p .4)
 
 returns-3 : tie.Need-returns-3
 returns-3 c =

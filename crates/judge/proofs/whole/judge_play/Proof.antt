@@ -4,7 +4,7 @@ use mathlib.Core.Path.{_≡_, _∙_}
 use native.Mathlib.Omega.{arith}
 use borrow.Author.Needs.{needs}
 use lib.ListN.{length}
-use Rattle.judge.proofs.Composing.{card-bounds, cards-refused, cards-read}
+use Rattle.judge.proofs.Composing.{leader-lt, card-bounds, cards-refused, cards-read}
 use Rattle.judge.proofs.whole.judge_play.Statement.{statement}
 use Rattle.judge.proofs.whole.judge_play.Tie as tie
 
@@ -18,7 +18,9 @@ opening-leader-requires : tie.Need-opening-leader-requires
 opening-leader-requires c κs = search needs
 
 read-cards-requires : tie.Need-read-cards-requires
-read-cards-requires c κs = let p = c .before .before .before .before .pre in (p .0, omega (arith, p .1), p .2)
+read-cards-requires c κs =
+    let p = c .before .before .before .before .pre in
+    (p .0, omega (arith, p .1), p .2, p .3, rw (c .opening-leader .ensures) (leader-lt _))
 
 refused-requires : tie.Need-refused-requires
 refused-requires c κs = search needs

@@ -1,5 +1,6 @@
 -- `write_contents` meets its contract: the sections of the layout, and the end. Assumes nothing.
-use Rattle.writer.proofs.Writing.{sections}
+use Rattle.writer.specs.Given.{fieldsOf}
+use Rattle.writer.proofs.Writing.{cards-among, sections}
 use borrow.Author.Needs.{needs}
 use Rattle.writer.proofs.write.write_contents.Statement.{statement}
 use Rattle.writer.proofs.write.write_contents.Tie as tie
@@ -10,11 +11,14 @@ new-requires c κs = search needs
 put-deal-requires : tie.Need-put-deal-requires
 put-deal-requires c κs = search needs
 
-put-codes-requires : tie.Need-put-codes-requires
-put-codes-requires c κs = search needs
+put-calls-requires : tie.Need-put-calls-requires
+put-calls-requires c κs = search needs
 
-put-codes-requires-2 : tie.Need-put-codes-requires-2
-put-codes-requires-2 c κs = search needs
+count-cards-requires : tie.Need-count-cards-requires
+count-cards-requires c κs = search needs
+
+put-plays-requires : tie.Need-put-plays-requires
+put-plays-requires c κs = search needs
 
 put-claim-requires : tie.Need-put-claim-requires
 put-claim-requires c κs = search needs
@@ -26,14 +30,16 @@ same-length : tie.Need-same-length
 same-length c = search needs
 
 returns : tie.Need-returns
+unfolding fieldsOf
 returns c =
     let f = c .before .before in
     let d = f .before .before .before .before in
     let p = d .before .before .before .before in
-    let h = p .before .before .before .before in
+    let n = p .before in
+    let h = n .before .before .before .before in
     let b = h .before .before .before .before in
-    sections _ _ _ _ _ _ _ _ _ _ _ _ (b .before .before .new .ensures) (b .put-deal .ensures) (h .put-codes .ensures) (p .put-codes2 .ensures)
-    (d .put-claim .ensures) (f .finish .ensures)
+    sections _ _ _ _ _ _ _ _ _ _ _ _ (b .before .before .new .ensures) (b .put-deal .ensures) (h .put-calls .ensures)
+    (rw (cards-among _ (n .count-cards .ensures)) at (p .put-plays .ensures)) (d .put-claim .ensures) (f .finish .ensures)
 
 pub write-contents-spec : {M : Type 1} → statement M
 write-contents-spec =
@@ -41,8 +47,9 @@ write-contents-spec =
     (tie.spec
     new-requires
     put-deal-requires
-    put-codes-requires
-    put-codes-requires-2
+    put-calls-requires
+    count-cards-requires
+    put-plays-requires
     put-claim-requires
     finish-requires
     same-length

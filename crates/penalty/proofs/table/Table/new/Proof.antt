@@ -7,18 +7,12 @@ use Rattle.penalty.proofs.table.Table.new.Tie as tie
 new-requires : tie.Need-new-requires
 new-requires c κs = search needs
 
-new-requires-2 : tie.Need-new-requires-2
-new-requires-2 c κs = search needs
-
-new-requires-3 : tie.Need-new-requires-3
-new-requires-3 c κs = search needs
-
-cast-t9 : tie.Need-cast-t9
-cast-t9 c = search needs
+after-cards-requires : tie.Need-after-cards-requires
+after-cards-requires c κs = search needs
 
 returns : tie.Need-returns
 unfolding tableOf
-returns c = rw (c .new3 .ensures, c .before .new2 .ensures, c .before .before .new .ensures)
+returns c = rw (c .after-cards .ensures, c .before .new .ensures)
 
 pub new-spec : {M : Type 1} → statement M
-new-spec = tie.close (tie.spec new-requires new-requires-2 new-requires-3 cast-t9 returns)
+new-spec = tie.close (tie.spec new-requires after-cards-requires returns)

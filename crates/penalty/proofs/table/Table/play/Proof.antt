@@ -1,6 +1,7 @@
 -- `penalty::table::Table::play` meets its contract. Assumes nothing.
-use borrow.Author.Tests.{eq-eqb, ne-eqb, le-leb, lt-leb}
-use Rattle.penalty.specs.Table.{keepsLead, afterPlay}
+use mathlib.Core.Path.{_∙_, ap}
+use Rattle.play.specs.declared.Play.{Play}
+use Rattle.penalty.specs.Table.{withPlay, afterPlay}
 use borrow.Author.Needs.{needs}
 use Rattle.penalty.proofs.table.Table.play.Statement.{statement}
 use Rattle.penalty.proofs.table.Table.play.Tie as tie
@@ -8,28 +9,12 @@ use Rattle.penalty.proofs.table.Table.play.Tie as tie
 play-requires : tie.Need-play-requires
 play-requires c κs = search needs
 
+with-play-requires : tie.Need-with-play-requires
+with-play-requires c κs = search needs
+
 returns : tie.Need-returns
 unfolding afterPlay
-returns c = rw (eq-eqb _ _ (c .if1 .taken), c .before .before .before .play .ensures)
-
-returns-2 : tie.Need-returns-2
-unfolding afterPlay
-returns-2 c = rw (ne-eqb _ _ (c .before .if1 .left), le-leb 52 _ (c .if2 .taken))
-
-found-after-requires : tie.Need-found-after-requires
-found-after-requires c κs = search needs
-
-after-card-requires : tie.Need-after-card-requires
-after-card-requires c κs = search needs
-
-returns-3 : tie.Need-returns-3
-unfolding afterPlay keepsLead
-returns-3 c =
-    let i = c .before .before .before .before in
-    let f = c .before .before .before .found-after .ensures in
-    rw (ne-eqb _ _ (i .before .if1 .left), lt-leb 52 _ (i .if2 .left), c .after-card .ensures, f, i .before .before .before .before .play .ensures)
+returns c = c .with-play .ensures ∙ rw (c .before .play .ensures)
 
 pub play-spec : {M : Type 1} → statement M
-play-spec =
-    tie.close
-    (tie.spec play-requires returns returns-2 found-after-requires after-card-requires returns-3)
+play-spec = tie.close (tie.spec play-requires with-play-requires returns)
