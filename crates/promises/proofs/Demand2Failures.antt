@@ -1,5 +1,5 @@
 -- Demand 2, the fourth slice, proved. Assumes nothing.
-use Prim.Native.Nat.{ℕ, suc, _+_, _-_, _*_, _/_, _%_, _^_, _≤_, _<_}
+use Prim.Native.Nat.{ℕ, _+_, _-_, _*_, _/_, _%_, _^_, _≤_, _<_}
 use native.Mathlib.Nat.{zero-add, zero-mul}
 use native.Mathlib.Omega.{arith}
 use mathlib.Core.Path.{_≡_, refl, sym, ap, _∙_}
@@ -7,7 +7,6 @@ use mathlib.Core.Bool.{Bool}
 use mathlib.Core.List.{List, [], _∷_, _++_, append-assoc, reverse, List·Memᴰ, List·Memᴰ·head, Memᴰ·append-right}
 use lib.ListN.{length, getD, length-append, List·getD-eq-default}
 use lib.Seq.{getD-append-seam}
-use Rattle.laws.specs.Law44.{cardsPlayed, tricksComplete}
 use Rattle.laws.specs.Events.{Event, played, cardsOf}
 use Rattle.laws.specs.Kept.{NoneRefused}
 use Rattle.laws.specs.Failures.{Failure, isFailure, failureBy, failures, failurePair, failureBytes}
@@ -15,45 +14,31 @@ use Rattle.laws.specs.Record.{Parts}
 use Rattle.laws.specs.Reading.{numberAt, bitAt}
 use Rattle.laws.specs.Judgement.{trumpOf, openingOf, failuresOf, failuresBytes}
 use Rattle.laws.specs.Lawful.{Lawful}
-use Rattle.laws.proofs.Padded.{length-padded, padded-at}
+use Rattle.laws.proofs.Padded.{padded-at}
 use Rattle.laws.proofs.Plays.{none-refused}
 use Rattle.laws.proofs.CardRefusals.{to-play-lt}
 use Rattle.laws.proofs.FailuresInFull.{failure-exactly}
 use Rattle.penalty.proofs.AtMost.{card-held, failure-early, at-most-24}
 use Rattle.promises.proofs.Demand1.{failures-long}
-use Rattle.promises.proofs.PlaysInOrder.{places, as-listed, exactly, rising, once}
+use Rattle.promises.proofs.PlaysInOrder.{in-order-by, once}
 use Rattle.promises.proofs.Demand2Judgement.{demand-2-judgement}
 use Rattle.promises.proofs.Demand2Revokes.{play-lawful, bit-of, high-bits}
-use Rattle.promises.specs.Demand2Judgement.{FailureOf}
-use Rattle.promises.specs.Demand2Revokes.{PairBits, FailuresInOrder, Demand2Failures}
+use Rattle.promises.specs.Demand2Judgement.{Fails, failureEntry, FailureOf}
+use Rattle.promises.specs.Demand2Revokes.{PairBits, InOrder, Demand2Failures}
 
 -- ---- in order of play
 module _ (p : Parts) where
   abbrev fails-at : List Event → ℕ → Bool
   fails-at e c = isFailure (trumpOf p) (openingOf p) (p .deal) e c
 
-  abbrev failure-by : List Event → ℕ → Failure
-  failure-by e c = failureBy (trumpOf p) (openingOf p) e c
-
-  in-order : FailuresInOrder p
+  in-order : InOrder p (Fails p) (failureEntry p) (failuresOf p)
   unfolding failuresOf failures
-  in-order =
-      let tells = failure-exactly (trumpOf p) (openingOf p) (p .deal) in
-      record {
-        places = places fails-at failure-by (p .plays);
-        exactly = λ k.
-            let e = exactly fails-at failure-by (p .plays) k in (
-              λ m. let i = e .0 m in record { card = i .card; there = i .there; against = tells _ (i .card) .0 (i .passing) },
-              λ r. e .1 (record { card = r .card; there = r .there; passing = tells _ (r .card) .1 (r .against) }),
-            );
-        rising = rising fails-at failure-by (p .plays);
-        listed = as-listed fails-at failure-by (p .plays);
-      }
+  in-order = in-order-by p fails-at (failureEntry p) (Fails p) (failure-exactly (trumpOf p) (openingOf p) (p .deal))
 
   failures-once : (before : List Failure) (f : Failure) (behind : List Failure) → failuresOf p ≡ before ++ (f ∷ behind) → List·Memᴰ f behind → ⊥
   unfolding failuresOf failures failureBy
   failures-once =
-      once (trumpOf p) (openingOf p) fails-at failure-by (λ (f : Failure). f .trick) (λ (f : Failure). f .seat) (λ e c. refl) (λ e c. refl) (p .plays)
+      once (trumpOf p) (openingOf p) fails-at (failureEntry p) (λ (f : Failure). f .trick) (λ (f : Failure). f .seat) (λ e c. refl) (λ e c. refl) (p .plays)
 
 -- ---- bits of a card, two in the first byte and four in the second
 six-bits : (c : ℕ) → c < 64 → (((((0 * 2 + c / 32) * 2 + c / 16 % 2) * 2 + c / 8 % 2) * 2 + c / 4 % 2) * 2 + c / 2 % 2) * 2 + c % 2 ≡ c
@@ -177,7 +162,7 @@ module _ (p : Parts) (ok : Lawful p) where
     unfolding failureBy
     trick-bounds =
         let i = listed in
-        let failed = failure-exactly (trumpOf p) (openingOf p) (p .deal) (i .earlier) (i .card) .1 (i .against) in
+        let failed = failure-exactly (trumpOf p) (openingOf p) (p .deal) (i .earlier) (i .card) .1 (i .is) in
         let early = failure-early (p .deal) (trumpOf p) (openingOf p) (ok .layout .holders) (ok .deal) (i .card) (i .earlier) allowed failed in
         rw (i .as-listed) (omega arith, omega (arith, early))
 

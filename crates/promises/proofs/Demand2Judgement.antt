@@ -3,7 +3,7 @@ use Prim.Native.Nat.{ℕ, _+_, _≤_}
 use native.Mathlib.Omega.{arith}
 use mathlib.Core.Path.{_≡_, refl, sym, ap, _∙_}
 use mathlib.Core.Logic.{_↔_}
-use mathlib.Core.Bool.{true, false}
+use mathlib.Core.Bool.{Bool, true, false}
 use mathlib.Core.List.{List, [], _∷_, _++_, List·Memᴰ}
 use lib.ListN.{length, replicate}
 use Rattle.laws.specs.Law61.{Revoke}
@@ -11,8 +11,9 @@ use Rattle.laws.specs.Record.{Parts, encode, Field, field, bits}
 use Rattle.laws.specs.Reading.{numberAt}
 use Rattle.laws.specs.Auction.{passedOut}
 use Rattle.laws.specs.Judge.{leastRooms, Outcome, Outcome.accepted, numberOf}
-use Rattle.laws.specs.LeadRevoke.{revokeBy, RevokedBy, disobeys, allRevokes}
-use Rattle.laws.specs.Failures.{Failure, failureBy, isFailure, failures}
+use Rattle.laws.specs.Events.{Event, listPlays}
+use Rattle.laws.specs.LeadRevoke.{disobeys, allRevokes}
+use Rattle.laws.specs.Failures.{Failure, isFailure, failures}
 use Rattle.laws.specs.Judgement.{callsOf, contractOf, declarerOf, trumpOf, openingOf, playOf, wonOf, afterOf, revokesOf, failuresOf, scoreOf}
 use Rattle.laws.specs.Judgement.{twosComplement, playedFields, answerFields, answerBytes, revokeBytes, failuresBytes}
 use Rattle.laws.specs.Lawful.{Lawful}
@@ -27,7 +28,8 @@ use Rattle.laws.proofs.PlaysListed.{listed-exactly}
 use Rattle.laws.proofs.LeadRevokes.{disobeys-exactly}
 use Rattle.laws.proofs.FailuresInFull.{failure-exactly}
 use Rattle.promises.specs.Demand1.{saidOf}
-use Rattle.promises.specs.Demand2Judgement.{RevokeOf, FailureOf, Demand2Judgement, ContractBits, AnswerBits, Demand2Bits}
+use Rattle.promises.specs.Demand2Judgement.{PlayOf, Revokes, Fails, revokeEntry, failureEntry, RevokeOf, FailureOf}
+use Rattle.promises.specs.Demand2Judgement.{Demand2Judgement, ContractBits, AnswerBits, Demand2Bits}
 
 left : (p : Parts) (answer list failures : List ℕ) (o : Outcome) → o ≡ accepted p
     → (numberOf o ≡ 0)
@@ -37,61 +39,41 @@ left : (p : Parts) (answer list failures : List ℕ) (o : Outcome) → o ≡ acc
 unfolding answerLeft listLeft failuresLeft
 left p answer list failures o q = rw q (refl, refl, refl, refl)
 
+-- the list of the plays that pass a test has an entry exactly when it stands for a play of which that holds
+module _ {A : Type 0} (p : Parts) (test : List Event → ℕ → Bool) (entry : List Event → ℕ → A) (Is : List Event → ℕ → Type 0)
+    (tells : (e : List Event) (c : ℕ) → (test e c ≡ true) ↔ Is e c) where
+  play-listed : (x : A) → List·Memᴰ x (listPlays test entry (playOf p)) ↔ PlayOf p Is entry x
+  play-listed x =
+      let e = listed-exactly test entry (playOf p) x in (
+        λ m.
+            let i = e .0 m in
+            record {
+              later = i .after;
+              card = i .card;
+              earlier = i .before;
+              play = i .parts;
+              is = tells (i .before) (i .card) .0 (i .passes);
+              as-listed = i .as-listed;
+            },
+        λ i.
+            e .1
+            (record {
+              after = i .later;
+              card = i .card;
+              before = i .earlier;
+              parts = i .play;
+              passes = tells (i .earlier) (i .card) .1 (i .is);
+              as-listed = i .as-listed;
+            }),
+      )
+
 revoked : (p : Parts) (r : Revoke) → List·Memᴰ r (revokesOf p) ↔ RevokeOf p r
 unfolding revokesOf allRevokes
-revoked p r =
-    let trump = trumpOf p in
-    let opening = openingOf p in
-    let e = listed-exactly (disobeys trump opening (p .deal)) (revokeBy trump opening) (playOf p) r in (
-      λ m.
-          let i = e .0 m in
-          record {
-            later = i .after;
-            card = i .card;
-            earlier = i .before;
-            play = i .parts;
-            revoked = disobeys-exactly trump opening (p .deal) (i .before) (i .card) .0 (i .passes);
-            as-listed = i .as-listed;
-          },
-      λ i.
-          e .1
-          (record {
-            after = i .later;
-            card = i .card;
-            before = i .earlier;
-            parts = i .play;
-            passes = disobeys-exactly trump opening (p .deal) (i .earlier) (i .card) .1 (i .revoked);
-            as-listed = i .as-listed;
-          }),
-    )
+revoked p = play-listed p (disobeys (trumpOf p) (openingOf p) (p .deal)) (revokeEntry p) (Revokes p) (disobeys-exactly (trumpOf p) (openingOf p) (p .deal))
 
 failed : (p : Parts) (f : Failure) → List·Memᴰ f (failuresOf p) ↔ FailureOf p f
 unfolding failuresOf failures
-failed p f =
-    let trump = trumpOf p in
-    let opening = openingOf p in
-    let e = listed-exactly (isFailure trump opening (p .deal)) (failureBy trump opening) (playOf p) f in (
-      λ m.
-          let i = e .0 m in
-          record {
-            later = i .after;
-            card = i .card;
-            earlier = i .before;
-            play = i .parts;
-            against = failure-exactly trump opening (p .deal) (i .before) (i .card) .0 (i .passes);
-            as-listed = i .as-listed;
-          },
-      λ i.
-          e .1
-          (record {
-            after = i .later;
-            card = i .card;
-            before = i .earlier;
-            parts = i .play;
-            passes = failure-exactly trump opening (p .deal) (i .earlier) (i .card) .1 (i .against);
-            as-listed = i .as-listed;
-          }),
-    )
+failed p = play-listed p (isFailure (trumpOf p) (openingOf p) (p .deal)) (failureEntry p) (Fails p) (failure-exactly (trumpOf p) (openingOf p) (p .deal))
 
 -- ---- every bit of the answer
 -- a field among those of seven bytes, read back

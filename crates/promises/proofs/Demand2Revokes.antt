@@ -1,10 +1,10 @@
 -- Demand 2, the revoke list and the fourth slice, proved. Assumes nothing.
-use Prim.Native.Nat.{ℕ, zero, suc, _+_, _-_, _*_, _/_, _%_, _^_, _≤_, _<_}
+use Prim.Native.Nat.{ℕ, zero, _+_, _-_, _*_, _/_, _%_, _^_, _≤_, _<_}
 use native.Mathlib.Nat.{zero-add, zero-mul}
 use native.Mathlib.Omega.{arith}
-use mathlib.Core.Path.{_≡_, refl, sym, ap, _∙_}
-use mathlib.Core.Logic.{_↔_, _⊎_, ⊎-elim}
-use mathlib.Core.Bool.{Bool, true, false}
+use mathlib.Core.Path.{_≡_, refl, ap, _∙_}
+use mathlib.Core.Logic.{_⊎_, ⊎-elim}
+use mathlib.Core.Bool.{Bool}
 use mathlib.Core.List.{List, [], _∷_, _++_, map, map-append, reverse, List·Memᴰ, List·Memᴰ·head, Memᴰ·append-right}
 use lib.ListN.{length, getD, length-map, length-append}
 use lib.Dec.{eqb}
@@ -26,38 +26,24 @@ use Rattle.laws.proofs.KeptChoices.{kept-choices}
 use Rattle.laws.proofs.LeadRevokes.{disobeys-exactly}
 use Rattle.laws.proofs.CardRefusals.{to-play-lt}
 use Rattle.promises.proofs.UnfinishedTrick.{cards-append}
-use Rattle.promises.proofs.PlaysInOrder.{places, as-listed, exactly, rising, once}
+use Rattle.promises.proofs.PlaysInOrder.{in-order-by, once}
 use Rattle.promises.proofs.Demand2Judgement.{demand-2-judgement}
-use Rattle.promises.specs.Demand2Judgement.{RevokeOf}
-use Rattle.promises.specs.Demand2Revokes.{ByteBits, RevokedAtPlace, InOrder, Demand2Revokes}
+use Rattle.promises.specs.Demand2Judgement.{Revokes, revokeEntry, RevokeOf}
+use Rattle.promises.specs.Demand2Revokes.{ByteBits, InOrder, Demand2Revokes}
 
 -- ---- the list in order of play
 module _ (p : Parts) where
   abbrev revokes-at : List Event → ℕ → Bool
   revokes-at e c = disobeys (trumpOf p) (openingOf p) (p .deal) e c
 
-  abbrev revoke-by : List Event → ℕ → Revoke
-  revoke-by e c = revokeBy (trumpOf p) (openingOf p) e c
-
-  in-order : InOrder p
+  in-order : InOrder p (Revokes p) (revokeEntry p) (revokesOf p)
   unfolding revokesOf allRevokes
-  in-order =
-      let tells = disobeys-exactly (trumpOf p) (openingOf p) (p .deal) in
-      record {
-        places = places revokes-at revoke-by (p .plays);
-        exactly = λ k.
-            let e = exactly revokes-at revoke-by (p .plays) k in (
-              λ m. let i = e .0 m in record { card = i .card; there = i .there; revoked = tells _ (i .card) .0 (i .passing) },
-              λ r. e .1 (record { card = r .card; there = r .there; passing = tells _ (r .card) .1 (r .revoked) }),
-            );
-        rising = rising revokes-at revoke-by (p .plays);
-        listed = as-listed revokes-at revoke-by (p .plays);
-      }
+  in-order = in-order-by p revokes-at (revokeEntry p) (Revokes p) (disobeys-exactly (trumpOf p) (openingOf p) (p .deal))
 
   revokes-once : (before : List Revoke) (r : Revoke) (behind : List Revoke) → revokesOf p ≡ before ++ (r ∷ behind) → List·Memᴰ r behind → ⊥
   unfolding revokesOf allRevokes revokeBy
   revokes-once =
-      once (trumpOf p) (openingOf p) revokes-at revoke-by (λ (r : Revoke). r .trick) (λ (r : Revoke). r .seat) (λ e c. refl) (λ e c. refl) (p .plays)
+      once (trumpOf p) (openingOf p) revokes-at (revokeEntry p) (λ (r : Revoke). r .trick) (λ (r : Revoke). r .seat) (λ e c. refl) (λ e c. refl) (p .plays)
 
 -- ---- each byte read back
 -- a bit of the byte at a place
@@ -150,7 +136,7 @@ module _ (p : Parts) (ok : Lawful p) (before : List Revoke) (r : Revoke) (behind
   suit-lt =
       let i = listed in
       let none = play-lawful p ok (i .later) (i .card) (i .earlier) (i .play) in
-      rw (i .as-listed) (suit-low (trumpOf p) (openingOf p) (p .deal) (i .earlier) (i .card) (none .1) (i .revoked))
+      rw (i .as-listed) (suit-low (trumpOf p) (openingOf p) (p .deal) (i .earlier) (i .card) (none .1) (i .is))
 
   bit : (j : ℕ) (at : ℕ) → at ≡ 8 * length before + j → j < 8 → bitAt (revokeBytes p) at ≡ (r .trick * 16 + r .seat * 4 + r .suit) / 2 ^ (7 - j) % 2
   bit j at q h = rw (← is-byte) (bit-of (revokeBytes p) (length before) j at q h)

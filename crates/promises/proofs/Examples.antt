@@ -1,5 +1,5 @@
 -- The table P1 to P12, by evaluating the definitions. Assumes nothing.
-use mathlib.Core.Path.{_≡_, refl}
+use mathlib.Core.Path.{refl}
 use Rattle.laws.specs.Choice
 use Rattle.laws.specs.Auction
 use Rattle.laws.specs.Law44

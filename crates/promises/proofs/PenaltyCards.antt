@@ -1,20 +1,18 @@
 -- The penalty cards and the lead choices after each event of the play, proved. Assumes nothing.
 use Prim.Native.Nat.{ℕ, _<_}
 use mathlib.Core.Path.{_≡_}
-use mathlib.Core.List.{List, [], _∷_, _++_}
+use mathlib.Core.List.{List, [], _∷_}
 use lib.ListN.{length}
 use Rattle.laws.specs.Cards.{suitOf}
 use Rattle.laws.specs.Events.{Event}
 use Rattle.laws.specs.Law50.{isFaced, isMajor}
 use Rattle.laws.specs.Law51.{isForbidden}
 use Rattle.laws.specs.Kept.{NoneRefused}
-use Rattle.laws.specs.Record.{Parts}
-use Rattle.laws.specs.Judgement.{playOf, trumpOf, openingOf}
-use Rattle.laws.specs.Lawful.{Lawful}
+use Rattle.laws.specs.Judgement.{trumpOf, openingOf}
 use Rattle.laws.proofs.Plays.{none-refused}
 use Rattle.laws.proofs.KeptCards.{kept-cards}
 use Rattle.laws.proofs.KeptChoices.{kept-choices}
-use Rattle.penalty.specs.History.{ThirteenEach, positionOf}
+use Rattle.penalty.specs.History.{ThirteenEach}
 use Rattle.penalty.proofs.Sets.{word-has}
 use Rattle.penalty.proofs.TableStands.{table-stands}
 use Rattle.promises.proofs.Demand2Revokes.{none-behind}

@@ -1,7 +1,6 @@
 -- The plays that pass a test, listed in order of play, by their places among all plays, codes counted too: the places rise, and entries that tell the trick
 -- and the seat stand once. Assumes nothing.
 use Prim.Native.Nat.{ℕ, zero, suc, _+_, _-_, _/_, _%_, _≤_, _<_}
-use native.Mathlib.Nat.{add-zero, add-suc}
 use native.Mathlib.Omega.{arith}
 use mathlib.Core.Path.{_≡_, refl, sym, ap, subst, _∙_}
 use mathlib.Core.Logic.{_↔_, _⊎_, ⊎-elim}
@@ -18,7 +17,9 @@ use Rattle.laws.specs.Cards.{clockwise}
 use Rattle.laws.specs.Law44.{cardsPlayed, tricksComplete, cardsInTrick, leader, toPlay}
 use Rattle.laws.specs.Events.{Event, played, exposed, choice, cardsOf, listPlays}
 use Rattle.laws.proofs.Tests.{by-test}
-use Rattle.promises.specs.Demand2Revokes.{Rising, firstCard}
+use Rattle.laws.specs.Record.{Parts}
+use Rattle.laws.specs.Judgement.{playOf}
+use Rattle.promises.specs.Demand2Revokes.{Rising, firstCard, InOrder}
 use Rattle.promises.proofs.UnfinishedTrick.{cards-append}
 
 -- ---- a place of the plays
@@ -156,6 +157,21 @@ module _ {A : Type 0} (test : List Event → ℕ → Bool) (entry : List Event �
   pub rising : Rising places
   unfolding places
   rising = places-rise (length plays)
+
+-- ---- the list of the plays of parts that pass a test, in order of play
+pub in-order-by : {A : Type 0} (p : Parts) (test : List Event → ℕ → Bool) (entry : List Event → ℕ → A) (Is : List Event → ℕ → Type 0)
+    → ((e : List Event) (c : ℕ) → (test e c ≡ true) ↔ Is e c) → InOrder p Is entry (listPlays test entry (playOf p))
+in-order-by p test entry Is tells =
+    record {
+      places = places test entry (p .plays);
+      exactly = λ k.
+          let e = exactly test entry (p .plays) k in (
+            λ m. let i = e .0 m in record { card = i .card; there = i .there; is = tells _ (i .card) .0 (i .passing) },
+            λ r. e .1 (record { card = r .card; there = r .there; passing = tells _ (r .card) .1 (r .is) }),
+          );
+      rising = rising test entry (p .plays);
+      listed = as-listed test entry (p .plays);
+    }
 
 -- ---- a place has a trick and a seat of its own
 -- the history at a later place

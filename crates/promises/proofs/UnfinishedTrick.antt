@@ -8,7 +8,7 @@ use lib.Dec.{eqb}
 use lib.ListN.{length, getD, drop, length-append, drop-of-length-le, List·getD-eq-default}
 use Rattle.laws.specs.Choice.{if_then_else_, howMany}
 use Rattle.laws.specs.Cards.{noSeat, sideOf, partnerOf}
-use Rattle.laws.specs.Law44.{cardsPlayed, tricksComplete, tricksWon, toPlay}
+use Rattle.laws.specs.Law44.{cardsPlayed, tricksComplete, tricksWon}
 use Rattle.laws.specs.Events.{Event, played, exposed, choice, cardsOf}
 use Rattle.laws.specs.LeadRevoke.{Counted, countedBy, revokeBy}
 use Rattle.laws.specs.Law64.{isExempt, entitlement, wonFrom}

@@ -4,14 +4,13 @@ use native.Mathlib.Omega.{arith}
 use mathlib.Core.Path.{_≡_, refl, sym, ap, _∙_}
 use mathlib.Core.Logic.{_↔_}
 use mathlib.Core.Bool.{true, false}
-use mathlib.Core.List.{List, [], reverse}
+use mathlib.Core.List.{List}
 use borrow.Author.Tests.{le-ltb, lt-ltb, ltb-false}
 use lib.Dec.{ltb}
 use lib.ListN.{length, take, drop}
-use Rattle.laws.specs.Choice.{some}
 use Rattle.laws.specs.Bytes.{Bytes}
 use Rattle.laws.specs.Refusals.{shortRecordBuffer, refusalNumber, refusesContents}
-use Rattle.laws.specs.FlatPlay.{itemsOf, isBroken, eventsAmong}
+use Rattle.laws.specs.FlatPlay.{itemsOf, eventsAmong}
 use Rattle.laws.specs.Record.{Parts, encode}
 use Rattle.laws.specs.Judge.{Outcome, Outcome.refused as declined, Outcome.accepted, Rooms, Enough, judgeOf}
 use Rattle.laws.specs.Lawful.{Lawful}

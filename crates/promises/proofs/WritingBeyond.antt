@@ -2,33 +2,30 @@
 use Prim.Native.Nat.{ℕ, _≤_, _<_}
 use native.Mathlib.Omega.{arith}
 use mathlib.Core.Path.{_≡_, refl, sym, ap, _∙_}
-use mathlib.Core.Logic.{_⊎_, inl, inr, ⊎-elim}
-use mathlib.Core.Bool.{Bool, true, false, not}
-use mathlib.Core.List.{List, [], _∷_, _++_, reverse}
+use mathlib.Core.Logic.{_⊎_, ⊎-elim}
+use mathlib.Core.Bool.{true}
+use mathlib.Core.List.{List, [], _∷_, reverse}
 use borrow.Author.Tests.{le-leb, le-ltb, ne-eqb}
 use lib.Dec.{eqb, ltb}
-use lib.ListN.{length}
-use Rattle.laws.specs.Choice.{if_then_else_, some}
-use Rattle.laws.specs.Refusals.{noCard, notExposable, choiceNotOpen, tooManyCodes}
+use Rattle.laws.specs.Choice.{some}
 use Rattle.laws.specs.Law2.{dealer}
 use Rattle.laws.specs.Auction.{passedOut}
 use Rattle.laws.specs.CardRefusal.{cardRefusal}
-use Rattle.laws.specs.Events.{Event, played, exposed, choice, exposureCode, choiceCode, beginsCode, cardsOf, cardsAmong, codesOf}
-use Rattle.laws.specs.CodeRefusal.{mostCodes, eventRefusal}
-use Rattle.laws.specs.FlatPlay.{Item, event, broken, codeItem, itemsOf, isCard, cardsIn, isMisplaced, itemRefusal, flatOf}
+use Rattle.laws.specs.Events.{Event, played, exposed, choice, exposureCode, choiceCode, cardsOf, cardsAmong}
+use Rattle.laws.specs.CodeRefusal.{eventRefusal}
+use Rattle.laws.specs.FlatPlay.{Item, event, broken, codeItem, itemsOf, cardsIn, isMisplaced, itemRefusal}
 use Rattle.laws.specs.Record.{Parts}
 use Rattle.laws.specs.Reading.{Reading, Reading.refused as stopped, Reading.found, onward}
 use Rattle.laws.specs.Judge.{Outcome.refused as declined}
 use Rattle.laws.specs.Contents.{Given, takeHeading, takeDeal, takeCalls, takeCards, takeParts, contentsOf}
 use Rattle.laws.specs.Writing.{refused, writeOf}
-use Rattle.laws.proofs.Tests.{by-test}
 use Rattle.laws.proofs.FlatPlay.{card-first, code-first, as-in-record}
 use Rattle.laws.proofs.ItemsTaken.{some-many}
 use Rattle.laws.proofs.ContentsStop.{heading-passes, board-stops, table-stops, deal-passes, number-stops, holder-stops, codes-stop, calls-pass, call-stops}
 use Rattle.laws.proofs.ContentsStop.{cards-pass, count-stops, claim-stops}
 use Rattle.laws.proofs.PlaysStop.{no-room, room-left, coded, cut-first, bit-broken, full-refused, broken-refused, last-refused, exposed-refused, choice-refused}
 use Rattle.laws.proofs.PlaysStop.{code-no-card, none-after, out-stops, play-stops}
-use Rattle.promises.specs.Writing.{Section, heading, deal, calls, cards, claim, Alike, checksTo, HeadingStands, DealStands, CallsStand, CardsStand}
+use Rattle.promises.specs.Writing.{Section, heading, deal, calls, cards, claim, Alike, checksTo, HeadingStands, DealStands, CallsStand}
 use Rattle.promises.specs.Writing.{trumpOf, openingOf, PlaysTo, BeyondPlays, Beyond}
 
 -- a refusal of the contents is the writer's

@@ -11,7 +11,7 @@ use Rattle.laws.specs.Events.{Event, played}
 use Rattle.laws.specs.LeadRevoke.{revokeBy, RevokedBy}
 use Rattle.laws.specs.Failures.{Failure, failureBy, Against50C, Against50D1}
 use Rattle.laws.specs.Record.{Parts, encode}
-use Rattle.laws.specs.Judge.{Enough, Outcome.accepted, numberOf}
+use Rattle.laws.specs.Judge.{Enough, numberOf}
 use Rattle.laws.specs.Auction.{passedOut}
 use Rattle.laws.specs.Law77.{validScore}
 use Rattle.laws.specs.Reading.{numberAt}
@@ -21,24 +21,36 @@ use Rattle.laws.specs.Lawful.{Lawful}
 use Rattle.laws.specs.Lent.{roomsOf, _over_, answerLeft, listLeft, failuresLeft}
 use Rattle.promises.specs.Demand1.{saidOf}
 
--- r is a revoke of the parts: at some card the seat at turn held a card of the suit led and played another suit, or it led otherwise than declarer's choice
--- asked for, and could have obeyed it
-pub record RevokeOf (p : Parts) (r : Revoke) : Type 0 where
+-- x stands for a play of the parts: at some card, after the events before it, this held of the play, and x is its entry
+pub record PlayOf {A : Type 0} (p : Parts) (Is : List Event → ℕ → Type 0) (entry : List Event → ℕ → A) (x : A) : Type 0 where
   pub later : List Event
   pub card : ℕ
   pub earlier : List Event
   pub play : playOf p ≡ later ++ (played card ∷ earlier)
-  pub revoked : RevokedBy (trumpOf p) (openingOf p) (p .deal) earlier card
-  pub as-listed : r ≡ revokeBy (trumpOf p) (openingOf p) earlier card
+  pub is : Is earlier card
+  pub as-listed : x ≡ entry earlier card
 
--- f is a play of the parts against 50C or 50D1, on the hand of that moment
-pub record FailureOf (p : Parts) (f : Failure) : Type 0 where
-  pub later : List Event
-  pub card : ℕ
-  pub earlier : List Event
-  pub play : playOf p ≡ later ++ (played card ∷ earlier)
-  pub against : Against50C (trumpOf p) (openingOf p) (p .deal) earlier card ⊎ Against50D1 (trumpOf p) (openingOf p) (p .deal) earlier card
-  pub as-listed : f ≡ failureBy (trumpOf p) (openingOf p) earlier card
+-- the seat at turn held a card of the suit led and played another suit, or it led otherwise than declarer's choice asked for, and could have obeyed it
+abbrev pub Revokes : Parts → List Event → ℕ → Type 0
+Revokes p e c = RevokedBy (trumpOf p) (openingOf p) (p .deal) e c
+
+-- the play is against 50C or 50D1, on the hand of that moment
+abbrev pub Fails : Parts → List Event → ℕ → Type 0
+Fails p e c = Against50C (trumpOf p) (openingOf p) (p .deal) e c ⊎ Against50D1 (trumpOf p) (openingOf p) (p .deal) e c
+
+-- a revoke, and a play against 50C or 50D1, as they are listed
+abbrev pub revokeEntry : Parts → List Event → ℕ → Revoke
+revokeEntry p e c = revokeBy (trumpOf p) (openingOf p) e c
+
+abbrev pub failureEntry : Parts → List Event → ℕ → Failure
+failureEntry p e c = failureBy (trumpOf p) (openingOf p) e c
+
+-- r is a revoke of the parts, and f a play against 50C or 50D1
+abbrev pub RevokeOf : Parts → Revoke → Type 0
+RevokeOf p r = PlayOf p (Revokes p) (revokeEntry p) r
+
+abbrev pub FailureOf : Parts → Failure → Type 0
+FailureOf p f = PlayOf p (Fails p) (failureEntry p) f
 
 pub record Demand2Judgement : Type 0 where
   -- lawful parts are accepted, and the buffers hold their answer, their revokes and their plays against 50C or 50D1 over what was there

@@ -2,17 +2,17 @@
 -- Assumes nothing.
 use Prim.Native.Nat.{ℕ, suc, _+_, _*_, _≤_, _<_}
 use mathlib.Core.Path.{_≡_}
-use mathlib.Core.Logic.{_↔_, _⊎_}
+use mathlib.Core.Logic.{_↔_}
 use mathlib.Core.List.{List, [], _∷_, _++_, map, reverse, List·Memᴰ}
 use lib.ListN.{length, getD, take, drop}
 use Rattle.laws.specs.Law61.{Revoke}
 use Rattle.laws.specs.Events.{Event, played, exposed, choice}
-use Rattle.laws.specs.LeadRevoke.{revokeBy, RevokedBy}
-use Rattle.laws.specs.Failures.{Failure, failureBy, Against50C, Against50D1}
+use Rattle.laws.specs.Failures.{Failure}
 use Rattle.laws.specs.Record.{Parts}
 use Rattle.laws.specs.Reading.{numberAt}
-use Rattle.laws.specs.Judgement.{trumpOf, openingOf, revokesOf, revokeBytes, failuresOf, failuresBytes}
+use Rattle.laws.specs.Judgement.{revokesOf, revokeBytes, failuresOf, failuresBytes}
 use Rattle.laws.specs.Lawful.{Lawful}
+use Rattle.promises.specs.Demand2Judgement.{Revokes, Fails, revokeEntry, failureEntry}
 
 -- the byte behind those of `before` gives a revoke: its trick by 4 bits, its seat by 2, its suit by 2
 pub record ByteBits (p : Parts) (before : List Revoke) (r : Revoke) : Type 0 where
@@ -31,23 +31,15 @@ pub record PairBits (p : Parts) (before : List Failure) (f : Failure) : Type 0 w
   pub card : numberAt (failuresBytes p) (16 * length before + 6) 6 ≡ f .card
   pub zeros : numberAt (failuresBytes p) (16 * length before + 12) 4 ≡ 0
 
--- the events before a place of the plays, counted from 0, latest first, and the event there
+-- the events before a place of the plays, counted from 0, latest first
 abbrev pub eventsBefore : Parts → ℕ → List Event
 eventsBefore p k = reverse (take k (p .plays))
 
--- the play at a place, codes counted too, was the card, and a revoke: the seat at turn held a card of the suit led and played another suit, or it led otherwise
--- than declarer's choice asked for, and could have obeyed it
-pub record RevokedAtPlace (p : Parts) (k : ℕ) : Type 0 where
+-- a card was played at a place, codes counted too, and this held of the play
+pub record AtPlace (p : Parts) (Is : List Event → ℕ → Type 0) (k : ℕ) : Type 0 where
   pub card : ℕ
   pub there : drop k (p .plays) ≡ played card ∷ drop (suc k) (p .plays)
-  pub revoked : RevokedBy (trumpOf p) (openingOf p) (p .deal) (eventsBefore p k) card
-
--- the play at a place was the card, and against 50C or 50D1
-pub record FailedAtPlace (p : Parts) (k : ℕ) : Type 0 where
-  pub card : ℕ
-  pub there : drop k (p .plays) ≡ played card ∷ drop (suc k) (p .plays)
-  pub against : Against50C (trumpOf p) (openingOf p) (p .deal) (eventsBefore p k) card
-      ⊎ Against50D1 (trumpOf p) (openingOf p) (p .deal) (eventsBefore p k) card
+  pub is : Is (eventsBefore p k) card
 
 -- each member is below all those behind it
 unfoldable pub Rising : List ℕ → Type 0
@@ -65,25 +57,18 @@ firstCard (choice kind suit ∷ plays) = 0
 abbrev pub cardAt : Parts → ℕ → ℕ
 cardAt p k = firstCard (drop k (p .plays))
 
--- the places of the revokes, rising, and the list has their revokes one for one
-pub record InOrder (p : Parts) : Type 0 where
+-- the places of the plays of which this held, rising, and the list has their entries one for one
+pub record InOrder {A : Type 0} (p : Parts) (Is : List Event → ℕ → Type 0) (entry : List Event → ℕ → A) (list : List A) : Type 0 where
   pub places : List ℕ
-  pub exactly : (k : ℕ) → List·Memᴰ k places ↔ RevokedAtPlace p k
+  pub exactly : (k : ℕ) → List·Memᴰ k places ↔ AtPlace p Is k
   pub rising : Rising places
-  pub listed : revokesOf p ≡ map (λ k. revokeBy (trumpOf p) (openingOf p) (eventsBefore p k) (cardAt p k)) places
-
--- the same of the plays against 50C or 50D1
-pub record FailuresInOrder (p : Parts) : Type 0 where
-  pub places : List ℕ
-  pub exactly : (k : ℕ) → List·Memᴰ k places ↔ FailedAtPlace p k
-  pub rising : Rising places
-  pub listed : failuresOf p ≡ map (λ k. failureBy (trumpOf p) (openingOf p) (eventsBefore p k) (cardAt p k)) places
+  pub listed : list ≡ map (λ k. entry (eventsBefore p k) (cardAt p k)) places
 
 pub record Demand2Revokes : Type 0 where
   -- no part of a revoke is cut: read back, each byte gives its trick, seat and suit
   pub bytes : (p : Parts) → Lawful p → (before : List Revoke) (r : Revoke) (behind : List Revoke) → revokesOf p ≡ before ++ (r ∷ behind) → ByteBits p before r
   -- the list is in order of play
-  pub in-order : (p : Parts) → InOrder p
+  pub in-order : (p : Parts) → InOrder p (Revokes p) (revokeEntry p) (revokesOf p)
   -- no two entries of the list are the same
   pub once : (p : Parts) (before : List Revoke) (r : Revoke) (behind : List Revoke) → revokesOf p ≡ before ++ (r ∷ behind) → List·Memᴰ r behind → ⊥
 
@@ -96,5 +81,5 @@ pub record Demand2Failures : Type 0 where
   pub pairs : (p : Parts) → Lawful p → (before : List Failure) (f : Failure) (behind : List Failure) → failuresOf p ≡ before ++ (f ∷ behind)
       → PairBits p before f
   -- they are in order of play, each once
-  pub in-order : (p : Parts) → FailuresInOrder p
+  pub in-order : (p : Parts) → InOrder p (Fails p) (failureEntry p) (failuresOf p)
   pub once : (p : Parts) (before : List Failure) (f : Failure) (behind : List Failure) → failuresOf p ≡ before ++ (f ∷ behind) → List·Memᴰ f behind → ⊥
