@@ -11,15 +11,15 @@
 #include <stdint.h>
 
 /* The version of this interface. A changed signature or size raises the first number, a function more the second. */
-#define JUDGE_VERSION_MAJOR 3
+#define JUDGE_VERSION_MAJOR 4
 #define JUDGE_VERSION_MINOR 0
 
 #ifdef __cplusplus
 extern "C" {
 #endif
 
-/* The least lengths of the three buffers, and a number of bytes that no accepted record exceeds: this too is proved. */
-enum { JUDGE_ANSWER_BYTES = 7, JUDGE_REVOKE_BYTES = 48, JUDGE_FAILURE_BYTES = 52, JUDGE_RECORD_MOST = 505 };
+/* The least lengths of the four buffers, and a number of bytes that no accepted record exceeds: this too is proved. */
+enum { JUDGE_ANSWER_BYTES = 7, JUDGE_REVOKE_BYTES = 48, JUDGE_FAILURE_BYTES = 52, JUDGE_WINNER_BYTES = 26, JUDGE_RECORD_MOST = 505 };
 
 /* Judges one table record.
  *
@@ -28,17 +28,18 @@ enum { JUDGE_ANSWER_BYTES = 7, JUDGE_REVOKE_BYTES = 48, JUDGE_FAILURE_BYTES = 52
  *   - one byte of `revokes` is filled for each revoke, in order of play;
  *   - 52 bytes of `failures` are written: two for each play against Law 50C or 50D1, which Law 52 calls a failure to play a penalty
  *     card, in order of play, and zeros behind them, also where there is none;
- *   - the other bytes of the three buffers stay as they were.
+ *   - two bytes of `winners` are filled for each trick that has four cards, trick by trick: the seat that won, and the card that won;
+ *   - the other bytes of the four buffers stay as they were, those of tricks without four cards too.
  * Otherwise returns refusal * 1024 + place, and no byte of any buffer is changed. The record is never changed. Nothing is kept between
  * calls, so calls may run at the same time.
  *
  * No record and no length is trusted. What C has to see to is this, and nothing else:
- *   - each pointer has as many bytes as the length beside it says, the three buffers writable;
- *   - no two of the four overlap.
+ *   - each pointer has as many bytes as the length beside it says, the four buffers writable;
+ *   - no two of the five overlap.
  * A null pointer beside the length 0 meets both: nothing is read or written through it. A null record is refused with 2, a null buffer
  * with 1. */
 uint32_t judge_record(const uint8_t *record, size_t record_len, uint8_t *answer, size_t answer_len, uint8_t *revokes,
-                      size_t revokes_len, uint8_t *failures, size_t failures_len);
+                      size_t revokes_len, uint8_t *failures, size_t failures_len, uint8_t *winners, size_t winners_len);
 
 /* Writes one table record from its contents: the board, the table, the seat that was dealt card 0, 1, .. 51, the codes of the calls and
  * of the cards in their order, and a claim. Among the calls, code 38 marks the next one as an insufficient bid that was accepted.
@@ -68,7 +69,7 @@ uint32_t judge_write_record(uint32_t board, uint32_t table, const uint8_t *holde
  * count among the plays, and its place is that of the card that it stands before.
  *
  * The number is no rank. One refusal is returned, the first that applies in this order:
- *   - the buffers: 1, for the answer, then for the revokes, then for the failures;
+ *   - the buffers: 1, for the answer, then for the revokes, then for the failures, then for the winners;
  *   - board and table: both are read (2 where the record ends), then 3, for the board, then for the table;
  *   - the deal: it is read whole (2), then 4;
  *   - the number of calls (2); then for each code in turn: it is read (2), then 5, then 8, then 24 after a mark, else 6 or 7;
@@ -80,7 +81,7 @@ uint32_t judge_write_record(uint32_t board, uint32_t table, const uint8_t *holde
  * So the record 00 01 is refused with 3 and not with 2, and a bid after the end that is too low as well with 8 and not with 6. */
 enum judge_refusal {
     JUDGE_ACCEPTED = 0,
-    JUDGE_BUFFER_TOO_SHORT = 1,      /* place 0: answer under 7 bytes; 1: revokes under 48; 2: failures under 52 */
+    JUDGE_BUFFER_TOO_SHORT = 1,      /* place 0: answer under 7 bytes; 1: revokes under 48; 2: failures under 52; 3: winners under 26 */
     JUDGE_RECORD_ENDS = 2,           /* the record ends before a field is whole; place 0 */
     JUDGE_NO_BOARD_OR_TABLE = 3,     /* place 0: board 0, or over 127; 1: table 0, or over 511 */
     JUDGE_NOT_THIRTEEN_CARDS = 4,    /* Law 1; place: the first such seat; 4: not 52 holders from 0 to 3 */
@@ -105,7 +106,7 @@ enum judge_refusal {
     JUDGE_TOO_MANY_CALLS = 33        /* judge_write_record alone: more than 511 codes of calls; place 511 */
 };
 
-/* Whether what either function returned is a refusal. */
+/* Whether what one of the functions returned is a refusal. */
 static inline int judge_is_refusal(uint32_t number) { return number >= 1024u; }
 
 /* The two parts of a refusal. */
@@ -180,6 +181,20 @@ static inline unsigned judge_count_failures(const uint8_t failures[JUDGE_FAILURE
     unsigned count = 0;
     while (count < JUDGE_FAILURE_BYTES / 2 && judge_unpack_failure(failures, count).trick > 0) count++;
     return count;
+}
+
+/* A complete trick. Cards: 13 * suit + rank, rank 0 for the two. */
+struct judge_trick {
+    unsigned winner; /* seat */
+    unsigned card;   /* the card that won */
+};
+
+/* Trick 1, 2, .. 13 of an accepted record, apart. Ask only for a trick that has four cards: the bytes of others are not the judge's. */
+static inline struct judge_trick judge_unpack_trick(const uint8_t winners[JUDGE_WINNER_BYTES], unsigned trick) {
+    struct judge_trick t;
+    t.winner = winners[2 * trick - 2];
+    t.card = winners[2 * trick - 1];
+    return t;
 }
 
 #ifdef __cplusplus

@@ -1,31 +1,34 @@
-/* Judges table records: a line for each, the judgement or the refusal in words; or writes one from words. */
+/* Judges table records: a line for each, the judgement or the refusal in words, and the play where it is asked for; or writes one from words. */
 #include <stdio.h>
 #include <stdlib.h>
 #include <string.h>
 
 #include "input.h"
 #include "judge.h"
+#include "play.h"
 #include "status.h"
 #include "words.h"
 #include "write.h"
 
 static const char USAGE[] =
-    "usage: terminal [-b | -x] [FILE]...\n"
+    "usage: terminal [-v] [-b | -x] [FILE]...\n"
     "       terminal -w [FILE]\n"
     "Judges the table record in each FILE, or in standard input where there is none or it is -.\n"
     "A file is read as bytes, or as hexadecimal where its name ends in .hex; -b and -x say so for all.\n"
+    "With -v, the play follows trick by trick, with the card that won.\n"
     "With -w, writes the bytes of the record that FILE, or standard input, has in words, as samples/README.md describes them.\n"
     "Among the cards ?C7 is the seven of clubs exposed by accident, !C7 deliberately, +C clubs required of the lead, -C forbidden.\n"
     "Calls and plays count from 0. Exits 0 if all were accepted, 1 if one was refused, 2 if one could not be read.\n";
 
 enum form { BY_NAME, BINARY, HEX, WORDS };
 
-static enum status judge(const char *name, const struct bytes *record) {
-    uint8_t answer[JUDGE_ANSWER_BYTES], revokes[JUDGE_REVOKE_BYTES], failures[JUDGE_FAILURE_BYTES];
-    uint32_t number =
-        judge_record(record->at, record->length, answer, sizeof answer, revokes, sizeof revokes, failures, sizeof failures);
+static enum status judge(const char *name, const struct bytes *record, int tricks) {
+    uint8_t answer[JUDGE_ANSWER_BYTES], revokes[JUDGE_REVOKE_BYTES], failures[JUDGE_FAILURE_BYTES], winners[JUDGE_WINNER_BYTES];
+    uint32_t number = judge_record(record->at, record->length, answer, sizeof answer, revokes, sizeof revokes, failures,
+                                   sizeof failures, winners, sizeof winners);
     if (number == 0) {
         print_judgement(stdout, answer, revokes, failures);
+        if (tricks) print_play(stdout, record->at, answer, winners);
         return ACCEPTED;
     }
     printf("%s: refused, ", name);
@@ -33,7 +36,7 @@ static enum status judge(const char *name, const struct bytes *record) {
     return REFUSED;
 }
 
-static enum status judge_file(const char *name, enum form form) {
+static enum status judge_file(const char *name, enum form form, int tricks) {
     const char *shown;
     FILE *file = open_input(name, &shown);
     struct bytes record = {NULL, 0, 0};
@@ -44,7 +47,7 @@ static enum status judge_file(const char *name, enum form form) {
     if (fault)
         fprintf(stderr, "%s %s\n", shown, fault);
     else
-        status = judge(shown, &record);
+        status = judge(shown, &record, tricks);
     free(record.at);
     close_input(file);
     return status;
@@ -58,7 +61,7 @@ static int usage(void) {
 int main(int count, char **words) {
     enum form form = BY_NAME;
     enum status worst = ACCEPTED;
-    int k = 1;
+    int tricks = 0, k = 1;
     for (; k < count && words[k][0] == '-' && words[k][1] != '\0'; k++) {
         if (strcmp(words[k], "-b") == 0)
             form = BINARY;
@@ -66,6 +69,8 @@ int main(int count, char **words) {
             form = HEX;
         else if (strcmp(words[k], "-w") == 0)
             form = WORDS;
+        else if (strcmp(words[k], "-v") == 0)
+            tricks = 1;
         else
             return usage();
     }
@@ -73,10 +78,10 @@ int main(int count, char **words) {
         if (count > k + 1) return usage();
         worst = write_file(k < count ? words[k] : "-");
     } else if (k == count) {
-        worst = judge_file("-", form);
+        worst = judge_file("-", form, tricks);
     } else {
         for (; k < count; k++) {
-            enum status status = judge_file(words[k], form);
+            enum status status = judge_file(words[k], form, tricks);
             if (status > worst) worst = status;
         }
     }

@@ -9,6 +9,12 @@ static const char SUIT_LETTERS[] = "CDHS";
 static const char RANKS[] = "23456789TJQKA";
 static const char *const DOUBLINGS[] = {"", " doubled", " redoubled"};
 
+const char *seat_word(unsigned seat) { return SEATS[seat]; }
+
+char suit_letter(unsigned suit) { return SUIT_LETTERS[suit]; }
+
+void print_card(FILE *out, unsigned card) { fprintf(out, "%c%c", SUIT_LETTERS[card / 13], RANKS[card % 13]); }
+
 static void print_revokes(FILE *out, const uint8_t *revokes, unsigned count) {
     for (unsigned k = 0; k < count; k++) {
         struct judge_revoke r = judge_unpack_revoke(revokes[k]);
@@ -22,7 +28,8 @@ static void print_failures(FILE *out, const uint8_t *failures) {
     const char *before = count > 1 ? "; failures to play a penalty card: " : "; failure to play a penalty card: ";
     for (unsigned k = 0; k < count; k++) {
         struct judge_failure f = judge_unpack_failure(failures, k);
-        fprintf(out, "%strick %u, %s plays %c%c", k > 0 ? "; " : before, f.trick, SEATS[f.seat], SUIT_LETTERS[f.card / 13], RANKS[f.card % 13]);
+        fprintf(out, "%strick %u, %s plays ", k > 0 ? "; " : before, f.trick, SEATS[f.seat]);
+        print_card(out, f.card);
     }
 }
 
@@ -42,7 +49,8 @@ void print_judgement(FILE *out, const uint8_t *answer, const uint8_t *revokes, c
     fprintf(out, "\n");
 }
 
-static const char *const SHORT_BUFFERS[] = {"answer under 7 bytes", "list of revokes under 48 bytes", "list of failures under 52 bytes"};
+static const char *const SHORT_BUFFERS[] = {"answer under 7 bytes", "list of revokes under 48 bytes", "list of failures under 52 bytes",
+                                            "list of winners under 26 bytes"};
 
 void print_refusal(FILE *out, uint32_t number) {
     unsigned place = judge_place_of(number);

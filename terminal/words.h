@@ -1,9 +1,18 @@
-/* A judgement or a refusal in the words that people read. */
+/* A seat, a card, a judgement or a refusal in the words that people read. */
 #ifndef WORDS_H
 #define WORDS_H
 
 #include <stdint.h>
 #include <stdio.h>
+
+/* N, E, S or W, by number. */
+const char *seat_word(unsigned seat);
+
+/* C, D, H or S. */
+char suit_letter(unsigned suit);
+
+/* `D7`, by its number. */
+void print_card(FILE *out, unsigned card);
 
 /* `Board 7 table 12: 4S doubled by N, 10 tricks, 9 after Law 64, NS -200; revoke: trick 5, N, hearts`, and a newline. Behind the revokes
  * stand the plays against Law 50: `; failure to play a penalty card: trick 6, E plays C8`. */

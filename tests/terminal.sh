@@ -1,6 +1,6 @@
 #!/bin/sh
 # Tries the terminal, whose path is given: each sample against its line, all in one call, bytes and hexadecimal, files and standard input,
-# each sample written from its words, what cannot be read, and the exit status. Run from the repository's folder.
+# each sample written from its words, the play trick by trick, what cannot be read, and the exit status. Run from the repository's folder.
 set -u
 terminal=$1
 work=$2
@@ -33,6 +33,15 @@ for due in samples/*.expected; do
 done
 wrote=$("$terminal" samples/*.hex; echo "status $?")
 same "all samples" "$wrote" "${all_due}status 1"
+
+for play in samples/*.play; do
+    hex=${play%.play}.hex
+    same "$hex with the play" "$("$terminal" -v "$hex"; echo $?)" "$(cat "${play%.play}.expected" "$play")
+0"
+done
+same "a passed-out board with the play" "$("$terminal" -v samples/passed-out.hex)" "$(cat samples/passed-out.expected)"
+same "a refused record with the play" "$("$terminal" -v samples/refused-card.hex; echo $?)" "$(cat samples/refused-card.expected)
+1"
 
 good='Board 3 table 1: 3NT by N, 7 tricks, NS -100'
 bytes samples/claim.hex >"$work/claim"

@@ -76,6 +76,18 @@ static void unpacks_failures(void) {
     expect("no failure", (long)judge_count_failures(bytes), 0);
 }
 
+/* Trick 1 by E with DA, trick 13 by S with C2. */
+static void unpacks_tricks(void) {
+    uint8_t bytes[JUDGE_WINNER_BYTES] = {1, 25};
+    struct judge_trick t = judge_unpack_trick(bytes, 1);
+    expect("winner", (long)t.winner, 1);
+    expect("card", (long)t.card, 25);
+    bytes[24] = 2;
+    t = judge_unpack_trick(bytes, 13);
+    expect("last winner", (long)t.winner, 2);
+    expect("last card", (long)t.card, 0);
+}
+
 static void unpacks_a_number(void) {
     expect("refusal of 6151", judge_refusal_of(6151), JUDGE_BID_NOT_ABOVE);
     expect("place of 6151", (long)judge_place_of(6151), 7);
@@ -89,10 +101,11 @@ static void unpacks_a_number(void) {
     expect("too many calls", JUDGE_TOO_MANY_CALLS, 33);
     expect("the list of revokes", JUDGE_REVOKE_BYTES, 48);
     expect("the list of failures", JUDGE_FAILURE_BYTES, 52);
+    expect("the list of winners", JUDGE_WINNER_BYTES, 26);
     expect("the longest record", JUDGE_RECORD_MOST, 505);
     expect("a length is no refusal", judge_is_refusal(1023), 0);
     expect("a refusal", judge_is_refusal(3 * 1024), 1);
-    expect("the version's first number", JUDGE_VERSION_MAJOR, 3);
+    expect("the version's first number", JUDGE_VERSION_MAJOR, 4);
     expect("the version's second number", JUDGE_VERSION_MINOR >= 0, 1);
 }
 
@@ -103,12 +116,13 @@ static const uint8_t PASSED_OUT_ANSWER[7] = {0x02, 0x01, 0, 0, 0, 0, 0};
 
 static const uint8_t ZEROS[52] = {0};
 
-static uint8_t answer[40], revokes[80], failures[80], all_fives[80];
+static uint8_t answer[40], revokes[80], failures[80], winners[40], all_fives[80];
 
 static void fill(void) {
     memset(answer, 0x55, sizeof answer);
     memset(revokes, 0x55, sizeof revokes);
     memset(failures, 0x55, sizeof failures);
+    memset(winners, 0x55, sizeof winners);
     memset(all_fives, 0x55, sizeof all_fives);
 }
 
@@ -116,25 +130,30 @@ static void expect_untouched(const char *what) {
     expect(what, memcmp(answer, all_fives, sizeof answer) != 0, 0);
     expect(what, memcmp(revokes, all_fives, sizeof revokes) != 0, 0);
     expect(what, memcmp(failures, all_fives, sizeof failures) != 0, 0);
+    expect(what, memcmp(winners, all_fives, sizeof winners) != 0, 0);
 }
 
-/* Judges a record with the three buffers, of so many bytes each. */
-static long judged(const uint8_t *bytes, size_t length, size_t answer_len, size_t revokes_len, size_t failures_len) {
-    return (long)judge_record(bytes, length, answer, answer_len, revokes, revokes_len, failures, failures_len);
+/* Judges a record with the four buffers, of so many bytes each. */
+static long judged(const uint8_t *bytes, size_t length, size_t answer_len, size_t revokes_len, size_t failures_len, size_t winners_len) {
+    return (long)judge_record(bytes, length, answer, answer_len, revokes, revokes_len, failures, failures_len, winners, winners_len);
 }
+
+/* The same with all bytes of the buffers. */
+static long judged_whole(const uint8_t *bytes, size_t length) { return judged(bytes, length, 40, 80, 80, 40); }
 
 static void judges_the_example(void) {
     fill();
-    expect("the example", judged(PASSED_OUT, 20, 40, 80, 80), 0);
+    expect("the example", judged_whole(PASSED_OUT, 20), 0);
     expect("its answer", memcmp(answer, PASSED_OUT_ANSWER, 7), 0);
     expect("the bytes after it", memcmp(answer + 7, all_fives, 33), 0);
     expect("its list", memcmp(revokes, all_fives, 80), 0);
     expect("its failures", memcmp(failures, ZEROS, 52), 0);
     expect("the bytes after them", memcmp(failures + 52, all_fives, 28), 0);
+    expect("its winners", memcmp(winners, all_fives, 40), 0);
     fill();
-    expect("one byte less", judged(PASSED_OUT, 19, 40, 80, 80), 2 * 1024);
-    expect("one byte more", judged(PASSED_OUT, 21, 40, 80, 80), 16 * 1024);
-    expect("no byte", judged(PASSED_OUT, 0, 40, 80, 80), 2 * 1024);
+    expect("one byte less", judged_whole(PASSED_OUT, 19), 2 * 1024);
+    expect("one byte more", judged_whole(PASSED_OUT, 21), 16 * 1024);
+    expect("no byte", judged_whole(PASSED_OUT, 0), 2 * 1024);
     expect_untouched("buffers after a refusal");
 }
 
@@ -147,7 +166,7 @@ static const uint8_t LOW_CARD_FAILURE[2] = {0x14, 0xE0};
 
 static void judges_a_failure(void) {
     fill();
-    expect("a low card", judged(LOW_CARD, 26, 7, 48, 52), 0);
+    expect("a low card", judged(LOW_CARD, 26, 7, 48, 52, 26), 0);
     expect("its score", judge_unpack(answer).score, 190);
     expect("no revoke", (long)judge_unpack(answer).revokes, 0);
     expect("the list", memcmp(revokes, all_fives, 80), 0);
@@ -155,28 +174,34 @@ static void judges_a_failure(void) {
     expect("one failure", (long)judge_count_failures(failures), 1);
     expect("zeros behind it", memcmp(failures + 2, ZEROS, 50), 0);
     expect("the bytes behind them", memcmp(failures + 52, all_fives, 28), 0);
+    expect("N wins", (long)judge_unpack_trick(winners, 1).winner, 0);
+    expect("with C2", (long)judge_unpack_trick(winners, 1).card, 0);
+    expect("the bytes of the other tricks", memcmp(winners + 2, all_fives, 38), 0);
 }
 
 static void refuses_short_buffers(void) {
     fill();
-    expect("answer of 6", judged(PASSED_OUT, 20, 6, 48, 52), 1024);
-    expect("answer of 0", judged(PASSED_OUT, 20, 0, 48, 52), 1024);
-    expect("list of 47", judged(PASSED_OUT, 20, 7, 47, 52), 1025);
-    expect("failures of 51", judged(PASSED_OUT, 20, 7, 48, 51), 1026);
-    expect("answer and list short", judged(PASSED_OUT, 20, 6, 47, 52), 1024);
-    expect("list and failures short", judged(PASSED_OUT, 20, 7, 47, 51), 1025);
-    expect("all short", judged(PASSED_OUT, 20, 6, 47, 51), 1024);
+    expect("answer of 6", judged(PASSED_OUT, 20, 6, 48, 52, 26), 1024);
+    expect("answer of 0", judged(PASSED_OUT, 20, 0, 48, 52, 26), 1024);
+    expect("list of 47", judged(PASSED_OUT, 20, 7, 47, 52, 26), 1025);
+    expect("failures of 51", judged(PASSED_OUT, 20, 7, 48, 51, 26), 1026);
+    expect("winners of 25", judged(PASSED_OUT, 20, 7, 48, 52, 25), 1027);
+    expect("answer and list short", judged(PASSED_OUT, 20, 6, 47, 52, 26), 1024);
+    expect("list and failures short", judged(PASSED_OUT, 20, 7, 47, 51, 26), 1025);
+    expect("failures and winners short", judged(PASSED_OUT, 20, 7, 48, 51, 25), 1026);
+    expect("all short", judged(PASSED_OUT, 20, 6, 47, 51, 25), 1024);
     expect_untouched("buffers that are too short");
 }
 
 static void takes_null_pointers(void) {
     fill();
-    expect("null record", judged(NULL, 0, 40, 80, 80), 2 * 1024);
-    expect("null answer", (long)judge_record(PASSED_OUT, 20, NULL, 0, revokes, 80, failures, 80), 1024);
-    expect("null list", (long)judge_record(PASSED_OUT, 20, answer, 40, NULL, 0, failures, 80), 1025);
-    expect("null failures", (long)judge_record(PASSED_OUT, 20, answer, 40, revokes, 80, NULL, 0), 1026);
-    expect("null record and list", (long)judge_record(NULL, 0, answer, 40, NULL, 0, failures, 80), 1025);
-    expect("all null", (long)judge_record(NULL, 0, NULL, 0, NULL, 0, NULL, 0), 1024);
+    expect("null record", judged_whole(NULL, 0), 2 * 1024);
+    expect("null answer", (long)judge_record(PASSED_OUT, 20, NULL, 0, revokes, 80, failures, 80, winners, 40), 1024);
+    expect("null list", (long)judge_record(PASSED_OUT, 20, answer, 40, NULL, 0, failures, 80, winners, 40), 1025);
+    expect("null failures", (long)judge_record(PASSED_OUT, 20, answer, 40, revokes, 80, NULL, 0, winners, 40), 1026);
+    expect("null winners", (long)judge_record(PASSED_OUT, 20, answer, 40, revokes, 80, failures, 80, NULL, 0), 1027);
+    expect("null record and list", (long)judge_record(NULL, 0, answer, 40, NULL, 0, failures, 80, winners, 40), 1025);
+    expect("all null", (long)judge_record(NULL, 0, NULL, 0, NULL, 0, NULL, 0, NULL, 0), 1024);
     expect_untouched("buffers beside null pointers");
 }
 
@@ -188,8 +213,8 @@ static const uint8_t LOW_AFTER_END[20] = {0x02, 0x01, 0x00, 0x00, 0x00, 0x15, 0x
 static void checks_in_order(void) {
     const uint8_t board_0[2] = {0x00, 0x01};
     fill();
-    expect("board 0", judged(board_0, 2, 40, 80, 80), 3 * 1024);
-    expect("a low bid after the end", judged(LOW_AFTER_END, 20, 40, 80, 80), 8 * 1024 + 4);
+    expect("board 0", judged_whole(board_0, 2), 3 * 1024);
+    expect("a low bid after the end", judged_whole(LOW_AFTER_END, 20), 8 * 1024 + 4);
     expect_untouched("buffers after a refusal in order");
 }
 
@@ -252,6 +277,7 @@ int main(void) {
     unpacks_the_largest();
     unpacks_a_revoke();
     unpacks_failures();
+    unpacks_tricks();
     unpacks_a_number();
     judges_the_example();
     judges_a_failure();

@@ -10,13 +10,13 @@
 enum { STACK = 1 << 20, MOST = 1 << 16, PATTERN = 0xA5 };
 
 static uint8_t stack[STACK];
-static uint8_t record[1 << 16], answer[1 << 16], list[1 << 16], failures[1 << 16];
-static size_t record_len, answer_len, list_len, failures_len;
+static uint8_t record[1 << 16], answer[1 << 16], list[1 << 16], failures[1 << 16], winners[1 << 16];
+static size_t record_len, answer_len, list_len, failures_len, winners_len;
 static uint32_t returned;
 static ucontext_t here, judging;
 
 static void judge_one(void) {
-    returned = judge_record(record, record_len, answer, answer_len, list, list_len, failures, failures_len);
+    returned = judge_record(record, record_len, answer, answer_len, list, list_len, failures, failures_len, winners, winners_len);
 }
 
 static uint32_t number(FILE *file, int bytes) {
@@ -44,11 +44,13 @@ static int one(FILE *file) {
     answer_len = number(file, 2);
     list_len = number(file, 2);
     failures_len = number(file, 2);
+    winners_len = number(file, 2);
     due = number(file, 4);
     if (fread(record, 1, record_len, file) != record_len || !judged() || returned != due) return 0;
     if (due == 0) {
         number(file, JUDGE_ANSWER_BYTES);
         for (uint32_t bytes = number(file, 1) + JUDGE_FAILURE_BYTES; bytes > 0; bytes--) number(file, 1);
+        for (uint32_t bytes = number(file, 1); bytes > 0; bytes--) number(file, 1);
     }
     return 1;
 }

@@ -10,6 +10,41 @@ use crate::score;
 pub const ANSWER_BYTES: usize = 7;
 /// Two bytes for each play against Law 50C or 50D1, and zeros behind them.
 pub const FAILURE_BYTES: usize = 52;
+/// Two bytes for each complete trick: its winner, and the card that won.
+pub const WINNER_BYTES: usize = 26;
+
+/// The lent buffers: the answer, the list of revokes, the plays against Laws 50C and 50D1, the winners.
+pub struct Lent<'a> {
+    pub answer: &'a mut [u8],
+    pub list: &'a mut [u8],
+    pub failures: &'a mut [u8],
+    pub winners: &'a mut [u8],
+}
+
+/// Buffers of the least lengths.
+#[derive(Clone, Debug, PartialEq)]
+pub struct Least {
+    pub answer: [u8; ANSWER_BYTES],
+    pub list: [u8; MOST_REVOKES],
+    pub failures: [u8; FAILURE_BYTES],
+    pub winners: [u8; WINNER_BYTES],
+}
+
+impl Least {
+    /// With this byte in every place.
+    pub fn of(byte: u8) -> Least {
+        Least { answer: [byte; ANSWER_BYTES], list: [byte; MOST_REVOKES], failures: [byte; FAILURE_BYTES], winners: [byte; WINNER_BYTES] }
+    }
+
+    pub fn lend(&mut self) -> Lent<'_> {
+        Lent { answer: &mut self.answer, list: &mut self.list, failures: &mut self.failures, winners: &mut self.winners }
+    }
+
+    /// NS's score in the answer.
+    pub fn score(&self) -> i16 {
+        i16::from_be_bytes([self.answer[5], self.answer[6]])
+    }
+}
 
 /// What is returned for a refusal: its number times 1024, and its place.
 pub type Refused = u32;
@@ -24,11 +59,18 @@ pub struct Judgement {
     revokes: usize,
     list: [u8; MOST_REVOKES],
     pub failures: [u8; FAILURE_BYTES],
+    complete: usize,
+    winners: [u8; WINNER_BYTES],
 }
 
 impl Judgement {
     pub fn revokes(&self) -> &[u8] {
         &self.list[..self.revokes]
+    }
+
+    /// Winner and winning card of each complete trick.
+    pub fn winners(&self) -> &[u8] {
+        &self.winners[..2 * self.complete]
     }
 
     /// Whether tricks change sides by Law 64.
@@ -39,26 +81,30 @@ impl Judgement {
 }
 
 /// Judges a record: 0 and the bytes written, or a refusal and nothing written.
-pub fn judge(record: &[u8], answer: &mut [u8], list: &mut [u8], failures: &mut [u8]) -> u32 {
-    judge_by(&RIGHT, record, answer, list, failures)
+pub fn judge(record: &[u8], lent: &mut Lent) -> u32 {
+    judge_by(&RIGHT, record, lent)
 }
 
 /// The same with these rules for penalty cards.
-pub fn judge_by(rules: &'static Rules, record: &[u8], answer: &mut [u8], list: &mut [u8], failures: &mut [u8]) -> u32 {
-    if answer.len() < ANSWER_BYTES {
+pub fn judge_by(rules: &'static Rules, record: &[u8], lent: &mut Lent) -> u32 {
+    if lent.answer.len() < ANSWER_BYTES {
         return refused(1, 0);
     }
-    if list.len() < MOST_REVOKES {
+    if lent.list.len() < MOST_REVOKES {
         return refused(1, 1);
     }
-    if failures.len() < FAILURE_BYTES {
+    if lent.failures.len() < FAILURE_BYTES {
         return refused(1, 2);
+    }
+    if lent.winners.len() < WINNER_BYTES {
+        return refused(1, 3);
     }
     match read_by(rules, record) {
         Ok(judgement) => {
-            answer[..ANSWER_BYTES].copy_from_slice(&judgement.answer);
-            list[..judgement.revokes].copy_from_slice(judgement.revokes());
-            failures[..FAILURE_BYTES].copy_from_slice(&judgement.failures);
+            lent.answer[..ANSWER_BYTES].copy_from_slice(&judgement.answer);
+            lent.list[..judgement.revokes].copy_from_slice(judgement.revokes());
+            lent.failures[..FAILURE_BYTES].copy_from_slice(&judgement.failures);
+            lent.winners[..2 * judgement.complete].copy_from_slice(judgement.winners());
             0
         }
         Err(number) => number,
@@ -77,7 +123,42 @@ pub fn read(record: &[u8]) -> Result<Judgement, Refused> {
 
 fn read_by(rules: &'static Rules, record: &[u8]) -> Result<Judgement, Refused> {
     let mut bits = Reader::new(record);
-    let place = field(&mut bits, 16)?;
+    let (place, hands, contract) = to_the_calls(&mut bits)?;
+    let Some(contract) = contract else {
+        passed_out(&mut bits)?;
+        return Ok(Judgement {
+            answer: answer_bytes(place, 0),
+            revokes: 0,
+            list: [0; MOST_REVOKES],
+            failures: [0; FAILURE_BYTES],
+            complete: 0,
+            winners: [0; WINNER_BYTES],
+        });
+    };
+    let mut play = Play::by(rules, hands, contract.strain, contract.declarer);
+    let count = cards(&mut bits, &hands, &mut play)?;
+    let claimed = claim(&mut bits, count)?;
+    padding(&bits)?;
+    Ok(judgement(place, &contract, &play, claimed))
+}
+
+/// The contract, nothing where the board is passed out, and the play up to its last card. What follows that card is not read.
+pub fn to_last_card(record: &[u8]) -> Result<Option<(Contract, Play, u64)>, Refused> {
+    let mut bits = Reader::new(record);
+    let (_, hands, contract) = to_the_calls(&mut bits)?;
+    let Some(contract) = contract else {
+        no_cards(&mut bits)?;
+        return Ok(None);
+    };
+    let mut play = Play::new(hands, contract.strain, contract.declarer);
+    let count = cards(&mut bits, &hands, &mut play)?;
+    Ok(Some((contract, play, count)))
+}
+
+/// Board and table in one number, the hands, and the contract, nothing where the board is passed out.
+#[inline]
+fn to_the_calls(bits: &mut Reader) -> Result<(u64, Hands, Option<Contract>), Refused> {
+    let place = field(bits, 16)?;
     let (board, table) = ((place >> 9) as u8, place & 511);
     if board == 0 {
         return Err(refused(3, 0));
@@ -85,18 +166,12 @@ fn read_by(rules: &'static Rules, record: &[u8]) -> Result<Judgement, Refused> {
     if table == 0 {
         return Err(refused(3, 1));
     }
-    let hands = deal::hands(field(&mut bits, 52)?, field(&mut bits, 52)?);
+    let hands = deal::hands(field(bits, 52)?, field(bits, 52)?);
     if let Some(seat) = deal::without_thirteen(&hands) {
         return Err(refused(4, u64::from(seat)));
     }
-    let Some(contract) = calls(&mut bits, score::dealer(board))? else {
-        passed_out(&mut bits)?;
-        return Ok(Judgement { answer: answer_bytes(place, 0), revokes: 0, list: [0; MOST_REVOKES], failures: [0; FAILURE_BYTES] });
-    };
-    let mut play = Play::by(rules, hands, contract.strain, contract.declarer);
-    let claimed = cards(&mut bits, &hands, &mut play)?;
-    padding(&bits)?;
-    Ok(judgement(place, &contract, &play, claimed))
+    let contract = calls(bits, score::dealer(board))?;
+    Ok((place, hands, contract))
 }
 
 /// The calls, and the contract they reach, nothing where the board is passed out.
@@ -116,20 +191,26 @@ fn calls(bits: &mut Reader, dealer: u8) -> Result<Option<Contract>, Refused> {
     Ok(auction.contract())
 }
 
+/// The play count of a passed-out board.
+fn no_cards(bits: &mut Reader) -> Result<(), Refused> {
+    match field(bits, 6)? {
+        0 => Ok(()),
+        count => Err(refused(10, count)),
+    }
+}
+
 /// What follows the calls of a passed-out board.
 fn passed_out(bits: &mut Reader) -> Result<(), Refused> {
-    let count = field(bits, 6)?;
-    if count > 0 {
-        return Err(refused(10, count));
-    }
+    no_cards(bits)?;
     if field(bits, 1)? == 1 {
         return Err(refused(14, 0));
     }
     padding(bits)
 }
 
-/// The cards with their codes, and the claim: the tricks claimed for declarer's side, 0 where there is no claim.
-fn cards(bits: &mut Reader, dealt: &Hands, play: &mut Play) -> Result<u8, Refused> {
+/// The cards with their codes, and their number.
+#[inline]
+fn cards(bits: &mut Reader, dealt: &Hands, play: &mut Play) -> Result<u64, Refused> {
     let count = field(bits, 6)?;
     if count > 52 {
         return Err(refused(10, count));
@@ -154,6 +235,11 @@ fn cards(bits: &mut Reader, dealt: &Hands, play: &mut Play) -> Result<u8, Refuse
         }
     }
     play.trick = trick;
+    Ok(count)
+}
+
+/// The claim after so many cards: the tricks claimed for declarer's side, 0 where there is no claim.
+fn claim(bits: &mut Reader, count: u64) -> Result<u8, Refused> {
     if field(bits, 1)? == 0 {
         return if count < 52 { Err(refused(13, count)) } else { Ok(0) };
     }
@@ -232,7 +318,24 @@ fn judgement(place: u64, contract: &Contract, play: &Play, claim: u8) -> Judgeme
     .fold(0, |word, &(value, width)| word << width | value);
     let mut list = [0; MOST_REVOKES];
     list[..revokes.len()].copy_from_slice(revokes);
-    Judgement { answer: answer_bytes(place, from_level), revokes: revokes.len(), list, failures: failure_bytes(play) }
+    Judgement {
+        answer: answer_bytes(place, from_level),
+        revokes: revokes.len(),
+        list,
+        failures: failure_bytes(play),
+        complete: winners.len(),
+        winners: winner_bytes(play),
+    }
+}
+
+/// Winner and winning card for each complete trick.
+fn winner_bytes(play: &Play) -> [u8; WINNER_BYTES] {
+    let mut bytes = [0; WINNER_BYTES];
+    let tricks = play.winners().iter().zip(play.winning_cards());
+    for (two, (&seat, &card)) in bytes.chunks_exact_mut(2).zip(tricks) {
+        two.copy_from_slice(&[seat, card]);
+    }
+    bytes
 }
 
 /// Trick 4 bits, seat 2, card 6 and four zeros for each play against Law 50C or 50D1, and zeros behind them.

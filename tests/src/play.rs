@@ -24,11 +24,13 @@ pub struct Trick {
     revokes: usize,
 }
 
-/// The hands as they are, the winners of the tricks and the revokes. It stands apart from the trick, whose few numbers can then be kept in registers.
+/// The hands as they are, the winners of the tricks, the cards that won them, and the revokes. It stands apart from the trick, whose few numbers can then
+/// be kept in registers.
 #[derive(Clone)]
 pub struct Cards {
     hands: Hands,
     winners: [u8; 13],
+    winning: [u8; 13],
     /// One place more than can be filled, since every card is put down here and only a revoke is counted.
     list: [u8; MOST_REVOKES + 1],
 }
@@ -85,6 +87,7 @@ impl Trick {
         if self.on_table == 4 {
             self.turn = (self.best & 3) as u8;
             cards.winners[self.complete] = self.turn;
+            cards.winning[self.complete] = (self.best >> 2 & 63) as u8;
             self.complete += 1;
             self.on_table = 0;
         }
@@ -102,7 +105,7 @@ impl Play {
     pub fn by(rules: &'static Rules, hands: Hands, strain: u8, declarer: u8) -> Self {
         let turn = (declarer + 1) & 3;
         let trick = Trick { trump: u64::from(strain), turn, on_table: 0, led: 0, best: 0, complete: 0, revokes: 0 };
-        let cards = Cards { hands, winners: [0; 13], list: [0; MOST_REVOKES + 1] };
+        let cards = Cards { hands, winners: [0; 13], winning: [0; 13], list: [0; MOST_REVOKES + 1] };
         Play { trick, cards, penalty: Penalty::new(rules, declarer), excused: 0, failures: Vec::new() }
     }
 
@@ -187,6 +190,11 @@ impl Play {
     /// The winner of each trick that is complete.
     pub fn winners(&self) -> &[u8] {
         &self.cards.winners[..self.trick.complete]
+    }
+
+    /// The card that won each trick that is complete.
+    pub fn winning_cards(&self) -> &[u8] {
+        &self.cards.winning[..self.trick.complete]
     }
 
     /// The revokes in order of play, as the judge lists them: trick, seat, suit.

@@ -1,5 +1,6 @@
 //! The proved judge and writer, as the archive exports them.
 use crate::contents::Contents;
+use crate::judge::Lent;
 
 extern "C" {
     fn judge_record(
@@ -11,6 +12,8 @@ extern "C" {
         list_len: usize,
         failures: *mut u8,
         failures_len: usize,
+        winners: *mut u8,
+        winners_len: usize,
     ) -> u32;
     fn judge_write_record(
         board: u32,
@@ -29,7 +32,8 @@ extern "C" {
 }
 
 /// The proved judge on slices. Rust's slices keep what its C interface trusts: true lengths and no overlap.
-pub fn judge(record: &[u8], answer: &mut [u8], list: &mut [u8], failures: &mut [u8]) -> u32 {
+pub fn judge(record: &[u8], lent: &mut Lent) -> u32 {
+    let Lent { answer, list, failures, winners } = lent;
     unsafe {
         judge_record(
             record.as_ptr(),
@@ -40,6 +44,8 @@ pub fn judge(record: &[u8], answer: &mut [u8], list: &mut [u8], failures: &mut [
             list.len(),
             failures.as_mut_ptr(),
             failures.len(),
+            winners.as_mut_ptr(),
+            winners.len(),
         )
     }
 }

@@ -1,5 +1,6 @@
 //! The judge, the writer and the calls on tallies written here behind the C interfaces of the proved ones, to try the C side with others.
 use crate::contents::Contents;
+use crate::judge::Lent;
 use crate::tally_calls;
 
 /// # Safety
@@ -14,9 +15,12 @@ pub unsafe extern "C" fn judge_record(
     list_len: usize,
     failures: *mut u8,
     failures_len: usize,
+    winners: *mut u8,
+    winners_len: usize,
 ) -> u32 {
-    let (answer, list, failures) = (lent(answer, answer_len), lent(list, list_len), lent(failures, failures_len));
-    crate::judge::judge(given(record, record_len), answer, list, failures)
+    let (answer, list) = (lent(answer, answer_len), lent(list, list_len));
+    let (failures, winners) = (lent(failures, failures_len), lent(winners, winners_len));
+    crate::judge::judge(given(record, record_len), &mut Lent { answer, list, failures, winners })
 }
 
 /// # Safety

@@ -121,11 +121,12 @@ impl Trial {
         if let Some(number) = (1..=16).chain([23, 24]).find(|&number| seen.refusals[number] < LEAST) {
             return Err(format!("refusal {number} occurred only {} times", seen.refusals[number]));
         }
-        if let Some(place) = (0..3).find(|&place| seen.short[place] < LEAST) {
+        if let Some(place) = (0..4).find(|&place| seen.short[place] < LEAST) {
             return Err(format!("refusal 1 with place {place} occurred only {} times", seen.short[place]));
         }
         let lengths = self.auctions.len() == 316 && self.marked.len() == 506;
-        let whole = contracts(seen) == seen.contracts.len() && self.claims.len() == 402 && self.unfinished >= LEAST;
+        let whole =
+            contracts(seen) == seen.contracts.len() && self.claims.len() == 402 && self.unfinished >= LEAST && !seen.tricks.contains(&0);
         if !lengths || !whole || seen.revokes[0] == 0 || seen.revokes[36] == 0 || seen.changed[..4].contains(&0) {
             return Err("some contract, length of auction, claim or number of revokes never occurred".to_string());
         }
@@ -142,11 +143,11 @@ fn unfinished_revokes(made: &Made) -> u64 {
 
 /// Every length of each buffer that is too short, beside others that are long enough.
 pub fn short_buffers(comparison: &mut Comparison, random: &mut Random, whole: &[u8]) -> Result<(), String> {
-    let shorter = |answer, list, failures| Room { answer, list, failures };
-    let answers = (0..7).map(|length| (shorter(length, 48, 52), 1024));
-    let lists = (0..48).map(|length| (shorter(7, length, 52), 1025));
-    let failures = (0..52).map(|length| (shorter(7, 48, length), 1026));
-    for (room, number) in answers.chain(lists).chain(failures) {
+    let answers = (0..7).map(|answer| (Room { answer, ..Room::EXACT }, 1024));
+    let lists = (0..48).map(|list| (Room { list, ..Room::EXACT }, 1025));
+    let failures = (0..52).map(|failures| (Room { failures, ..Room::EXACT }, 1026));
+    let winners = (0..26).map(|winners| (Room { winners, ..Room::EXACT }, 1027));
+    for (room, number) in answers.chain(lists).chain(failures).chain(winners) {
         comparison.case(random, whole, room, Some(number))?;
     }
     Ok(())

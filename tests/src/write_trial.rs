@@ -3,7 +3,7 @@
 use crate::compare::Judge;
 use crate::contents::{self, Contents};
 use crate::damage::codes;
-use crate::judge;
+use crate::judge::{self, Least};
 use crate::making::{self, Made};
 use crate::random::Random;
 use crate::writer::{self, Writer};
@@ -169,7 +169,7 @@ impl WriteTrial {
             return Ok(Vec::new());
         }
         let record = lent[AROUND..AROUND + own as usize].to_vec();
-        let judged = (self.judge)(&record, &mut [0; 7], &mut [0; 48], &mut [0; 52]);
+        let judged = (self.judge)(&record, &mut Least::of(0).lend());
         if judged != 0 {
             return Err(format!("what is written is refused with {judged}\n{}", shown()));
         }

@@ -2,6 +2,7 @@
 //! one of a single function, of matchpoints, of the sheet or of the slip tries the Rust code alone.
 use outside::auction::Contract;
 use outside::compare::Judge;
+use outside::judge::Least;
 use outside::law64::transferred;
 use outside::parts::Parts;
 use outside::penalty::{Code, FORBID};
@@ -21,9 +22,9 @@ const PASSED_OUT: [u8; 21] =
 
 /// The number returned, and NS's score.
 fn judged(judge: Judge, record: &[u8]) -> (u32, i32) {
-    let mut answer = [0; 7];
-    let number = judge(record, &mut answer, &mut [0; 48], &mut [0; 52]);
-    (number, i32::from(i16::from_be_bytes([answer[5], answer[6]])))
+    let mut least = Least::of(0);
+    let number = judge(record, &mut least.lend());
+    (number, i32::from(least.score()))
 }
 
 /// N all clubs, E diamonds, S hearts, W spades.
@@ -69,10 +70,10 @@ fn an_exposure_and_a_choice() {
         parts.bytes()
     };
     for judge in JUDGES {
-        let (mut answer, mut failures) = ([0; 7], [0xEE; 52]);
-        assert_eq!(judge(&with(Code::Exposed(15, 0)), &mut answer, &mut [0; 48], &mut failures), 0);
-        assert_eq!((answer[4] & 63, i16::from_be_bytes([answer[5], answer[6]])), (0, 190));
-        assert_eq!((&failures[..2], &failures[2..]), (&[0x14, 0xE0][..], &[0; 50][..]));
+        let mut least = Least::of(0xEE);
+        assert_eq!(judge(&with(Code::Exposed(15, 0)), &mut least.lend()), 0);
+        assert_eq!((least.answer[4] & 63, least.score()), (0, 190));
+        assert_eq!((&least.failures[..2], &least.failures[2..]), (&[0x14, 0xE0][..], &[0; 50][..]));
         assert_eq!(judged(judge, &with(Code::Exposed(0, 0))).0, 25 * 1024);
         assert_eq!(judged(judge, &with(Code::Choice(FORBID, 1))).0, 26 * 1024);
     }
@@ -101,6 +102,32 @@ fn a_claim_in_the_middle_of_a_trick() {
         assert_eq!(judged(judge, &record(13)), (0, 190));
         assert_eq!(judged(judge, &record(14)).0, 15 * 1024 + 14);
     }
+}
+
+/// The winners as `seat card`, of tricks played as `one_club_cards` has them, and the bytes of the other tricks as they were.
+fn expect_winners(record: &[u8], winners: &str) {
+    let words: Vec<&str> = winners.split_whitespace().collect();
+    let mut bytes = [0xEE; 26];
+    for (two, pair) in bytes.chunks_exact_mut(2).zip(words.chunks_exact(2)) {
+        two.copy_from_slice(&["NESW".find(pair[0]).unwrap() as u8, card(pair[1]).unwrap() as u8]);
+    }
+    for judge in JUDGES {
+        let mut least = Least::of(0xEE);
+        assert_eq!(judge(record, &mut least.lend()), 0);
+        assert_eq!(least.winners, bytes);
+    }
+}
+
+/// The two tricks of docs/RULES.md's example; a ruff that is a revoke, and a trick under way; a passed-out board has no trick.
+#[test]
+fn winners_and_cards() {
+    expect_winners(&suits(1, &[3, 0, 0, 0], &[13, 26, 39, 0], Some(12)), "N C2");
+    expect_winners(&suits(1, &[7, 0, 0, 0], &[13, 26, 39, 0, 14], Some(0)), "E D2");
+    expect_winners(&one_club_cards(&NONE_LATER, 11, Some(5)), "E DA N C4");
+    expect_winners(&one_club_cards(&NONE_LATER, 12, Some(5)), "E DA N C4 E C2");
+    let later = "E DQ E DJ E DT E D9 W C3 N CT N CJ N CQ N CK N CA";
+    expect_winners(&one_club_played(&FIVE_LATER, 13, None), &format!("E DA N C9 E C2 {later}"));
+    expect_winners(&PASSED_OUT[..20], "");
 }
 
 /// Level, strain, doubling, tricks, vulnerable, and what declarer's side scores: P1 to P6, by the Rust judge's function.
@@ -196,10 +223,11 @@ fn one_club_cards(tricks: &[&str; 13], count: usize, claim: Option<u64>) -> Vec<
 /// Accepted by both judges, with tricks won by N's side, the same after Law 64, NS's score, and the revokes.
 fn expect_law_64(record: &[u8], tricks: u8, after: u8, score: i32, revokes: &[u8]) {
     for judge in JUDGES {
-        let (mut answer, mut list) = ([0; 7], [0; 48]);
-        assert_eq!(judge(record, &mut answer, &mut list, &mut [0; 52]), 0);
+        let mut least = Least::of(0);
+        assert_eq!(judge(record, &mut least.lend()), 0);
+        let Least { answer, list, .. } = least;
         assert_eq!((answer[3] >> 2 & 15, (answer[3] & 3) << 2 | answer[4] >> 6), (tricks, after));
-        assert_eq!(i32::from(i16::from_be_bytes([answer[5], answer[6]])), score);
+        assert_eq!(i32::from(least.score()), score);
         assert_eq!((usize::from(answer[4] & 63), &list[..revokes.len()]), (revokes.len(), revokes));
     }
 }
@@ -323,10 +351,10 @@ fn longest_auction_and_record() {
     let record = suits(1, &calls, &cards, None);
     assert_eq!((calls.len(), record.len()), (319, 296));
     for judge in JUDGES {
-        let mut answer = [0; 7];
-        assert_eq!(judge(&record, &mut answer, &mut [0; 48], &mut [0; 52]), 0);
+        let mut least = Least::of(0);
+        assert_eq!(judge(&record, &mut least.lend()), 0);
         // board 7, table 9; level 7, strain 4, doubling 2; declarer 3, no trick, none after Law 64, no revoke
-        assert_eq!(answer[..5], [2, 1, 7 << 5 | 4 << 2 | 2, 3 << 6, 0]);
+        assert_eq!(least.answer[..5], [2, 1, 7 << 5 | 4 << 2 | 2, 3 << 6, 0]);
         assert_eq!(judged(judge, &record), (0, 7000));
     }
     let one_call_more = suits(1, &[&calls[..], &[0]].concat(), &cards, None);
@@ -346,10 +374,10 @@ fn longest_marked_auction_and_record() {
     let record = suits(1, &calls, &cards, None);
     assert_eq!((calls.len(), record.len()), (511, 440));
     for judge in JUDGES {
-        let mut answer = [0; 7];
-        assert_eq!(judge(&record, &mut answer, &mut [0; 48], &mut [0; 52]), 0);
+        let mut least = Least::of(0);
+        assert_eq!(judge(&record, &mut least.lend()), 0);
         // board 7, table 9; level 1, strain 0, doubling 0; declarer 3, no trick, none after Law 64, no revoke
-        assert_eq!(answer[..5], [2, 1, 1 << 5, 3 << 6, 0]);
+        assert_eq!(least.answer[..5], [2, 1, 1 << 5, 3 << 6, 0]);
         assert_eq!(judged(judge, &record), (0, 350));
     }
 }

@@ -1,6 +1,7 @@
 //! A comparison that cannot fail shows nothing: judges, team matches and trees with one fault each, every one of which it has to find.
 use outside::compare::Judge;
-use outside::judge::judge;
+use outside::judge::{judge, read, Lent};
+use outside::play::suit;
 use outside::random::Random;
 use outside::reader::Reader;
 use outside::scripts::Script as Calls;
@@ -10,80 +11,132 @@ use outside::team_scripts::Script;
 use outside::tree::{self, Rules, Runner, Tree};
 use outside::trial::Trial;
 
-const FAULTS: [(&str, Judge); 14] = [
-    ("refuses all", |_, _, _, _| 2 * 1024),
-    ("writes nothing", |record, answer, list, failures| judge(record, &mut answer.to_vec(), &mut list.to_vec(), &mut failures.to_vec())),
-    ("clears the answer on a refusal", |record, answer, list, failures| {
-        let number = judge(record, answer, list, failures);
+const FAULTS: [(&str, Judge); 20] = [
+    ("refuses all", |_, _| 2 * 1024),
+    ("writes nothing", |record, lent| {
+        let copy = |buffer: &[u8]| buffer.to_vec();
+        let [mut answer, mut list, mut failures, mut winners] =
+            [copy(lent.answer), copy(lent.list), copy(lent.failures), copy(lent.winners)];
+        judge(record, &mut Lent { answer: &mut answer, list: &mut list, failures: &mut failures, winners: &mut winners })
+    }),
+    ("clears the answer on a refusal", |record, lent| {
+        let number = judge(record, lent);
         if number != 0 {
-            answer.fill(0);
+            lent.answer.fill(0);
         }
         number
     }),
-    ("clears the rest of the list", |record, answer, list, failures| {
-        let number = judge(record, answer, list, failures);
+    ("clears the rest of the list", |record, lent| {
+        let number = judge(record, lent);
         if number == 0 {
-            list[usize::from(answer[4] & 63)..].fill(0);
+            lent.list[usize::from(lent.answer[4] & 63)..].fill(0);
         }
         number
     }),
-    ("clears the byte after the answer", |record, answer, list, failures| {
-        let number = judge(record, answer, list, failures);
-        if number == 0 && answer.len() > 7 {
-            answer[7] = 0;
+    ("clears the byte after the answer", |record, lent| {
+        let number = judge(record, lent);
+        if number == 0 && lent.answer.len() > 7 {
+            lent.answer[7] = 0;
         }
         number
     }),
-    ("counts calls from 1", |record, answer, list, failures| {
-        let number = judge(record, answer, list, failures);
+    ("counts calls from 1", |record, lent| {
+        let number = judge(record, lent);
         if number / 1024 == 6 {
             number + 1
         } else {
             number
         }
     }),
-    ("calls a card played already one of another hand", |record, answer, list, failures| match judge(record, answer, list, failures) {
+    ("calls a card played already one of another hand", |record, lent| match judge(record, lent) {
         number if number / 1024 == 23 => number - 11 * 1024,
         number => number,
     }),
     ("calls another's card that was played one's own", anothers_played),
-    ("gives 24 at the code after the mark", |record, answer, list, failures| match judge(record, answer, list, failures) {
+    ("gives 24 at the code after the mark", |record, lent| match judge(record, lent) {
         number if number / 1024 == 24 => number + 1,
         number => number,
     }),
-    ("takes a mark for no call", |record, answer, list, failures| match judge(record, answer, list, failures) {
+    ("takes a mark for no call", |record, lent| match judge(record, lent) {
         number if number / 1024 == 24 => number - 19 * 1024,
         number => number,
     }),
-    ("lets one byte follow", |record, answer, list, failures| match judge(record, answer, list, failures) {
-        number if number == 16 * 1024 => judge(&record[..record.len() - 1], answer, list, failures),
+    ("lets one byte follow", |record, lent| match judge(record, lent) {
+        number if number == 16 * 1024 => judge(&record[..record.len() - 1], lent),
         number => number,
     }),
-    ("takes a list of 47", |record, answer, list, failures| match list.len() {
-        47 => judge(record, answer, &mut [0; 48], failures),
-        _ => judge(record, answer, list, failures),
+    ("takes a list of 47", |record, lent| match lent.list.len() {
+        47 => judge(record, &mut Lent { answer: lent.answer, list: &mut [0; 48], failures: lent.failures, winners: lent.winners }),
+        _ => judge(record, lent),
     }),
-    ("scores for declarer's side", |record, answer, list, failures| {
-        let number = judge(record, answer, list, failures);
-        if number == 0 && answer[3] >> 6 & 1 == 1 {
-            let score = -i16::from_be_bytes([answer[5], answer[6]]);
-            answer[5..7].copy_from_slice(&score.to_be_bytes());
+    ("scores for declarer's side", |record, lent| {
+        let number = judge(record, lent);
+        if number == 0 && lent.answer[3] >> 6 & 1 == 1 {
+            let score = -i16::from_be_bytes([lent.answer[5], lent.answer[6]]);
+            lent.answer[5..7].copy_from_slice(&score.to_be_bytes());
         }
         number
     }),
-    ("leaves out the last of 36 revokes", |record, answer, list, failures| {
-        let last = list.get(35).copied().unwrap_or(0);
-        let number = judge(record, answer, list, failures);
-        if number == 0 && answer[4] & 63 == 36 {
-            list[35] = last;
+    ("leaves out the last of 36 revokes", |record, lent| {
+        let last = lent.list.get(35).copied().unwrap_or(0);
+        let number = judge(record, lent);
+        if number == 0 && lent.answer[4] & 63 == 36 {
+            lent.list[35] = last;
         }
         number
+    }),
+    ("names the last card of a trick", |record, lent| named(record, lent, |cards, _| cards[3])),
+    ("names the highest card of the suit led", |record, lent| {
+        named(record, lent, |cards, _| *cards.iter().filter(|&&card| suit(card) == suit(cards[0])).max().expect("the card led"))
+    }),
+    ("names the second card of a trick that its leader won", |record, lent| {
+        named(record, lent, |cards, won| if won == 0 { cards[1] } else { cards[won] })
+    }),
+    ("names the opening leader first", |record, lent| {
+        let number = judge(record, lent);
+        if number == 0 && read(record).is_ok_and(|judgement| !judgement.winners().is_empty()) {
+            lent.winners[0] = ((lent.answer[3] >> 6) + 1) & 3;
+        }
+        number
+    }),
+    ("clears the bytes of tricks without four cards", |record, lent| {
+        let number = judge(record, lent);
+        if let (0, Ok(judgement)) = (number, read(record)) {
+            lent.winners[judgement.winners().len()..26].fill(0);
+        }
+        number
+    }),
+    ("takes a fifth slice of 25", |record, lent| match lent.winners.len() {
+        25 => judge(record, &mut Lent { answer: lent.answer, list: lent.list, failures: lent.failures, winners: &mut [0; 26] }),
+        _ => judge(record, lent),
     }),
 ];
 
+/// Judges, and names another card of each trick: `name` has its cards in order of play and the place of the one that won. Records with codes are left.
+fn named(record: &[u8], lent: &mut Lent, name: fn(&[u64], usize) -> u64) -> u32 {
+    let number = judge(record, lent);
+    if number != 0 {
+        return number;
+    }
+    let mut bits = Reader::new(record);
+    let mut take = |width| bits.take(width).expect("a field of a record that is accepted");
+    let (_, _, _) = (take(16), take(52), take(52));
+    for _ in 0..take(9) {
+        take(6);
+    }
+    let cards: Vec<u64> = (0..take(6)).map(|_| take(6)).collect();
+    if cards.iter().all(|&card| card < 52) {
+        for (trick, two) in cards.chunks_exact(4).zip(lent.winners.chunks_exact_mut(2)) {
+            let won = trick.iter().position(|&card| card == u64::from(two[1])).expect("a card of the trick");
+            two[1] = name(trick, won) as u8;
+        }
+    }
+    number
+}
+
 /// Gives 23 for every card that has been played, whoever was dealt it.
-fn anothers_played(record: &[u8], answer: &mut [u8], list: &mut [u8], failures: &mut [u8]) -> u32 {
-    let number = judge(record, answer, list, failures);
+fn anothers_played(record: &[u8], lent: &mut Lent) -> u32 {
+    let number = judge(record, lent);
     if number / 1024 != 12 {
         return number;
     }

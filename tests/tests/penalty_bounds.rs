@@ -2,6 +2,7 @@
 //! both judges and both writers.
 use outside::compare::Judge;
 use outside::contents::Contents;
+use outside::judge::Least;
 use outside::parts::Parts;
 use outside::penalty::Code::{self, Choice, Exposed};
 use outside::words::{self, NOBODY};
@@ -12,11 +13,11 @@ const JUDGES: [Judge; 2] = [judge::judge, proved::judge];
 const WRITERS: [Writer; 2] = [writer::write, proved::write];
 const BEFORE: u8 = 0xEE;
 
-/// The three buffers of an accepted record.
-fn judged(judge: Judge, record: &[u8]) -> ([u8; 7], [u8; 48], [u8; 52]) {
-    let (mut answer, mut list, mut failures) = ([BEFORE; 7], [BEFORE; 48], [BEFORE; 52]);
-    assert_eq!(judge(record, &mut answer, &mut list, &mut failures), 0);
-    (answer, list, failures)
+/// The buffers of an accepted record.
+fn judged(judge: Judge, record: &[u8]) -> Least {
+    let mut least = Least::of(BEFORE);
+    assert_eq!(judge(record, &mut least.lend()), 0);
+    least
 }
 
 /// North has the clubs, East the diamonds, South the hearts, West the spades; West declares, so North leads, and wins every trick with a club. Before
@@ -48,13 +49,16 @@ fn longest_records() {
         assert_eq!((parts.codes.len(), record.len()), (40, length));
         let [high, low] = score.to_be_bytes();
         for judge in JUDGES {
-            assert_eq!(judged(judge, &record), ([2, 1, contract, 3 << 6, 0, high, low], [BEFORE; 48], [0; 52]));
+            let answer = [2, 1, contract, 3 << 6, 0, high, low];
+            // North wins each trick with his club.
+            let winners = std::array::from_fn(|k| if k % 2 == 0 { 0 } else { k as u8 / 2 });
+            assert_eq!(judged(judge, &record), Least { answer, list: [BEFORE; 48], failures: [0; 52], winners });
         }
         written(&parts, &record);
         // One code more, before the last card, though that card is faced already.
         parts.codes.push((51, Exposed(38, 0)));
         for judge in JUDGES {
-            assert_eq!(judge(&parts.bytes(), &mut [0; 7], &mut [0; 48], &mut [0; 52]), 27 * 1024 + 51);
+            assert_eq!(judge(&parts.bytes(), &mut Least::of(0).lend()), 27 * 1024 + 51);
         }
         for write in WRITERS {
             assert_eq!(write(&Contents::of(&parts), &mut [0; 505]), 27 * 1024 + 51);
@@ -105,10 +109,13 @@ fn forty_eight_revokes_and_twenty_four_failures() {
         }
     }
     for judge in JUDGES {
-        let (answer, list, bytes) = judged(judge, &parts.bytes());
+        let Least { answer, list, failures: bytes, winners } = judged(judge, &parts.bytes());
         // Board 7, table 9; level 1, strain 4, doubling 0; declarer 0, no trick, none after Law 64, 48 revokes; -350.
         assert_eq!(answer, [2, 1, 1 << 5 | 4 << 2, 0, 48, 0xFE, 0xA2]);
         assert_eq!((list.to_vec(), bytes.to_vec()), (revokes.clone(), failures.clone()));
+        // East wins each trick with the card that he led.
+        let by_east: Vec<u8> = leads.iter().flat_map(|card| [1, words::card(card).unwrap() as u8]).collect();
+        assert_eq!(winners.to_vec(), by_east);
     }
     written(&parts, &parts.bytes());
 }

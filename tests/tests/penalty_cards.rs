@@ -4,6 +4,7 @@
 //! Where nothing else is said, N plays one notrump on board 1, not vulnerable: seven tricks score 90, each more 30, each fewer costs 50. E leads, and
 //! W is his partner. The rest after the plays is claimed.
 use outside::compare::Judge;
+use outside::judge::Lent;
 use outside::parts::Parts;
 use outside::words::{self, NOBODY};
 use outside::{judge, proved};
@@ -32,10 +33,11 @@ fn parts(hands: [&str; 4], bid: u64, plays: &str, claim: u64) -> Parts {
     parts
 }
 
-/// The number returned, and the three buffers after it.
+/// The number returned, and the first three buffers after it.
 fn judged(judge: Judge, record: &[u8]) -> (u32, [u8; 7], [u8; 49], [u8; 53]) {
     let (mut answer, mut list, mut failures) = ([BEFORE; 7], [BEFORE; 49], [BEFORE; 53]);
-    let number = judge(record, &mut answer, &mut list, &mut failures);
+    let mut lent = Lent { answer: &mut answer, list: &mut list, failures: &mut failures, winners: &mut [0; 26] };
+    let number = judge(record, &mut lent);
     (number, answer, list, failures)
 }
 

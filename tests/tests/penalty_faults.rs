@@ -1,6 +1,6 @@
 //! Judges with one fault each in what they make of penalty cards, every one of which the comparison has to find.
 use outside::compare::Judge;
-use outside::judge::{judge, judge_by};
+use outside::judge::{judge, judge_by, Lent};
 use outside::penalty::{Faced, Penalty, Rules, Turn, FORBID, RIGHT, TEN};
 use outside::penalty_trial::PenaltyTrial;
 use outside::play::{rank, suit};
@@ -8,9 +8,9 @@ use outside::play::{rank, suit};
 /// Defines a judge by the rules that it has otherwise.
 macro_rules! by {
     ($($field:ident: $value:expr),+) => {
-        |record, answer, list, failures| {
+        |record, lent| {
             static RULES: Rules = Rules { $($field: $value,)+ ..RIGHT };
-            judge_by(&RULES, record, answer, list, failures)
+            judge_by(&RULES, record, lent)
         }
     };
 }
@@ -73,12 +73,12 @@ fn always_open(penalty: &Penalty, leader: u8, kind: u64, named: u64) -> bool {
 }
 
 /// Leaves the bytes behind the plays that are listed as they were.
-fn not_zeroed(record: &[u8], answer: &mut [u8], list: &mut [u8], failures: &mut [u8]) -> u32 {
-    let before = failures.to_vec();
-    let number = judge(record, answer, list, failures);
+fn not_zeroed(record: &[u8], lent: &mut Lent) -> u32 {
+    let before = lent.failures.to_vec();
+    let number = judge(record, lent);
     if number == 0 {
-        let listed = 2 * failures[..52].chunks(2).filter(|entry| entry[0] != 0).count();
-        failures[listed..].copy_from_slice(&before[listed..]);
+        let listed = 2 * lent.failures[..52].chunks(2).filter(|entry| entry[0] != 0).count();
+        lent.failures[listed..].copy_from_slice(&before[listed..]);
     }
     number
 }
@@ -127,23 +127,21 @@ const FAULTS: [(&str, Judge); 33] = [
     ("binds honours by Law 50C", by!(against: |turn, _, faced, card| honours_bound(turn, faced, card))),
     ("gives 27 after its bits", by!(counts_first: false)),
     ("does not zero the fourth slice", not_zeroed),
-    ("takes a fourth slice of 51", |record, answer, list, failures| match failures.len() {
-        51 => judge(record, answer, list, &mut [0; 52]),
-        _ => judge(record, answer, list, failures),
+    ("takes a fourth slice of 51", |record, lent| match lent.failures.len() {
+        51 => judge(record, &mut Lent { answer: lent.answer, list: lent.list, failures: &mut [0; 52], winners: lent.winners }),
+        _ => judge(record, lent),
     }),
-    ("looks at the fourth slice before the third", |record, answer, list, failures| match judge(record, answer, list, failures) {
-        1025 if failures.len() < 52 => 1026,
+    ("looks at the fourth slice before the third", |record, lent| match judge(record, lent) {
+        1025 if lent.failures.len() < 52 => 1026,
         number => number,
     }),
-    ("calls a faced card no such card", |record, answer, list, failures| renumbered(judge(record, answer, list, failures), 25, 11)),
-    ("takes a choice that is not open for a bad exposure", |record, answer, list, failures| {
-        renumbered(judge(record, answer, list, failures), 26, 25)
-    }),
-    ("leaves out the last of 48 revokes", |record, answer, list, failures| {
-        let last = list.get(47).copied().unwrap_or(0);
-        let number = judge(record, answer, list, failures);
-        if number == 0 && answer[4] & 63 == 48 {
-            list[47] = last;
+    ("calls a faced card no such card", |record, lent| renumbered(judge(record, lent), 25, 11)),
+    ("takes a choice that is not open for a bad exposure", |record, lent| renumbered(judge(record, lent), 26, 25)),
+    ("leaves out the last of 48 revokes", |record, lent| {
+        let last = lent.list.get(47).copied().unwrap_or(0);
+        let number = judge(record, lent);
+        if number == 0 && lent.answer[4] & 63 == 48 {
+            lent.list[47] = last;
         }
         number
     }),

@@ -1,6 +1,7 @@
 //! A record for each refusal and each kind of place, every prefix of whole records, and buffers about the least length, by both judges.
 //! The numbers due and the bytes due are worked out from docs/RULES.md.
 use outside::compare::Judge;
+use outside::judge::Lent;
 use outside::parts::Parts;
 use outside::penalty::Code::{self, Choice, Exposed};
 use outside::{judge, proved};
@@ -200,15 +201,15 @@ fn refused() -> Vec<(u32, u32, Vec<u8>)> {
     ]
 }
 
-/// The number returned, and the three buffers after it.
-fn judged(judge: Judge, record: &[u8], lengths: [usize; 3]) -> (u32, [Vec<u8>; 3]) {
+/// The number returned, and the four buffers after it.
+fn judged(judge: Judge, record: &[u8], lengths: [usize; 4]) -> (u32, [Vec<u8>; 4]) {
     let mut lent = lengths.map(|length| vec![BEFORE; length]);
-    let [answer, list, failures] = &mut lent;
-    let number = judge(record, answer, list, failures);
+    let [answer, list, failures, winners] = &mut lent;
+    let number = judge(record, &mut Lent { answer, list, failures, winners });
     (number, lent)
 }
 
-const LEAST: [usize; 3] = [7, 48, 52];
+const LEAST: [usize; 4] = [7, 48, 52, 26];
 
 fn expect_refused(record: &[u8], number: u32, what: &str) {
     for judge in JUDGES {
@@ -240,22 +241,25 @@ fn every_prefix_ends_too_soon() {
     }
 }
 
-/// One notrump by North, not vulnerable, no trick won of 7: 7 undertricks at 50 are -350, or 0xFEA2. The 52 bytes of plays against Law 50 become zero.
+/// One notrump by North, not vulnerable, no trick won of 7: 7 undertricks at 50 are -350, or 0xFEA2. The 52 bytes of plays against Law 50 become zero, and
+/// East wins each trick with the diamond that he led.
 #[test]
 fn buffers_about_the_least_length() {
     let record = one_notrump().bytes();
-    let about = |k: usize| [LEAST[k] - 1, LEAST[k], LEAST[k] + 1];
-    for lengths in about(0).into_iter().flat_map(|a| about(1).into_iter().flat_map(move |l| about(2).map(move |f| [a, l, f]))) {
+    for case in 0..81 {
+        let lengths = [0, 1, 2, 3].map(|k| LEAST[k] + case / 3usize.pow(k as u32) % 3 - 1);
         let mut due = lengths.map(|length| vec![BEFORE; length]);
         let number = match lengths {
-            [6, _, _] => 1024,
-            [_, 47, _] => 1025,
-            [_, _, 51] => 1026,
+            [6, _, _, _] => 1024,
+            [_, 47, _, _] => 1025,
+            [_, _, 51, _] => 1026,
+            [_, _, _, 25] => 1027,
             _ => 0,
         };
         if number == 0 {
             due[0][..7].copy_from_slice(&[0x02, 0x01, 0x30, 0x00, 0x00, 0xFE, 0xA2]);
             due[2][..52].fill(0);
+            (0..13).for_each(|trick| due[3][2 * trick..][..2].copy_from_slice(&[1, 13 + trick as u8]));
         }
         for judge in JUDGES {
             assert_eq!(judged(judge, &record, lengths), (number, due.clone()), "{lengths:?}");

@@ -8,12 +8,12 @@ use mathlib.Core.List.{List}
 use borrow.Author.Tests.{eqb-true, not-false}
 use lib.Dec.{eqb}
 use lib.ListN.{length}
-use Rattle.laws.specs.Refusals.{noBoardOrTable, notThirteen}
+use Rattle.laws.specs.Refusals.{refusesToLastCard, noBoardOrTable, notThirteen}
 use Rattle.laws.specs.Cards.{noSeat, seatWithoutThirteen}
 use Rattle.laws.specs.Reading.{Reading, Reading.refused, Reading.found, onward, readRow}
 use Rattle.laws.specs.Law2.{dealer}
 use Rattle.laws.specs.Judge as Judge
-use Rattle.laws.specs.Record.{Parts}
+use Rattle.laws.specs.LastCard.{ToLastCard, readToLastCard}
 use Rattle.laws.proofs.Numbered.{Fair, not-0, fair-heading, fair-deal, fair-calls}
 use Rattle.laws.proofs.Readings.{first-of, first-read, first-test}
 use Rattle.deal.specs.Hands.{wordsOf}
@@ -22,10 +22,10 @@ use Rattle.auction.specs.Position as Calls
 use Rattle.judge.specs.declared.reading.Heading.{Heading}
 use Rattle.judge.specs.declared.reading.Deal.{Deal}
 use Rattle.judge.specs.declared.reading.Calls.{Calls}
-use Rattle.judge.specs.declared.whole.Judged.{Judged}
+use Rattle.judge.specs.declared.reached.Reached.{Reached}
 use Rattle.penalty.specs.History.{ThirteenEach}
 use Rattle.judge.specs.Sections.{headingOf, dealOf, callsOf}
-use Rattle.judge.specs.Whole.{OfCalls, afterCards, afterCalls, afterDeal, noJudgement, judgedOf}
+use Rattle.judge.specs.Reached.{OfCalls, afterCalls, afterDeal, noneReached, reachedOf}
 use Rattle.judge.proofs.Composing.{found-same, calls-next}
 
 -- ---- what a section that was read tells
@@ -62,42 +62,42 @@ deal-found bytes at {deal} q =
 
 -- ---- from the heading on
 module _ (bytes : List ℕ) (t : Heading) (et : t ≡ headingOf (Judge.readHeading bytes 0)) where
-  abbrev rest : Judge.Heading → ℕ → Reading Parts
+  abbrev rest : Judge.Heading → ℕ → Reading ToLastCard
   rest top at = onward (Judge.readDeal bytes at) (λ deal behind. afterDeal (top .board) (top .table) deal bytes behind)
 
-  by-parts : Judge.readRecord bytes 0 ≡ onward (Judge.readHeading bytes 0) rest
-  unfolding Judge.readRecord afterDeal afterCalls afterCards
+  by-parts : readToLastCard bytes 0 ≡ onward (Judge.readHeading bytes 0) rest
+  unfolding readToLastCard afterDeal afterCalls
   by-parts = refl
 
-  heading-stops : (q : Reading Judge.Heading) → (headingOf q .refusal ≡ 0 → ⊥) → noJudgement (headingOf q .refusal) ≡ judgedOf (onward q rest)
+  heading-stops : (q : Reading Judge.Heading) → (headingOf q .refusal ≡ 0 → ⊥) → noneReached (headingOf q .refusal) ≡ reachedOf (onward q rest)
   heading-stops (refused n place) e = refl
   heading-stops (found top at) e = absurd (e refl)
 
-  pub heading-refused : (t .refusal ≡ 0 → ⊥) → noJudgement (t .refusal) ≡ judgedOf (Judge.readRecord bytes 0)
+  pub heading-refused : (t .refusal ≡ 0 → ⊥) → noneReached (t .refusal) ≡ reachedOf (readToLastCard bytes 0)
   heading-refused e = rw (by-parts, et) (heading-stops (Judge.readHeading bytes 0) (rw et at e))
 
-  abbrev dealRest : Heading → Reading (List ℕ) → Reading Parts
+  abbrev dealRest : Heading → Reading (List ℕ) → Reading ToLastCard
   dealRest top r = onward r (λ deal behind. afterDeal (top .board) (top .table) deal bytes behind)
 
   heading-goes : (q : Reading Judge.Heading) → Judge.readHeading bytes 0 ≡ q → headingOf q .refusal ≡ 0 → onward q rest
       ≡ dealRest (headingOf q) (Judge.readDeal bytes 16)
-  heading-goes (refused n place) q e = absurd (not-0 (subst Fair q (fair-heading bytes 0)) e)
+  heading-goes (refused n place) q e = absurd (not-0 refl (subst (Fair refusesToLastCard) q (fair-heading bytes 0)) e)
   heading-goes (found top at) q e = ap (rest top) (heading-end bytes q)
 
   module _ (ot : t .refusal ≡ 0) (d : Deal) (ed : d ≡ dealOf (Judge.readDeal bytes 16)) where
-    heading-read : Judge.readRecord bytes 0 ≡ dealRest t (Judge.readDeal bytes 16)
+    heading-read : readToLastCard bytes 0 ≡ dealRest t (Judge.readDeal bytes 16)
     heading-read = by-parts ∙ heading-goes (Judge.readHeading bytes 0) refl (rw et at ot) ∙ ap (λ (x : Heading). dealRest x (Judge.readDeal bytes 16)) (sym et)
 
-    deal-stops : (q : Reading (List ℕ)) → (dealOf q .refusal ≡ 0 → ⊥) → noJudgement (dealOf q .refusal) ≡ judgedOf (dealRest t q)
+    deal-stops : (q : Reading (List ℕ)) → (dealOf q .refusal ≡ 0 → ⊥) → noneReached (dealOf q .refusal) ≡ reachedOf (dealRest t q)
     deal-stops (refused n place) e = refl
     deal-stops (found deal at) e = absurd (e refl)
 
-    pub deal-refused : (d .refusal ≡ 0 → ⊥) → noJudgement (d .refusal) ≡ judgedOf (Judge.readRecord bytes 0)
+    pub deal-refused : (d .refusal ≡ 0 → ⊥) → noneReached (d .refusal) ≡ reachedOf (readToLastCard bytes 0)
     deal-refused e = rw (heading-read, ed) (deal-stops (Judge.readDeal bytes 16) (rw ed at e))
 
     deal-goes : (q : Reading (List ℕ)) → Judge.readDeal bytes 16 ≡ q → dealOf q .refusal ≡ 0
         → ThirteenEach (dealOf q .holders) × (dealRest t q ≡ afterDeal (t .board) (t .table) (dealOf q .holders) bytes 120)
-    deal-goes (refused n place) q e = absurd (not-0 (subst Fair q (fair-deal bytes 16)) e)
+    deal-goes (refused n place) q e = absurd (not-0 refl (subst (Fair refusesToLastCard) q (fair-deal bytes 16)) e)
     deal-goes (found deal at) q e =
         let f = deal-found bytes 16 q in
         let s : at ≡ 120 = omega (arith, f .1) in
@@ -107,27 +107,27 @@ module _ (bytes : List ℕ) (t : Heading) (et : t ≡ headingOf (Judge.readHeadi
       deal-read : ThirteenEach (d .holders) × (dealRest t (Judge.readDeal bytes 16) ≡ afterDeal (t .board) (t .table) (d .holders) bytes 120)
       deal-read = rw ed (deal-goes (Judge.readDeal bytes 16) refl (rw ed at od))
 
-      abbrev callRest : Reading (List ℕ) → Reading Parts
+      abbrev callRest : Reading (List ℕ) → Reading ToLastCard
       callRest r = onward r (λ h behind. afterCalls (t .board) (t .table) (d .holders) h bytes behind)
 
-      from-calls : Judge.readRecord bytes 0 ≡ callRest (Judge.readCalls seat bytes 120)
+      from-calls : readToLastCard bytes 0 ≡ callRest (Judge.readCalls seat bytes 120)
       unfolding afterDeal
       from-calls = heading-read ∙ deal-read .1 ∙ ap (λ (s : ℕ). callRest (Judge.readCalls s bytes 120)) (sym es)
 
-      calls-stop : (q : Reading (List ℕ)) → (callsOf seat q .refusal ≡ 0 → ⊥) → noJudgement (callsOf seat q .refusal) ≡ judgedOf (callRest q)
+      calls-stop : (q : Reading (List ℕ)) → (callsOf seat q .refusal ≡ 0 → ⊥) → noneReached (callsOf seat q .refusal) ≡ reachedOf (callRest q)
       calls-stop (refused n place) e = refl
       calls-stop (found h at) e = absurd (e refl)
 
-      pub calls-refused : (c .refusal ≡ 0 → ⊥) → noJudgement (c .refusal) ≡ judgedOf (Judge.readRecord bytes 0)
+      pub calls-refused : (c .refusal ≡ 0 → ⊥) → noneReached (c .refusal) ≡ reachedOf (readToLastCard bytes 0)
       calls-refused e = rw (from-calls, ec) (calls-stop (Judge.readCalls seat bytes 120) (rw ec at e))
 
       calls-end : (q : Reading (List ℕ)) → Judge.readCalls seat bytes 120 ≡ q → callsOf seat q .refusal ≡ 0 → (8 ≤ callsOf seat q .next)
           × (callsOf seat q .next < 16384)
-      calls-end (refused n place) q e = absurd (not-0 (subst Fair q (fair-calls seat bytes 120)) e)
+      calls-end (refused n place) q e = absurd (not-0 refl (subst (Fair refusesToLastCard) q (fair-calls seat bytes 120)) e)
       calls-end (found h at) q e = let n = calls-next seat bytes 120 q in (omega arith, omega arith)
 
       hands-go : (q : Reading (List ℕ)) → Judge.readDeal bytes 16 ≡ q → dealOf q .refusal ≡ 0 → dealOf q .hands ≡ wordsOf (dealOf q .holders)
-      hands-go (refused n place) q e = absurd (not-0 (subst Fair q (fair-deal bytes 16)) e)
+      hands-go (refused n place) q e = absurd (not-0 refl (subst (Fair refusesToLastCard) q (fair-deal bytes 16)) e)
       hands-go (found deal at) q e = refl
 
       pub calls-bound : c .refusal ≡ 0 → (8 ≤ c .next) × (c .next < 16384) × (d .hands ≡ wordsOf (d .holders)) × ThirteenEach (d .holders)
@@ -135,15 +135,15 @@ module _ (bytes : List ℕ) (t : Heading) (et : t ≡ headingOf (Judge.readHeadi
           let n = rw (← ec) at (calls-end (Judge.readCalls seat bytes 120) refl (rw ec at e)) in
           (n .0, n .1, rw ed (hands-go (Judge.readDeal bytes 16) refl (rw ed at od)), deal-read .0)
 
-      module _ (r : Judged) where
+      module _ (r : Reached) where
         -- the answer, given any calls that this position is of
         abbrev Tells : Calls → Type 0
-        Tells x = (h : List ℕ) → OfCalls (t .board) (x .after) (d .holders) h → r ≡ judgedOf (afterCalls (t .board) (t .table) (d .holders) h bytes (x .next))
+        Tells x = (h : List ℕ) → OfCalls (t .board) (x .after) (d .holders) h → r ≡ reachedOf (afterCalls (t .board) (t .table) (d .holders) h bytes (x .next))
 
         calls-go : (q : Reading (List ℕ)) → Judge.readCalls seat bytes 120 ≡ q → callsOf seat q .refusal ≡ 0 → Tells (callsOf seat q) → r
-            ≡ judgedOf (callRest q)
-        calls-go (refused n place) q e f = absurd (not-0 (subst Fair q (fair-calls seat bytes 120)) e)
+            ≡ reachedOf (callRest q)
+        calls-go (refused n place) q e f = absurd (not-0 refl (subst (Fair refusesToLastCard) q (fair-calls seat bytes 120)) e)
         calls-go (found h at) q e f = f h (record { deal-of = deal-read .0; position = ap (λ (s : ℕ). Calls.positionOf s h) es })
 
-        pub calls-read : c .refusal ≡ 0 → Tells c → r ≡ judgedOf (Judge.readRecord bytes 0)
+        pub calls-read : c .refusal ≡ 0 → Tells c → r ≡ reachedOf (readToLastCard bytes 0)
         calls-read e f = rw from-calls (calls-go (Judge.readCalls seat bytes 120) refl (rw ec at e) (subst (λ (x : Calls). Tells x) ec f))

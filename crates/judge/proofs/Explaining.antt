@@ -23,7 +23,7 @@ use Rattle.judge.specs.declared.slip.Explained.the-variants.{Refused, Gr
 use Rattle.judge.specs.declared.whole.Judged.{Judged}
 use Rattle.judge.specs.Whole.{judgedOf}
 use Rattle.judge.specs.Explained.{Possible, noItems, itemsFor, levelIn, declarerIn, tricksIn, boardIn, stakeIn, itemsAt, itemsIn, explainedOf}
-use Rattle.judge.proofs.Answering.{few-revokes}
+use Rattle.judge.proofs.Answering.{few-found}
 use Rattle.judge.proofs.Widths.{won-le, after-le, declarer-lt, level-le, strain-le, doubled-le, valid, word-lt}
 
 -- ---- the answer's number by its fields
@@ -183,10 +183,10 @@ module _ (bytes : List ℕ) (j : Judged) (ej : j ≡ judgedOf (readRecord bytes 
 
   read-bits : (r : Reading Parts) → readRecord bytes 0 ≡ r → Ruled (outcome r) → judgedOf r .refusal ≡ 0 → Reads r
   unfolding explainedOf
-  read-bits (refused n place) q f e = absurd (not-0 f e)
+  read-bits (refused n place) q f e = absurd (not-0 refl f e)
   read-bits (found p at) q f e =
       let ok = judged bytes p at q .0 .0 in
-      let few = few-revokes bytes q in
+      let few = few-found bytes q .revokes in
       (possible p ok few, ap Granted (items-back p ok few))
 
   module _ (none : j .refusal ≡ 0) where

@@ -1,18 +1,20 @@
 -- The judgement that the positions give is the Laws' on the record's parts. Assumes nothing.
 use Prim.Native.Nat.{ℕ, _-_, _/_, _<_}
 use native.Mathlib.Omega.{arith}
-use mathlib.Core.Path.{_≡_, refl, sym, ap, ap₂, _∙_, fun-ext}
+use mathlib.Core.Path.{_≡_, refl, sym, ap, _∙_, fun-ext}
 use mathlib.Core.Bool.{Bool, true, false}
 use mathlib.Core.List.{List, [], _∷_, reverse, reverse-reverse}
 use borrow.Author.Tests.{eqb-true, eqb-false, eq-eqb}
 use lib.Dec.{eqb}
 use lib.ListN.{getD, length-map}
 use Rattle.laws.specs.Choice.{if_then_else_}
+use Rattle.laws.specs.Refusals.{refusesBehind}
 use Rattle.laws.specs.Cards.{clockwise, sideOf}
 use Rattle.laws.specs.Law2.{dealer, vulnerable}
 use Rattle.laws.specs.Auction as Law
 use Rattle.laws.specs.Reading.{Reading, Reading.refused, Reading.found, onward, refuse, ending, overfull}
 use Rattle.laws.specs.Judge.{readClaim, readNoClaim, readMarkedClaim}
+use Rattle.laws.specs.LastCard.{readBehind}
 use Rattle.laws.specs.Law44.{cardsPlayed, allPlayed, tricksComplete, tricksLeft, cardsInTrick, winners, tricksWon}
 use Rattle.laws.specs.Padded.{padded}
 use Rattle.laws.specs.Events as Events
@@ -22,7 +24,8 @@ use Rattle.laws.specs.Failures.{Failure, failures, failureBytes}
 use Rattle.laws.specs.Law68.{Claim, none, agreed, claimedTricks, atClaimPoint, claimable}
 use Rattle.laws.specs.Law77.{declarerScore, nsScore}
 use Rattle.laws.specs.Record.{Parts, Field, field, number}
-use Rattle.laws.specs.Judgement.{playOf, contractOf, winnersOf, revokesOf, countedOf, failuresOf, claimedOf, wonOf, transferredOf, afterOf, stakeOf, scoreOf}
+use Rattle.laws.specs.Judgement.{playOf, contractOf, wonTricksOf, winnersOf, revokesOf, countedOf, failuresOf, claimedOf, wonOf, transferredOf}
+use Rattle.laws.specs.Judgement.{afterOf, stakeOf, scoreOf}
 use Rattle.laws.specs.Judgement.{playedFields, answerFields, twosComplement, revokeByte, revokeBytes, failuresBytes}
 use Rattle.laws.proofs.Numbered.{Fair, not-0, fair-claim}
 use Rattle.laws.proofs.Tests.{by-test}
@@ -42,9 +45,9 @@ use Rattle.penalty.proofs.TableStands.{TableStands, play-is, table-stands}
 use Rattle.penalty.proofs.ListedBytes.{revokes-law}
 use Rattle.penalty.proofs.FailureBytes.{failure-bytes}
 use Rattle.transfer.specs.Inputs.{claimedBy, transferredIn}
-use Rattle.transfer.proofs.History.{listedFor, revokes-back, transferred-law, plain-bytes}
+use Rattle.transfer.proofs.History.{seats-told, listedFor, revokes-back, transferred-law, plain-bytes}
 use Rattle.judge.specs.Settled.{headFields, wonIn, afterIn, stakeIn, settledFields}
-use Rattle.judge.specs.Whole.{OfCards, listedIn, afterCards, noJudgement, judgedOf, boardFields}
+use Rattle.judge.specs.Whole.{OfCards, listedIn, tricksTold, afterCards, noJudgement, judgedOf, boardFields}
 use Rattle.judge.specs.declared.claim.Claim.{Claim as Read}
 use Rattle.judge.specs.declared.whole.Judged.{Judged}
 use Rattle.judge.specs.Sections.{claimOf, noClaimBy, markedBy, claimBy}
@@ -134,6 +137,10 @@ module _ (board table : ℕ) (out : Bool) (k : Contract) (deal h : List ℕ) (e 
   tricks-is : tricksIn (t .play) ≡ tricksOf trump opening g
   tricks-is = ap tricksIn play-of ∙ tricks-law deal trump opening (o .deal-of .places) g (cards-allowed deal trump opening e (o .played))
 
+  pub told-is : tricksIn (t .play) ≡ tricksTold q
+  unfolding tricksTold wonTricksOf tricksOf
+  told-is = tricks-is ∙ rw (reverse-reverse h, reverse-reverse e)
+
   listed-is : revokesIn t ≡ listedFor deal trump opening e
   listed-is = revokes-law deal trump opening (o .deal-of .places) (o .deal-of .thirteen) e table-is (o .played)
 
@@ -159,7 +166,7 @@ module _ (board table : ℕ) (out : Bool) (k : Contract) (deal h : List ℕ) (e 
   module _ (c l : ℕ) (sides : claimedBy (k .declarer) c l ≡ claimedOf q) (own : c ≡ claimedOf q (sideOf (k .declarer))) where
     won-is : wonIn (tricksIn (t .play)) (k .declarer) c ≡ wonOf q
     unfolding wonIn wonOf tricksOf
-    won-is = rw (tricks-is, side-won (k .declarer) (winners trump opening g), own, sym declarer-is, winners-is)
+    won-is = rw (tricks-is, seats-told trump opening g, side-won (k .declarer) (winners trump opening g), own, sym declarer-is, winners-is)
 
     moved-is : transferredIn (revokesIn t) (tricksIn (t .play)) (k .declarer) c l ≡ transferredOf q
     unfolding transferredOf
@@ -226,7 +233,7 @@ module _ (board table : ℕ) (out : Bool) (k : Contract) (deal h : List ℕ) (e 
     rest r = onward r (λ claim next. onward (ending bytes next) (λ _ behind. found (partsOf board table deal h e claim) behind))
 
     whole : afterCards board table deal h e bytes at ≡ rest (readClaim h cards bytes at)
-    unfolding afterCards
+    unfolding readBehind
     whole = refl
 
     stopped : (r : Reading Claim) → (claimOf r .refusal ≡ 0 → ⊥) → noJudgement (claimOf r .refusal) ≡ judgedOf (rest r)
@@ -238,15 +245,16 @@ module _ (board table : ℕ) (out : Bool) (k : Contract) (deal h : List ℕ) (e 
     claim-refused z = rw (claim-is, whole) (stopped (readClaim h cards bytes at) (rw claim-is at z))
 
     -- a refusal of the claim is not 0
-    fair : Fair (readClaim h cards bytes at)
+    fair : Fair refusesBehind (readClaim h cards bytes at)
     unfolding cardsPlayed
     fair =
         fair-claim h cards bytes at (at-most-52 deal (Law.trumpAfter h) (Law.openingAfter (dealer board) h) (o .deal-of .places) cards
         (cards-allowed deal (Law.trumpAfter h) (Law.openingAfter (dealer board) h) e (o .played)))
 
-    unpadded : (r : Reading Claim) → Fair r → claimOf r .refusal ≡ 0 → overfull bytes (claimOf r .next) ≡ true → noJudgement 16384 ≡ judgedOf (rest r)
+    unpadded : (r : Reading Claim) → Fair refusesBehind r → claimOf r .refusal ≡ 0 → overfull bytes (claimOf r .next) ≡ true
+        → noJudgement 16384 ≡ judgedOf (rest r)
     unfolding ending refuse
-    unpadded (refused n place) f z pad = absurd (not-0 f z)
+    unpadded (refused n place) f z pad = absurd (not-0 refl f z)
     unpadded (found none next) f z pad = rw pad
     unpadded (found (agreed tricks) next) f z pad = rw pad
 
@@ -283,23 +291,31 @@ module _ (board table : ℕ) (out : Bool) (k : Contract) (deal h : List ℕ) (e 
           rw q (fields-is board table out k deal h e t o claim c l sides
           (sym (own-claim (k .declarer) c l) ∙ ap (λ (f : ℕ → ℕ). f (sideOf (k .declarer))) sides) (sym (o .passed) ∙ q)))
 
-      abbrev given : ℕ → Listed → List ℕ → Judged
-      given bits rs fs = record { refusal = 0; bits = bits; revokes = rs; failures = fs }
+      abbrev given : ℕ → Listed → List ℕ → Tricks → Judged
+      given bits rs fs ts = record { refusal = 0; bits = bits; revokes = rs; failures = fs; tricks = ts }
 
-      agreed-on : (r : Reading Claim) → Fair r → claimOf r .refusal ≡ 0 → overfull bytes (claimOf r .next) ≡ false
+      -- the parts of the answer that do not hang on the claim
+      told-alike : (claim : Claim) (bits : ℕ)
+          → given bits (revokesIn t) (failureBytesIn (t .found)) (tricksIn (t .play))
+          ≡ (let q = partsOf board table deal h e claim in given bits (listedIn q) (failuresBytes q) (tricksTold q))
+      told-alike claim bits =
+          rw (
+            list-is board table out k deal h e t o claim,
+            failed-is board table out k deal h e t o claim,
+            told-is board table out k deal h e t o claim,
+          )
+
+      agreed-on : (r : Reading Claim) → Fair refusesBehind r → claimOf r .refusal ≡ 0 → overfull bytes (claimOf r .next) ≡ false
           → given (number (boardFields board table out k (tricksIn (t .play)) (revokesIn t) (claimOf r) left)) (revokesIn t) (failureBytesIn (t .found))
+          (tricksIn (t .play))
           ≡ judgedOf (rest r)
       unfolding ending refuse boardFields
-      agreed-on (refused n place) f z pad = absurd (not-0 f z)
-      agreed-on (found none next) f z pad =
-          rw (pad, bits-is none 0 0 sides-none)
-          (ap₂ (given _) (list-is board table out k deal h e t o none) (failed-is board table out k deal h e t o none))
-      agreed-on (found (agreed tricks) next) f z pad =
-          rw (pad, bits-is (agreed tricks) tricks left (sides-some tricks))
-          (ap₂ (given _) (list-is board table out k deal h e t o (agreed tricks)) (failed-is board table out k deal h e t o (agreed tricks)))
+      agreed-on (refused n place) f z pad = absurd (not-0 refl f z)
+      agreed-on (found none next) f z pad = rw (pad, bits-is none 0 0 sides-none) (told-alike none _)
+      agreed-on (found (agreed tricks) next) f z pad = rw (pad, bits-is (agreed tricks) tricks left (sides-some tricks)) (told-alike (agreed tricks) _)
 
       pub claim-accepted : (ts : Tricks) (rs : Listed) (fs : List ℕ) → ts ≡ tricksIn (t .play) → rs ≡ revokesIn t → fs ≡ failureBytesIn (t .found)
           → (bits : ℕ) → claimed .refusal ≡ 0 → overfull bytes (claimed .next) ≡ false → bits ≡ number (boardFields board table out k ts rs claimed left)
-          → given bits rs fs ≡ judgedOf (afterCards board table deal h e bytes at)
+          → given bits rs fs ts ≡ judgedOf (afterCards board table deal h e bytes at)
       claim-accepted ts rs fs et er ef bits z pad ek =
           rw (whole, ek, et, er, ef, claim-is) (agreed-on (readClaim h cards bytes at) fair (rw claim-is at z) (rw claim-is at pad))

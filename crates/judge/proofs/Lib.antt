@@ -12,6 +12,7 @@ pub mod Settling
 pub mod Judging
 pub mod Beginning
 pub mod Composing
+pub mod Reaching
 pub mod Answering
 pub mod SixBits
 pub mod Widths

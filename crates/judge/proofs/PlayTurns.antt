@@ -6,7 +6,7 @@ use mathlib.Core.Bool.{true, false, not}
 use mathlib.Core.List.{List, _∷_}
 use borrow.Author.Tests.{eq-eqb, ne-eqb, leb-true, leb-false}
 use lib.Dec.{eqb, leb}
-use Rattle.laws.specs.Refusals.{accepted, tooManyCodes}
+use Rattle.laws.specs.Refusals.{accepted, refusesToLastCard, tooManyCodes}
 use Rattle.laws.specs.Law44.{cardsPlayed}
 use Rattle.laws.specs.Events.{Event, played, beginsCode, cardsOf, codesOf}
 use Rattle.laws.specs.CardRefusal.{cardRefusal}
@@ -150,10 +150,11 @@ module _ (deal : List ℕ) (trump opening : ℕ) (bytes : List ℕ) (count : ℕ
           pub code-stops : (coded .refusal ≡ 0 → ⊥) → coded ≡ whole
           code-stops z = law ∙ stopped (codeBy trump opening deal c (r .events) bytes (here + 6)) after-code (rw law at z)
 
-          code-fair : Fair (codeBy trump opening deal c (r .events) bytes (here + 6))
+          code-fair : Fair refusesToLastCard (codeBy trump opening deal c (r .events) bytes (here + 6))
           unfolding codeBy
           code-fair =
-              fair-test tooManyCodes (playPlace (r .events)) (codesFull (r .events)) bytes (here + 6) _ (λ t. at-place refl (omega (arith, place-lt)))
+              fair-test refusesToLastCard tooManyCodes (playPlace (r .events)) (codesFull (r .events)) bytes (here + 6) _
+              (λ t. at-place refl (omega (arith, place-lt)))
               (fair-code trump opening deal c (r .events) bytes (here + 6) (omega (arith, place-lt)))
 
           goes : (x : Reading (List Event)) → codeBy trump opening deal c (r .events) bytes (here + 6) ≡ x
@@ -161,7 +162,7 @@ module _ (deal : List ℕ) (trump opening : ℕ) (bytes : List ℕ) (count : ℕ
               → told deal trump opening x .refusal ≡ 0
               → Turned deal trump opening bytes count first at (told deal trump opening x .after) (told deal trump opening x .next) i
           unfolding codeBy
-          goes (refused n place) f s z = absurd (not-0 (subst Fair f code-fair) z)
+          goes (refused n place) f s z = absurd (not-0 refl (subst (Fair refusesToLastCard) f code-fair) z)
           goes (found after m) f s z =
               let room = first-test tooManyCodes (playPlace (r .events)) (codesFull (r .events)) bytes (here + 6) _ f in
               let k = code-found trump opening deal c (r .events) bytes (here + 6) (room .1) in

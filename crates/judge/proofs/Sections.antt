@@ -8,15 +8,14 @@ use borrow.Author.Tests.{eq-eqb, ne-eqb, lt-ltb, le-ltb, le-leb, lt-leb, ltb-tru
 use lib.Dec.{eqb, ltb}
 use lib.ListN.{length}
 use Rattle.laws.specs.Choice.{if_then_else_}
-use Rattle.laws.specs.Refusals.{auctionUnfinished}
+use Rattle.laws.specs.Refusals.{refusesToLastCard, auctionUnfinished}
 use Rattle.laws.specs.Auction.{isOver}
 use Rattle.laws.specs.CallRefusal.{callRefusal, callPlace}
 use Rattle.laws.specs.CodeRefusal.{mostCodes}
 use Rattle.laws.specs.Plays.{readPlays}
 use Rattle.laws.specs.Reading.{Reading, Reading.refused, Reading.found, onward, numberAt, read, refuse, readEach, overfull}
 use Rattle.laws.specs.Judge as Law
-use Rattle.laws.proofs.CallRefusals.{numbered, call-place-le}
-use Rattle.laws.proofs.Numbered.{Fair, not-0, fair-each}
+use Rattle.laws.proofs.Numbered.{Fair, not-0, fair-codes}
 use Rattle.laws.proofs.Tests.{by-test}
 use Rattle.auction.specs.Asked.{overOf}
 use Rattle.auction.proofs.History.{over-is}
@@ -69,14 +68,16 @@ module _ (d : ℕ) (bytes : List ℕ) (at : ℕ) where
     stopped (refused n place) e = refl
     stopped (found h next) e = absurd (e refl)
 
-    open-end : (r : Reading (List ℕ)) → Fair r → callsOf d r .refusal ≡ 0 → overOf (callsOf d r .after) ≡ false → noCalls 9 count ≡ callsOf d (ended r)
+    open-end : (r : Reading (List ℕ)) → Fair refusesToLastCard r → callsOf d r .refusal ≡ 0 → overOf (callsOf d r .after) ≡ false
+        → noCalls 9 count ≡ callsOf d (ended r)
     unfolding refuse
-    open-end (refused n place) f e o = absurd (not-0 f e)
+    open-end (refused n place) f e o = absurd (not-0 refl f e)
     open-end (found h next) f e o = rw (sym (over-is d h) ∙ o)
 
-    at-end : (r : Reading (List ℕ)) → Fair r → callsOf d r .refusal ≡ 0 → overOf (callsOf d r .after) ≡ true → callsOf d r ≡ callsOf d (ended r)
+    at-end : (r : Reading (List ℕ)) → Fair refusesToLastCard r → callsOf d r .refusal ≡ 0 → overOf (callsOf d r .after) ≡ true
+        → callsOf d r ≡ callsOf d (ended r)
     unfolding refuse
-    at-end (refused n place) f e o = absurd (not-0 f e)
+    at-end (refused n place) f e o = absurd (not-0 refl f e)
     at-end (found h next) f e o = rw (sym (over-is d h) ∙ o)
 
     module _ (k : Calls) (ek : k ≡ callsOf d each) where
@@ -84,8 +85,8 @@ module _ (d : ℕ) (bytes : List ℕ) (at : ℕ) where
       calls-stopped e = ek ∙ stopped each (rw ek at e) ∙ ap (callsOf d) (sym whole)
 
       module _ (few : count < 512) (e : k .refusal ≡ 0) where
-        fair : Fair each
-        fair = fair-each 6 (callPlace d) (callRefusal d) (call-place-le d) (numbered d) count [] bytes (at + 9) (omega arith)
+        fair : Fair refusesToLastCard each
+        fair = fair-codes d count bytes (at + 9) (omega arith)
 
         pub calls-open : overOf (k .after) ≡ false → noCalls 9 count ≡ callsOf d (Law.readCalls d bytes at)
         calls-open o = open-end each fair (rw ek at e) (rw ek at o) ∙ ap (callsOf d) (sym whole)

@@ -17,6 +17,7 @@ use Rattle.auction.specs.Position as Auction
 use Rattle.deal.specs.Hands.{wordsOf}
 use Rattle.play.specs.declared.Play.{Play}
 use Rattle.play.specs.Position.{startOf, step, verdictOf, verdictNumber}
+use Rattle.penalty.specs.declared.table.Table.{Table}
 use Rattle.penalty.specs.Table.{tableWith}
 use Rattle.penalty.specs.History.{positionOf}
 use Rattle.play.specs.Claims.{pointAt}
@@ -62,8 +63,12 @@ dealOf (refused n place) = noDeal n place
 dealOf (found deal at) = record { refusal = 0; holders = deal; hands = wordsOf deal }
 
 -- ---- cards, and the codes before them
+-- what stands for a position where there is none
+abbrev pub noTable : Table
+noTable = tableWith (startOf (replicate 52 0) (replicate 4 0) 0 0) 0
+
 abbrev pub noCards : ℕ → ℕ → Cards
-noCards n place = record { refusal = refusalNumber n place; next = 0; after = tableWith (startOf (replicate 52 0) (replicate 4 0) 0 0) 0 }
+noCards n place = record { refusal = refusalNumber n place; next = 0; after = noTable }
 
 abbrev pub cardsOf : List ℕ → ℕ → ℕ → Reading (List Event) → Cards
 cardsOf deal trump opening (refused n place) = noCards n place

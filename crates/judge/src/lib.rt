@@ -4,6 +4,7 @@ mod claim;
 mod codes;
 mod law77;
 mod plays;
+mod reached;
 mod reading;
 mod runs;
 mod settle;
@@ -13,16 +14,21 @@ mod whole;
 use crate::whole::judge;
 use laws::SHORT_BUFFER;
 use laws::refusal_number;
+use play::Tricks;
+pub use reached::Reached;
+pub use reached::read_to_last_card;
 pub use slip::Explained;
 pub use slip::Items;
 pub use slip::explain;
 ghost use mathlib.Core.Path.{_≡_};
-ghost use mathlib.Core.List.{_++_};
-ghost use Prim.Native.Nat.{_<_, _≤_};
+ghost use mathlib.Core.List.{_++_, map};
+ghost use Prim.Native.Nat.{_*_, _<_, _≤_};
 ghost use lib.ListN.{length, take, drop};
 ghost use Rattle.laws.specs.Record.{bytesOf};
 ghost use Rattle.laws.specs.Judge.{judgeOf, numberOf};
-ghost use Rattle.laws.specs.Lent.{roomsOf, answerLeft, listLeft, failuresLeft};
+ghost use Rattle.laws.specs.Judgement.{wonBytes};
+ghost use Rattle.laws.specs.Lent.{roomsOf, answerLeft, listLeft, failuresLeft, winnersLeft};
+ghost use Rattle.play.specs.History.{lawOf};
 
 fn narrow(x: u64) -> u8
     requires { ⌜ x < 256 ⌝ }
@@ -69,23 +75,46 @@ fn put_failures(failures: &mut [u8], told: [u8; 52])
     }
 }
 
-// Judges a table record. The answer is 0, with seven bytes in answer, a byte for each revoke in list, and 52 bytes of the plays against Law 50C or 50D1 in
-// failures; or a refusal × 1024 + its place, with all three as they were.
+// Two bytes for each complete trick over the front of winners: who won it, and the card that won.
+fn put_winners(winners: &mut [u8], ts: Tricks)
+    requires { ⌜ (ts .count ≤ 13) × (26 ≤ length (now winners)) ⌝ }
+    ensures { λ _. ⌜ now (winners .exit) ≡ take (2 * ts .count) (wonBytes (map lawOf (ts .answers))) ++ drop (2 * ts .count) (now (winners .entry)) ⌝ }
+{
+    let complete = ts.count as usize;
+    let mut i: usize = 0;
+    while i < complete {
+        let won = ts.answers[i];
+        winners[2 * i] = won.seat;
+        winners[2 * i + 1] = won.card;
+        i += 1;
+    }
+}
+
+// Judges a table record. The answer is 0, with seven bytes in answer, a byte for each revoke in list, 52 bytes of the plays against Law 50C or 50D1 in
+// failures, and winner and winning card of each complete trick in winners; or a refusal × 1024 + its place, with all four as they were.
 #[no_mangle]
 pub extern "C" fn judge_record(
     bytes: &[u8],
     answer: &mut [u8],
     list: &mut [u8],
     failures: &mut [u8],
+    winners: &mut [u8],
 ) -> u32
     ensures number { λ r. ⌜ r
-        ≡ numberOf (judgeOf (now (bytes .entry)) (roomsOf (now (answer .entry)) (now (list .entry)) (now (failures .entry)))) ⌝ }
+        ≡ numberOf (judgeOf (now (bytes .entry))
+        (roomsOf (now (answer .entry)) (now (list .entry)) (now (failures .entry)) (now (winners .entry)))) ⌝ }
     ensures answered { λ r. ⌜ now (answer .exit)
-        ≡ answerLeft (judgeOf (now (bytes .entry)) (roomsOf (now (answer .entry)) (now (list .entry)) (now (failures .entry)))) (now (answer .entry)) ⌝ }
+        ≡ answerLeft (judgeOf (now (bytes .entry))
+        (roomsOf (now (answer .entry)) (now (list .entry)) (now (failures .entry)) (now (winners .entry)))) (now (answer .entry)) ⌝ }
     ensures listed { λ r. ⌜ now (list .exit)
-        ≡ listLeft (judgeOf (now (bytes .entry)) (roomsOf (now (answer .entry)) (now (list .entry)) (now (failures .entry)))) (now (list .entry)) ⌝ }
+        ≡ listLeft (judgeOf (now (bytes .entry))
+        (roomsOf (now (answer .entry)) (now (list .entry)) (now (failures .entry)) (now (winners .entry)))) (now (list .entry)) ⌝ }
     ensures failed { λ r. ⌜ now (failures .exit)
-        ≡ failuresLeft (judgeOf (now (bytes .entry)) (roomsOf (now (answer .entry)) (now (list .entry)) (now (failures .entry)))) (now (failures .entry)) ⌝ }
+        ≡ failuresLeft (judgeOf (now (bytes .entry))
+        (roomsOf (now (answer .entry)) (now (list .entry)) (now (failures .entry)) (now (winners .entry)))) (now (failures .entry)) ⌝ }
+    ensures won { λ r. ⌜ now (winners .exit)
+        ≡ winnersLeft (judgeOf (now (bytes .entry))
+        (roomsOf (now (answer .entry)) (now (list .entry)) (now (failures .entry)) (now (winners .entry)))) (now (winners .entry)) ⌝ }
 {
     if answer.len() < 7 {
         return refusal_number(SHORT_BUFFER, 0);
@@ -95,6 +124,9 @@ pub extern "C" fn judge_record(
     }
     if failures.len() < 52 {
         return refusal_number(SHORT_BUFFER, 2);
+    }
+    if winners.len() < 26 {
+        return refusal_number(SHORT_BUFFER, 3);
     }
     let judged = judge(bytes);
     let refusal = judged.refusal;
@@ -109,5 +141,7 @@ pub extern "C" fn judge_record(
     put_list(list, listed, count);
     let told = judged.failures;
     put_failures(failures, told);
+    let tricks = judged.tricks;
+    put_winners(winners, tricks);
     refusal
 }

@@ -14,7 +14,7 @@ ghost use Prim.Native.Nat.{ℕ, _+_, _-_, _%_, _<_, _≤_};
 ghost use Rattle.laws.specs.Events.{Event};
 ghost use Rattle.laws.specs.Plays.{readExposed, readChoice};
 ghost use Rattle.penalty.specs.History.{OfEvents};
-ghost use Rattle.judge.specs.Sections.{noCards, cardsOf, codeBy, playsBy};
+ghost use Rattle.judge.specs.Sections.{noTable, noCards, cardsOf, codeBy, playsBy};
 
 // The position after the plays and the bit behind them; or the number of their refusal, 0 where there is none.
 pub struct Cards {
@@ -23,11 +23,17 @@ pub struct Cards {
     pub after: Table,
 }
 
+// What stands for a position where there is none.
+pub(crate) fn no_table() -> Table
+    ensures { λ r. ⌜ r ≡ noTable ⌝ }
+{
+    Table::after_cards(Play::new([0u8; 52], [0u64; 4], 0, 0), 0)
+}
+
 pub(crate) fn no_cards(refusal: u8, place: u16) -> Cards
     ensures { λ r. ⌜ r ≡ noCards refusal place ⌝ }
 {
-    let play = Play::new([0u8; 52], [0u64; 4], 0, 0);
-    let after = Table::after_cards(play, 0);
+    let after = no_table();
     Cards {
         refusal: refusal_number(refusal, place),
         next: 0,

@@ -1,37 +1,33 @@
-// The whole record judged: its sections in order, then the answer's bits, the revokes and the plays against Law 50.
-use crate::cards::read_cards;
+// The whole record judged: the claim behind its last card, then the answer's bits, the revokes, the plays against Law 50 and the complete tricks.
 use crate::claim::Claim;
 use crate::claim::is_padding;
 use crate::claim::read_claim;
-use crate::reading::read_calls;
-use crate::reading::read_deal;
-use crate::reading::read_heading;
+use crate::reached::read_to_last_card;
 use crate::settle::settle;
 use crate::settle::settle_passed_out;
-use auction::Auction;
 use auction::Contract;
 use laws::NOT_PADDING;
 use laws::refusal_number;
 use penalty::Listed;
 use penalty::Table;
 use play::Tricks;
+use play::Won;
 ghost use mathlib.Core.Path.{_≡_};
 ghost use mathlib.Core.List.{List};
-ghost use Prim.Native.Nat.{ℕ, _+_, _*_, _<_, _≤_};
-ghost use lib.ListN.{length};
+ghost use Prim.Native.Nat.{ℕ, _<_, _≤_};
 ghost use Rattle.laws.specs.Events.{Event};
 ghost use Rattle.laws.specs.Record.{number};
 ghost use Rattle.laws.specs.Judge.{readRecord};
-ghost use Rattle.deal.specs.Hands.{wordsOf};
-ghost use Rattle.penalty.specs.History.{ThirteenEach};
-ghost use Rattle.judge.specs.Whole.{noJudgement, judgedOf, boardFields, OfCards, OfCalls, afterCards, afterCalls, afterDeal};
+ghost use Rattle.judge.specs.Whole.{noJudgement, judgedOf, boardFields, OfCards, afterCards};
 
-// The answer's bits, the revokes and the 52 bytes of the plays against Law 50; or the number of the refusal, 0 where the record is accepted.
+// The answer's bits, the revokes, the 52 bytes of the plays against Law 50 and the complete tricks; or the number of the refusal, 0 where the record is
+// accepted.
 pub struct Judged {
     pub refusal: u32,
     pub bits: u64,
     pub revokes: Listed,
     pub failures: [u8; 52],
+    pub tricks: Tricks,
 }
 
 fn refused(refusal: u32) -> Judged
@@ -42,11 +38,18 @@ fn refused(refusal: u32) -> Judged
         list: [0u8; 48],
         excused: [0u8; 48],
     };
+    let none = Won { seat: 0, card: 0 };
+    let tricks = Tricks {
+        count: 0,
+        won: [0u8; 2],
+        answers: [none; 13],
+    };
     Judged {
         refusal,
         bits: 0,
         revokes,
         failures: [0u8; 52],
+        tricks,
     }
 }
 
@@ -120,50 +123,27 @@ fn judge_claim(
         bits,
         revokes: rs,
         failures: found.failure_bytes(),
+        tricks: ts,
     }
-}
-
-// The cards, and what follows them.
-fn judge_play(
-    bytes: &[u8],
-    board: u8,
-    table: u16,
-    holders: [u8; 52],
-    hands: [u64; 4],
-    a: Auction,
-    at: usize,
-) -> Judged
-    requires { ⌜ (8 ≤ at) × (at < 16384) × (hands ≡ wordsOf holders) × ThirteenEach holders ⌝ }
-    ensures { λ r. ⌜ ((h : List ℕ) → OfCalls board a holders h → r ≡ judgedOf (afterCalls board table holders h (now (bytes .entry)) at)) ⌝ }
-{
-    let out = a.is_passed_out();
-    let k = a.contract();
-    let cards = read_cards(bytes, holders, hands, out, k.strain, k.opening_leader(), at);
-    if cards.refusal != 0 {
-        return refused(cards.refusal);
-    }
-    let t = cards.after;
-    judge_claim(bytes, board, table, out, k, t, cards.next)
 }
 
 // The whole record.
 pub(crate) fn judge(bytes: &[u8]) -> Judged
     ensures { λ r. ⌜ r ≡ judgedOf (readRecord (now (bytes .entry)) 0) ⌝ }
 {
-    let top = read_heading(bytes);
-    if top.refusal != 0 {
-        return refused(top.refusal);
+    let reached = read_to_last_card(bytes);
+    if reached.refusal != 0 {
+        return refused(reached.refusal);
     }
-    let dealt = read_deal(bytes);
-    if dealt.refusal != 0 {
-        return refused(dealt.refusal);
-    }
-    let called = read_calls(bytes, deal::dealer(top.board), 120);
-    if called.refusal != 0 {
-        return refused(called.refusal);
-    }
-    let holders = dealt.holders;
-    let hands = dealt.hands;
-    let a = called.after;
-    judge_play(bytes, top.board, top.table, holders, hands, a, called.next)
+    let k = reached.contract;
+    let t = reached.after;
+    judge_claim(
+        bytes,
+        reached.board,
+        reached.table,
+        reached.out,
+        k,
+        t,
+        reached.next,
+    )
 }

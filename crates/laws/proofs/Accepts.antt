@@ -98,7 +98,7 @@ module _ (bytes : List ℕ) where
 
 -- buffers of the least lengths
 pub least-enough : Enough leastRooms
-least-enough = record { answer = lit≤ tt; list = lit≤ tt; failures = lit≤ tt }
+least-enough = record { answer = lit≤ tt; list = lit≤ tt; failures = lit≤ tt; winners = lit≤ tt }
 
 -- with buffers that are long enough the record decides
 module _ (rooms : Rooms) (enough : Enough rooms) where
@@ -108,6 +108,7 @@ module _ (rooms : Rooms) (enough : Enough rooms) where
     le-ltb (rooms .answer) 7 (enough .answer),
     le-ltb (rooms .list) 48 (enough .list),
     le-ltb (rooms .failures) 52 (enough .failures),
+    le-ltb (rooms .winners) 26 (enough .winners),
     test-is,
   )
 

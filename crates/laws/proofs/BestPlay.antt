@@ -12,6 +12,7 @@ use Rattle.laws.specs.Cards.{sideOf}
 use Rattle.laws.specs.Law44.{cardsPlayed, cardsInTrick, trickUnderWay, leader, winner, winners, tricksWon, playable}
 use Rattle.laws.specs.BestPlay.{greatest, smallest, mayPlay, ourTurn, gain, most, least, bestPlay}
 use Rattle.laws.specs.Lines.{Legal, Done, ours, Keeps, Plays}
+use Rattle.laws.proofs.TricksWon.{winners-same, winners-more}
 use Rattle.laws.proofs.Tests.{by-test, not-both, and-left, and-right, and-both, or-left, or-right}
 use Rattle.laws.proofs.Counts.{many-append, below-some}
 use Rattle.laws.proofs.CardRefusals.{playable-dealt}
@@ -160,15 +161,15 @@ module _ (trump opening : ℕ) (deal : List ℕ) (side : ℕ) where
   their-value left h q = rw q
 
   -- the tricks won grow by what the card gains
-  won-more : (h : List ℕ) (c : ℕ)
+  pub won-more : (h : List ℕ) (c : ℕ)
       → tricksWon side (winners trump opening (c ∷ h)) ≡ tricksWon side (winners trump opening h) + gain trump opening side h c
-  unfolding tricksWon winners leader gain howMany
+  unfolding tricksWon leader gain howMany
   won-more h c =
       by-test (eqb (cardsInTrick (c ∷ h)) 0)
       (λ (q : eqb (cardsInTrick (c ∷ h)) 0 ≡ true).
       let w = winner trump (leader trump opening h) (c ∷ trickUnderWay h) in
-      rw (q, many-append (λ seat. eqb (sideOf seat) side) (winners trump opening h) (w ∷ [])) (omega arith))
-      (λ (q : eqb (cardsInTrick (c ∷ h)) 0 ≡ false). rw q (omega arith))
+      rw (winners-more trump opening c h q, q, many-append (λ seat. eqb (sideOf seat) side) (winners trump opening h) (w ∷ [])) (omega arith))
+      (λ (q : eqb (cardsInTrick (c ∷ h)) 0 ≡ false). rw (winners-same trump opening c h q, q) (omega arith))
 
 -- ---- lines from an ending g, after each of which, as long as cards are left, some card may be played
 module _ (trump opening : ℕ) (deal : List ℕ) (side : ℕ) (g : List ℕ) (all : length deal ≡ 52)

@@ -1,9 +1,9 @@
 -- What the judge says of any bytes it says of their first 506: no section reads behind them, and a byte more than an accepted record can have is one too
--- many however many follow. Assumes nothing.
+-- many however many follow. Up to its last card a record is read within the first 505. Assumes nothing.
 use Prim.Native.Nat.{ℕ, zero, suc, _+_, _-_, _*_, _/_, _^_, _≤_, _<_}
 use native.Mathlib.Nat.{mul-suc}
 use native.Mathlib.Omega.{arith}
-use mathlib.Core.Path.{_≡_, refl, sym, ap}
+use mathlib.Core.Path.{_≡_, refl, sym, ap, _∙_}
 use mathlib.Core.Bool.{Bool, true, false, not, _&&_, _||_}
 use mathlib.Core.List.{List, [], _∷_, reverse}
 use borrow.Author.Tests.{le-leb, ltb-true, ltb-false, eqb-true, not-false}
@@ -24,26 +24,24 @@ use Rattle.laws.specs.CodeRefusal.{mostCodes, exposureRefusal, choiceRef
 use Rattle.laws.specs.Plays.{playPlace, readExposed, readChoice, readCode, readPlays}
 use Rattle.laws.specs.Law68.{atClaimPoint, claimable}
 use Rattle.laws.specs.Record.{bits}
-use Rattle.laws.specs.Reading.{bitAt, numberAt, Reading, Reading.refused, Reading.found, onward, read, refuse, readRow, readEach, overfull, ending}
+use Rattle.laws.specs.Reading.{bitAt, numberAt, Reading, Reading.found, onward, read, refuse, readRow, readEach, overfull, ending}
 use Rattle.laws.specs.Judge.{readHeading, readDeal, readCalls, readCards, readNoClaim, readMarkedClaim}
 use Rattle.laws.specs.Judge.{readClaim, readRecord, readLent, outcome, Rooms, judgeOf}
-use Rattle.laws.specs.Lengths.{decidingBytes}
+use Rattle.laws.specs.LastCard.{readToLastCard, readBehind}
+use Rattle.laws.specs.Lengths.{mostBytes, decidingBytes}
 use Rattle.laws.proofs.Tests.{by-test, or-left}
 use Rattle.laws.proofs.Bits.{number-lt}
 use Rattle.laws.proofs.Readings.{read-is}
-use Rattle.laws.proofs.Lengths.{bits-row, plays-bits, claim-bits}
+use Rattle.laws.proofs.Lengths.{bits-row, claim-bits}
 use Rattle.laws.proofs.CodesRead.{code-found}
-use Rattle.laws.proofs.Sections.{heading-exact, deal-exact, calls-exact, cards-exact}
+use Rattle.laws.proofs.Sections.{heading-exact, deal-exact, calls-exact}
+use Rattle.laws.proofs.LastCard.{alike, record-is, last-card-found}
 use Rattle.laws.proofs.Claims.{claim-exact}
 
--- two readings that go on alike from what a first one found
+-- two readings that go on alike from what two equal ones found
 module _ {A B : Type 0} (f g : A → ℕ → Reading B) where
-  alike : (r : Reading A) → ((a : A) (m : ℕ) → r ≡ found a m → f a m ≡ g a m) → onward r f ≡ onward r g
-  alike (refused n place) next = refl
-  alike (found a m) next = next a m refl
-
   same-on : (r s : Reading A) → r ≡ s → ((a : A) (m : ℕ) → r ≡ found a m → f a m ≡ g a m) → onward r f ≡ onward s g
-  same-on r s e next = rw (sym e) (alike r next)
+  same-on r s e next = rw (sym e) (alike f g r next)
 
 -- a test is the same of any bytes
 module _ {B : Type 0} (n place : ℕ) (bytes other : List ℕ) (at : ℕ) (f g : Unit {0} → ℕ → Reading B) where
@@ -198,9 +196,10 @@ module _ (most : ℕ) (bytes : List ℕ) (long : most ≤ length bytes) where
       let c = calls-exact d .reads bytes at h _ l q in
       (c .0 .count, omega (arith, c .1 .next, bits-row 6 (reverse h), length-reverse h))
 
-  same-record : decidingBytes ≤ most → readRecord bytes 0 ≡ readRecord front 0
-  unfolding readRecord bits
-  same-record enough =
+  -- up to the last card
+  same-last-card : mostBytes ≤ most → readToLastCard bytes 0 ≡ readToLastCard front 0
+  unfolding readToLastCard bits
+  same-last-card enough =
       same-on _ _ _ _ (same-heading 0 (omega arith)) (λ x m₁ q₁.
       let d : ℕ = dealer (x .board) in
       let h₁ = heading-exact .reads bytes 0 x m₁ (omega arith) q₁ in
@@ -210,15 +209,21 @@ module _ (most : ℕ) (bytes : List ℕ) (long : most ≤ length bytes) where
       let e₂ : m₂ ≡ 120 = omega (arith, h₂ .1 .next, bits-row 2 deal, h₂ .0 .holders) in
       same-on _ _ _ _ (same-calls d m₂ (omega arith)) (λ h m₃ q₃.
       let c = calls-few d m₂ h (h₂ .1 .whole) q₃ in
-      let h₃ = calls-exact d .reads bytes m₂ h m₃ (h₂ .1 .whole) q₃ in
       let e₃ : m₃ ≤ 3195 = omega (arith, c .0, c .1) in
-      same-on _ _ _ _ (same-cards d deal h m₃ (omega arith)) (λ e m₄ q₄.
-      let h₄ = cards-exact d deal h (h₂ .0 .holders) .reads bytes m₃ e m₄ (h₃ .1 .whole) q₄ in
-      let e₄ : m₄ ≤ 4033 = omega (arith, h₄ .1 .next, plays-bits (reverse e) .1, h₄ .0 .count, h₄ .0 .codes) in
-      same-on _ _ _ _ (same-claim h (cardsOf e) m₄ (omega arith)) (λ t m₅ q₅.
-      let h₅ = claim-exact h (cardsOf e) .reads bytes m₄ t m₅ (h₄ .1 .whole) q₅ in
-      let e₅ : m₅ ≤ 4038 = omega (arith, h₅ .1 .next, claim-bits t .1) in
-      same-on _ _ _ _ (same-ending m₅ (omega arith)) (λ u m₆ q₆. refl))))))
+      same-on _ _ _ _ (same-cards d deal h m₃ (omega arith)) (λ e m₄ q₄. refl))))
+
+  same-record : decidingBytes ≤ most → readRecord bytes 0 ≡ readRecord front 0
+  unfolding readBehind
+  same-record enough =
+      record-is bytes
+      ∙ same-on _ _ _ _ (same-last-card (omega arith)) (λ r m₄ q₄.
+      let s = last-card-found bytes r m₄ q₄ in
+      let g : List ℕ = cardsOf (r .plays) in
+      same-on _ _ _ _ (same-claim (r .calls) g m₄ (omega (arith, s .next))) (λ t m₅ q₅.
+      let h₅ = claim-exact (r .calls) g .reads bytes m₄ t m₅ (s .whole) q₅ in
+      let e₅ : m₅ ≤ 4038 = omega (arith, s .next, h₅ .1 .next, claim-bits t .1) in
+      same-on _ _ _ _ (same-ending m₅ (omega arith)) (λ u m₆ q₆. refl)))
+      ∙ sym (record-is front)
 
   same-lent : decidingBytes ≤ most → (rooms : Rooms) → judgeOf bytes rooms ≡ judgeOf front rooms
   unfolding judgeOf readLent
@@ -226,11 +231,19 @@ module _ (most : ℕ) (bytes : List ℕ) (long : most ≤ length bytes) where
       ap outcome
       (same-test shortBuffer 0 bytes front 0 _ _ (ltb (rooms .answer) 7) (λ a.
       same-test shortBuffer 1 bytes front 0 _ _ (ltb (rooms .list) 48) (λ b.
-      same-test shortBuffer 2 bytes front 0 _ _ (ltb (rooms .failures) 52) (λ c. same-record enough))))
+      same-test shortBuffer 2 bytes front 0 _ _ (ltb (rooms .failures) 52) (λ c.
+      same-test shortBuffer 3 bytes front 0 _ _ (ltb (rooms .winners) 26) (λ d. same-record enough)))))
 
--- ---- the theorem: as many first bytes as decide, or more, are judged as the whole
-pub first-bytes : (most : ℕ) → decidingBytes ≤ most → (bytes : List ℕ) (rooms : Rooms) → judgeOf bytes rooms ≡ judgeOf (take most bytes) rooms
-first-bytes most enough bytes rooms =
-    by-test (ltb (length bytes) most)
-    (λ (q : ltb (length bytes) most ≡ true). rw (take-all most bytes (omega (arith, ltb-true (length bytes) most q))))
-    (λ (q : ltb (length bytes) most ≡ false). same-lent most bytes (ltb-false (length bytes) most q) enough rooms)
+-- ---- the theorems: as many first bytes as decide, or more, are judged as the whole, and read up to the last card as the whole
+module _ (most : ℕ) (bytes : List ℕ) where
+  by-length : {A : Type 0} (said : List ℕ → A) → (most ≤ length bytes → said bytes ≡ said (take most bytes)) → said bytes ≡ said (take most bytes)
+  by-length said same =
+      by-test (ltb (length bytes) most)
+      (λ (q : ltb (length bytes) most ≡ true). rw (take-all most bytes (omega (arith, ltb-true (length bytes) most q))))
+      (λ (q : ltb (length bytes) most ≡ false). same (ltb-false (length bytes) most q))
+
+  pub first-bytes : decidingBytes ≤ most → (rooms : Rooms) → judgeOf bytes rooms ≡ judgeOf (take most bytes) rooms
+  first-bytes enough rooms = by-length (λ s. judgeOf s rooms) (λ long. same-lent most bytes long enough rooms)
+
+  pub first-to-last-card : mostBytes ≤ most → readToLastCard bytes 0 ≡ readToLastCard (take most bytes) 0
+  first-to-last-card enough = by-length (λ s. readToLastCard s 0) (λ long. same-last-card most bytes long enough)

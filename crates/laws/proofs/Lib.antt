@@ -44,6 +44,7 @@ pub mod SideTricks
 pub mod AllotmentPlaces
 pub mod BestTotal
 pub mod Lengths
+pub mod LastCard
 pub mod FirstBytes
 pub mod Slip
 pub mod BestPlay
@@ -55,3 +56,4 @@ pub mod FailuresInFull
 pub mod OneCard
 pub mod TallyRules
 pub mod OneDeal
+pub mod TricksWon

@@ -1,9 +1,9 @@
--- One member more in an array of fixed size. Assumes nothing.
+-- One member more in an array of fixed size; the first members, and the length, under a function of each. Assumes nothing.
 use Prim.Native.Nat.{ℕ, zero, suc, _≤_, _<_}
 use native.Mathlib.Omega.{arith}
-use mathlib.Core.Path.{_≡_, refl, ap}
-use mathlib.Core.List.{List, [], _∷_, _++_}
-use lib.ListN.{length, getD, set, take, replicate}
+use mathlib.Core.Path.{_≡_, refl, sym, ap, _∙_}
+use mathlib.Core.List.{List, [], _∷_, _++_, map}
+use lib.ListN.{length, getD, set, take, replicate, length-map}
 use Rattle.laws.specs.Padded.{padded}
 
 module _ {A : Type 0} (z : A) where
@@ -41,3 +41,13 @@ module _ {A : Type 0} (z : A) where
   padded-at (suc n) [] (suc k) h = padded-at n [] k (omega arith)
   padded-at (suc n) (x ∷ l) zero h = refl
   padded-at (suc n) (x ∷ l) (suc k) h = padded-at n l k (omega arith)
+
+-- the first members under a function
+pub take-map : {A B : Type 0} (f : A → B) (n : ℕ) (l : List A) → take n (map f l) ≡ map f (take n l)
+take-map f zero l = refl
+take-map f (suc n) [] = refl
+take-map f (suc n) (x ∷ l) = ap (λ (m : List _). f x ∷ m) (take-map f n l)
+
+-- a list is as long as what a function makes of its members
+pub length-under : (X Y : Type 0) (f : X → Y) (l : List X) (n : ℕ) → length (map f l) ≡ n → length l ≡ n
+length-under X Y f l n e = sym (length-map l f) ∙ e

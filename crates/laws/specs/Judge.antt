@@ -88,16 +88,18 @@ pub record Rooms : Type 0 where
   pub answer : ℕ
   pub list : ℕ
   pub failures : ℕ
+  pub winners : ℕ
 
 -- the least lengths that serve
 abbrev pub leastRooms : Rooms
-leastRooms = record { answer = 7; list = 48; failures = 52 }
+leastRooms = record { answer = 7; list = 48; failures = 52; winners = 26 }
 
 -- no lent buffer is too short
 pub record Enough (rooms : Rooms) : Type 0 where
   pub answer : leastRooms .answer ≤ rooms .answer
   pub list : leastRooms .list ≤ rooms .list
   pub failures : leastRooms .failures ≤ rooms .failures
+  pub winners : leastRooms .winners ≤ rooms .winners
 
 -- the lent buffers come before the record
 unfoldable pub readLent : Rooms → Reader Parts
@@ -105,6 +107,7 @@ readLent rooms = do
   refuse shortBuffer 0 (ltb (rooms .answer) (leastRooms .answer))
   refuse shortBuffer 1 (ltb (rooms .list) (leastRooms .list))
   refuse shortBuffer 2 (ltb (rooms .failures) (leastRooms .failures))
+  refuse shortBuffer 3 (ltb (rooms .winners) (leastRooms .winners))
   readRecord
 
 -- a refusal with its number and place, or the parts of an accepted record

@@ -10,7 +10,7 @@ use Rattle.laws.specs.Choice.{if_then_else_}
 use Rattle.laws.specs.Cards.{partnerOf, sideOf}
 use Rattle.laws.specs.Law2.{dealer, vulnerable}
 use Rattle.laws.specs.Auction.{Contract, contract, passedOut, trumpAfter, openingAfter}
-use Rattle.laws.specs.Law44.{winners, tricksWon, tricksLeft}
+use Rattle.laws.specs.Law44.{Won, wonTricks, winners, tricksWon, tricksLeft}
 use Rattle.laws.specs.Law61.{Revoke}
 use Rattle.laws.specs.Padded.{padded}
 use Rattle.laws.specs.Events.{Event, cardsOf}
@@ -42,7 +42,11 @@ module _ (p : Parts) where
   abbrev pub openingOf : ℕ
   openingOf = openingAfter (dealer (p .board)) callsOf
 
-  -- the winners of the complete tricks, the revokes as they are listed and as Law 64 counts them, and the plays against 50C or 50D1, in order of play
+  -- the answers of the complete tricks and their winners, the revokes as they are listed and as Law 64 counts them, and the plays against 50C or 50D1, in
+  -- order of play
+  unfoldable pub wonTricksOf : List Won
+  wonTricksOf = wonTricks trumpOf openingOf (cardsOf playOf)
+
   unfoldable pub winnersOf : List ℕ
   winnersOf = winners trumpOf openingOf (cardsOf playOf)
 
@@ -121,3 +125,12 @@ revokeBytes p = map revokeByte (revokesOf p)
 -- the 52 bytes of the plays against 50C or 50D1: two for each, and zeros behind them
 unfoldable pub failuresBytes : Parts → List ℕ
 failuresBytes p = padded 0 52 (failureBytes (failuresOf p))
+
+-- two bytes for each trick: the seat that won it, and the card that won
+unfoldable pub wonBytes : List Won → List ℕ
+wonBytes [] = []
+wonBytes (w ∷ ws) = w .seat ∷ w .card ∷ wonBytes ws
+
+-- the bytes of the complete tricks, trick by trick
+unfoldable pub winnersBytes : Parts → List ℕ
+winnersBytes p = wonBytes (wonTricksOf p)

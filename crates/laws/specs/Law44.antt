@@ -3,12 +3,12 @@
 -- to the first trick.
 -- Assumes nothing.
 use Prim.Native.Nat.{ℕ, _+_, _-_, _/_, _%_, max}
-use mathlib.Core.Bool.{Bool, true, false, not, _&&_}
-use mathlib.Core.List.{List, [], _∷_, _++_}
+use mathlib.Core.Bool.{Bool, not, _&&_}
+use mathlib.Core.List.{List, [], _∷_, _++_, map}
 use lib.Dec.{eqb}
-use lib.ListN.{length, take, getD}
+use lib.ListN.{length, take}
 use Rattle.laws.specs.Choice.{if_then_else_, some, howMany}
-use Rattle.laws.specs.Cards.{suitOf, noSeat, clockwise, sideOf, dealtTo}
+use Rattle.laws.specs.Cards.{suitOf, clockwise, sideOf, dealtTo}
 
 -- how many cards have been played: the place of the next play, counted from 0
 unfoldable pub cardsPlayed : List ℕ → ℕ
@@ -73,12 +73,25 @@ leader trump opening (c ∷ g) =
 unfoldable pub toPlay : ℕ → ℕ → List ℕ → ℕ
 toPlay trump opening g = clockwise (leader trump opening g) (cardsInTrick g)
 
+-- a trick's answer: the seat that won it, and the card that won
+pub record Won : Type 0 where
+  pub seat : ℕ
+  pub card : ℕ
+
+-- the answer of a trick that `leader` led
+unfoldable pub wonBy : ℕ → ℕ → List ℕ → Won
+wonBy trump leader t = record { seat = winner trump leader t; card = winningCard trump t }
+
+-- the answers of the complete tricks, in the tricks' order
+unfoldable pub wonTricks : ℕ → ℕ → List ℕ → List Won
+wonTricks trump opening [] = []
+wonTricks trump opening (c ∷ g) =
+    if eqb (cardsInTrick (c ∷ g)) 0 then wonTricks trump opening g ++ (wonBy trump (leader trump opening g) (c ∷ trickUnderWay g) ∷ [])
+    else wonTricks trump opening g
+
 -- the winners of the complete tricks, in the tricks' order
 unfoldable pub winners : ℕ → ℕ → List ℕ → List ℕ
-winners trump opening [] = []
-winners trump opening (c ∷ g) =
-    if eqb (cardsInTrick (c ∷ g)) 0 then winners trump opening g ++ (winner trump (leader trump opening g) (c ∷ trickUnderWay g) ∷ [])
-    else winners trump opening g
+winners trump opening g = map (λ (w : Won). w .seat) (wonTricks trump opening g)
 
 -- how many of the tricks with these winners a side won
 unfoldable pub tricksWon : ℕ → List ℕ → ℕ

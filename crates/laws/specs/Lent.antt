@@ -1,14 +1,15 @@
--- What the judge leaves in the three buffers that it is lent.
+-- What the judge leaves in the four buffers that it is lent.
 -- Assumes nothing.
 use mathlib.Core.List.{List, _++_}
 use Prim.Native.Nat.{ℕ}
 use lib.ListN.{length, drop}
 use Rattle.laws.specs.Judge.{Rooms, Outcome, Outcome.refused, Outcome.accepted}
-use Rattle.laws.specs.Judgement.{answerBytes, revokeBytes, failuresBytes}
+use Rattle.laws.specs.Judgement.{answerBytes, revokeBytes, failuresBytes, winnersBytes}
 
--- the lengths of three buffers
-abbrev pub roomsOf : List ℕ → List ℕ → List ℕ → Rooms
-roomsOf answer list failures = record { answer = length answer; list = length list; failures = length failures }
+-- the lengths of four buffers
+abbrev pub roomsOf : List ℕ → List ℕ → List ℕ → List ℕ → Rooms
+roomsOf answer list failures winners =
+    record { answer = length answer; list = length list; failures = length failures; winners = length winners }
 
 infixr 5 _over_
 -- bytes over the front of a buffer; the buffer's bytes behind them stay
@@ -29,3 +30,8 @@ listLeft (accepted p) old = revokeBytes p over old
 unfoldable pub failuresLeft : Outcome → List ℕ → List ℕ
 failuresLeft (refused n place) old = old
 failuresLeft (accepted p) old = failuresBytes p over old
+
+-- the winners' buffer: as it was where the judge refuses, else two bytes for each complete trick over its front
+unfoldable pub winnersLeft : Outcome → List ℕ → List ℕ
+winnersLeft (refused n place) old = old
+winnersLeft (accepted p) old = winnersBytes p over old

@@ -36,6 +36,7 @@ pub mod Lawful
 pub mod Lengths
 pub mod BestPlay
 pub mod Lines
+pub mod LastCard
 pub mod Tally
 pub mod Decimal
 pub mod Sheet

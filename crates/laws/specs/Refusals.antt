@@ -4,12 +4,12 @@ use Prim.Native.Nat.{ℕ, _+_, _*_}
 use mathlib.Core.Bool.{Bool, _&&_, _||_}
 use lib.Dec.{leb, eqb}
 
--- what is answered to a question: a refusal by its number, or a value
+-- what is answered to a question whose refusals have no place: a refusal by its number, or a value
 pub data Answer (A : Type 0) : Type 0 where
   refused : ℕ → Answer A
   answered : A → Answer A
 
--- what is answered to a question about a tally: a refusal by its number and its place, or a value
+-- what is answered to a question: a refusal by its number and its place, or a value
 pub data Placed (A : Type 0) : Type 0 where
   refusedAt : ℕ → ℕ → Placed A
   given : A → Placed A
@@ -154,6 +154,14 @@ tooManyCalls = 33
 -- the numbers that a record is refused with: 1 to 16 and 23 to 27
 abbrev pub refusesRecord : ℕ → Bool
 refusesRecord n = (leb 1 n && leb n 16) || (leb 23 n && leb n 27)
+
+-- those up to the last card: 2 to 12 and 23 to 27
+abbrev pub refusesToLastCard : ℕ → Bool
+refusesToLastCard n = (leb 2 n && leb n 12) || (leb 23 n && leb n 27)
+
+-- those behind it: 2 and 13 to 16
+abbrev pub refusesBehind : ℕ → Bool
+refusesBehind n = eqb n recordEnds || (leb 13 n && leb n 16)
 
 -- the numbers that contents are refused with when a record is written from them: 3 to 15, 22 to 27, and 33
 abbrev pub refusesContents : ℕ → Bool

@@ -20,7 +20,8 @@ use Rattle.play.specs.Told.{entriesIn, revokeByte, cardBefore, byteAfter
 use Rattle.play.specs.History.{entriesOf, byteOf}
 use Rattle.play.proofs.Cards.{in-trick-more, in-trick-last, trick-more, trick-size}
 use Rattle.play.proofs.UnderWay.{led-on, none-under-way}
-use Rattle.play.proofs.Stands.{Stands, lead-test, entries-low}
+use Rattle.play.proofs.Bounds.{entries-low}
+use Rattle.play.proofs.Stands.{Stands, lead-test}
 
 -- the entries of the complete tricks, and one for the trick under way where there is one
 unfoldable pub allEntries : ℕ → ℕ → List ℕ → ℕ
@@ -190,11 +191,11 @@ lead-byte-is trump opening full most k c g e z =
     (by-entries trump opening g here (suitOf c) (s .alike .suit ∙ lead-suit trump opening c g z)
     (s .alike .before ∙ leads-on trump opening c g z ∙ between trump opening g z))
 
-few-entries : (deal : List ℕ) (trump opening : ℕ) (all : length deal ≡ 52) (g : List ℕ) → cardsPlayed g ≤ 52 → entriesOf trump opening g < 2 ^ 60
+few-entries : (trump opening : ℕ) (g : List ℕ) → cardsPlayed g ≤ 52 → entriesOf trump opening g < 2 ^ 60
 unfolding tricksComplete
-few-entries deal trump opening all g most =
+few-entries trump opening g most =
     let few : suc (tricksComplete g) ≤ 14 = omega arith in
-    omega (arith, entries-low deal trump opening all g, pow-le-pow-right {n = 16} (omega arith) few)
+    omega (arith, entries-low trump opening g, pow-le-pow-right {n = 16} (omega arith) few)
 
 pub all-entries : (deal : List ℕ) (trump opening : ℕ) (all : length deal ≡ 52) {p : Play} {g : List ℕ} → Stands deal trump opening all p g → cardsPlayed g ≤ 52
     → entriesIn p ≡ allEntries trump opening g
@@ -202,7 +203,7 @@ unfolding entriesIn allEntries withEntry
 all-entries deal trump opening all {p} {g} s most =
     rw (lead-test deal trump opening all s, s .tricks) (by-test (eqb (cardsInTrick g) 0)
     (λ (q : eqb (cardsInTrick g) 0 ≡ true). rw q)
-    (λ (q : eqb (cardsInTrick g) 0 ≡ false). rw (q, s .led (eqb-false (cardsInTrick g) 0 q), mod-eq-of-lt (few-entries deal trump opening all g most))
+    (λ (q : eqb (cardsInTrick g) 0 ≡ false). rw (q, s .led (eqb-false (cardsInTrick g) 0 q), mod-eq-of-lt (few-entries trump opening g most))
     (omega arith)))
 
 -- what is left of a history without its k latest cards

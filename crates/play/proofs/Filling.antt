@@ -1,15 +1,15 @@
--- The loops that read a position's words from the lowest entry on: the winners filled in from the last trick, the revokes from the last card.
+-- The loops that read a position's words from the lowest entry on: the tricks' answers filled in from the last trick, the revokes from the last card.
 -- What is still to be filled in, and what is filled in, are together the whole. Assumes nothing.
-use Prim.Native.Nat.{ℕ, zero, suc, _≤_, _<_, _+_, _-_, _/_, _%_, _^_}
+use Prim.Native.Nat.{ℕ, zero, suc, _≤_, _<_, _+_, _-_, _*_, _/_, _%_, _^_}
 use mathlib.Core.Path.{_≡_, refl, sym, ap, _∙_}
 use mathlib.Core.Bool.{true, false}
-use mathlib.Core.List.{List, [], _∷_, _++_, append-nil, append-assoc}
+use mathlib.Core.List.{List, [], _∷_, _++_, map-append, append-nil, append-assoc}
 use native.Mathlib.Nat.{pow-suc, div-one}
 use native.Mathlib.Omega.{arith}
 use borrow.Author.Tests.{eqb-true, eqb-false, eq-eqb, ne-eqb}
 use lib.Count.{ones, onesIn, ones-step, trailingZeros}
 use lib.Dec.{eqb}
-use lib.ListN.{length, set, drop, replicate, length-append, length-replicate, length-set}
+use lib.ListN.{length, set, drop, replicate, length-append, length-map, length-replicate, length-set}
 use lib.Pow.{shr-shr}
 use lib.Seq.{getD-set-same, drop-set-lt, drop-cons}
 use Rattle.laws.specs.Choice.{if_then_else_, howMany}
@@ -19,7 +19,8 @@ use Rattle.laws.specs.Law44.{tricksWon}
 use Rattle.laws.proofs.Tests.{by-test}
 use Rattle.laws.proofs.Counts.{many-append}
 use Rattle.play.specs.declared.Tricks.{Tricks}
-use Rattle.play.specs.Told.{winnersIn, tricksOf, bytesIn}
+use Rattle.play.specs.declared.Won.{Won}
+use Rattle.play.specs.Told.{answersIn, noTrick, seatsOf, tricksOf, bytesIn}
 
 -- ---- arrays filled from the end
 pub padded-rest : {A : Type 0} (z : A) (n : ℕ) (l : List A) → length l ≤ n → l ++ drop (length l) (replicate n z) ≡ padded z n l
@@ -37,11 +38,12 @@ drop-set l i x h =
 fill-one : {A : Type 0} (before : List A) (x : A) (l : List A) (i : ℕ) → i < length l → (before ++ (x ∷ [])) ++ drop (suc i) l ≡ before ++ drop i (set l i x)
 fill-one before x l i h = append-assoc before (x ∷ []) (drop (suc i) l) ∙ ap (λ (m : List _). before ++ m) (sym (drop-set l i x h))
 
--- ---- the winners
-pub winners-many : (n entries : ℕ) → length (winnersIn n entries) ≡ n
-unfolding winnersIn
-winners-many zero entries = refl
-winners-many (suc n) entries = length-append (winnersIn n (entries / 16)) _ ∙ omega (arith, winners-many n (entries / 16))
+-- ---- the answers
+pub answers-many : (n entries low high : ℕ) → length (answersIn n entries low high) ≡ n
+unfolding answersIn
+answers-many zero entries low high = refl
+answers-many (suc n) entries low high =
+    length-append (answersIn n (entries / 16) (low / 16) (high / 16)) _ ∙ omega (arith, answers-many n (entries / 16) (low / 16) (high / 16))
 
 -- a side's tricks with one more winner
 pub won-more : (side seat : ℕ) (ws : List ℕ) → tricksWon side (ws ++ (seat ∷ [])) ≡ tricksWon side ws + (if eqb (sideOf seat) side then 1 else 0)
@@ -64,62 +66,70 @@ odd n =
     (λ (q : eqb (sideOf n) 1 ≡ true). rw q (sym (eqb-true (sideOf n) 1 q)))
     (λ (q : eqb (sideOf n) 1 ≡ false). rw q (omega (arith, eqb-false (sideOf n) 1 q)))
 
--- i winners are still to be filled in, by the entries `rest`
-pub record Filled (count entries : ℕ) (winners : List ℕ) (rest east i : ℕ) : Type 0 where
-  pub few : i ≤ count
-  pub most : count ≤ 13
-  pub places : length winners ≡ 13
-  pub same : winnersIn i rest ++ drop i winners ≡ padded 0 13 (winnersIn count entries)
-  pub sides : east + tricksWon 1 (winnersIn i rest) ≡ tricksWon 1 (winnersIn count entries)
-  pub small : east + i ≤ count
+-- the winners with one answer more
+seats-more : (ws : List Won) (w : Won) → seatsOf (ws ++ (w ∷ [])) ≡ seatsOf ws ++ (w .seat ∷ [])
+seats-more ws w = map-append _ ws (w ∷ [])
 
-pub fill-begins : {count entries : ℕ} → count ≤ 13 → Filled count entries (replicate 13 0) entries 0 count
-fill-begins {count} {entries} h =
-    let n = winners-many count entries in
+-- i answers are still to be filled in, by the entries `rest` and the words `low` and `high`; `whole` are all of them
+pub record Filled (whole answers : List Won) (rest low high east i : ℕ) : Type 0 where
+  pub few : i ≤ length whole
+  pub most : length whole ≤ 13
+  pub places : length answers ≡ 13
+  pub same : answersIn i rest low high ++ drop i answers ≡ padded noTrick 13 whole
+  pub sides : east + tricksWon 1 (seatsOf (answersIn i rest low high)) ≡ tricksWon 1 (seatsOf whole)
+  pub small : east + i ≤ length whole
+
+pub fill-begins : {count entries low high : ℕ} → count ≤ 13
+    → Filled (answersIn count entries low high) (replicate 13 noTrick) entries low high 0 count
+fill-begins {count} {entries} {low} {high} h =
+    let whole = answersIn count entries low high in
+    let n = answers-many count entries low high in
     record {
       few = omega arith;
-      most = h;
+      most = omega arith;
       places = refl;
-      same = rw n at (padded-rest 0 13 (winnersIn count entries) (omega arith));
+      same = rw n at (padded-rest noTrick 13 whole (omega arith));
       sides = omega arith;
       small = omega arith;
     }
 
-fill-one-more : {count entries : ℕ} {winners : List ℕ} {rest east by : ℕ} (i : ℕ) → Filled count entries winners rest east (suc i) → by ≡ rest / 4 % 4
-    → Filled count entries (set winners i by) (rest / 16) (east + by % 2) i
-unfolding winnersIn
-fill-one-more {count} {entries} {winners} {rest} {east} {by} i r e =
-    let before = winnersIn i (rest / 16) in
-    let whole : (before ++ (by ∷ [])) ++ drop (suc i) winners ≡ padded 0 13 (winnersIn count entries) = rw e (r .same) in
-    let sides : east + tricksWon 1 (before ++ (by ∷ [])) ≡ tricksWon 1 (winnersIn count entries) = rw e (r .sides) in
-    let more = won-more 1 by before in
-    let last = odd by in
+fill-one-more : {whole answers : List Won} {rest low high east : ℕ} {w : Won} (i : ℕ) → Filled whole answers rest low high east (suc i)
+    → w ≡ record { seat = rest / 4 % 4; card = high % 16 * 16 + low % 16 }
+    → Filled whole (set answers i w) (rest / 16) (low / 16) (high / 16) (east + w .seat % 2) i
+unfolding answersIn
+fill-one-more {whole} {answers} {rest} {low} {high} {east} {w} i r e =
+    let before = answersIn i (rest / 16) (low / 16) (high / 16) in
+    let all : (before ++ (w ∷ [])) ++ drop (suc i) answers ≡ padded noTrick 13 whole = rw e (r .same) in
+    let sides : east + tricksWon 1 (seatsOf (before ++ (w ∷ []))) ≡ tricksWon 1 (seatsOf whole) = rw e (r .sides) in
+    let more = ap (tricksWon 1) (seats-more before w) ∙ won-more 1 (w .seat) (seatsOf before) in
+    let last = odd (w .seat) in
     record {
       few = omega (arith, r .few);
       most = r .most;
-      places = length-set winners i by ∙ r .places;
-      same = sym (fill-one before by winners i (omega (arith, r .few, r .most, r .places))) ∙ whole;
+      places = length-set answers i w ∙ r .places;
+      same = sym (fill-one before w answers i (omega (arith, r .few, r .most, r .places))) ∙ all;
       sides = omega (arith, sides, more, last);
       small = omega (arith, r .small);
     }
 
-pub fill-goes : {count entries : ℕ} {winners : List ℕ} {rest east i by : ℕ} → Filled count entries winners rest east i → 0 < i → by ≡ rest / 4 % 4
-    → Filled count entries (set winners (i - 1) by) (rest / 16) (east + by % 2) (i - 1)
-fill-goes {count} {entries} {winners} {rest} {east} {i} {by} r h e =
+pub fill-goes : {whole answers : List Won} {rest low high east i : ℕ} {w : Won} → Filled whole answers rest low high east i → 0 < i
+    → w ≡ record { seat = rest / 4 % 4; card = high % 16 * 16 + low % 16 }
+    → Filled whole (set answers (i - 1) w) (rest / 16) (low / 16) (high / 16) (east + w .seat % 2) (i - 1)
+fill-goes {i = i} r h e =
     let back : i ≡ suc (i - 1) = omega arith in
     fill-one-more (i - 1) (rw back at r) e
 
-pub fill-ends : {count entries : ℕ} {winners : List ℕ} {rest east i : ℕ} → Filled count entries winners rest east i → i ≤ 0
-    → _≡_ {A = Tricks} (record { count = count; won = (count - east) ∷ east ∷ []; winners = winners }) (tricksOf (winnersIn count entries))
-unfolding winnersIn tricksWon howMany
-fill-ends {count} {entries} {winners} {rest} {east} {i} r h =
-    let ws = winnersIn count entries in
+pub fill-ends : {whole answers : List Won} {count rest low high east i : ℕ} → length whole ≡ count → Filled whole answers rest low high east i → i ≤ 0
+    → _≡_ {A = Tricks} (record { count = count; won = (count - east) ∷ east ∷ []; answers = answers }) (tricksOf whole)
+unfolding answersIn tricksWon howMany
+fill-ends {whole} {answers} {count} {rest} {low} {high} {east} {i} all r h =
+    let ws = seatsOf whole in
     let none : i ≡ 0 = omega arith in
-    let many = winners-many count entries in
+    let many = length-map whole (λ (w : Won). w .seat) in
     let none-left = rw none at r in
     let odd : tricksWon 1 ws ≡ east = omega (arith, none-left .sides) in
     let even : tricksWon 0 ws ≡ count - east = omega (arith, sides-share ws, many, odd) in
-    rw (even, odd, many, ← none-left .same)
+    rw (even, odd, all, ← none-left .same)
 
 -- ---- the revokes
 -- as many revokes as bits are set

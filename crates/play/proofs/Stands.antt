@@ -1,5 +1,5 @@
 -- The position that the code keeps is the Laws' after every history that the verdicts allow: each field, a card at a time. Assumes nothing.
-use Prim.Native.Nat.{ℕ, zero, suc, _≤_, _<_, _%_, _^_, max}
+use Prim.Native.Nat.{ℕ, zero, suc, _≤_, _<_, _/_, _%_, _^_, max}
 use mathlib.Core.Path.{_≡_, refl, sym, _∙_}
 use mathlib.Core.Bool.{true, false, not, _&&_}
 use mathlib.Core.List.{List, [], _∷_}
@@ -12,7 +12,7 @@ use lib.ListN.{length, getD, take}
 use lib.Pow.{pow-mono}
 use Rattle.laws.specs.Choice.{some}
 use Rattle.laws.specs.Cards.{suitOf, clockwise, dealtTo, noSeat}
-use Rattle.laws.specs.Law44.{cardsPlayed, tricksComplete, cardsInTrick, trickUnderWay, suitLed, leader, toPlay, isPlayed, holds}
+use Rattle.laws.specs.Law44.{cardsPlayed, tricksComplete, cardsInTrick, trickUnderWay, suitLed, winningCard, leader, toPlay, isPlayed, holds}
 use Rattle.laws.specs.Law61.{holdsSuit, isRevoke}
 use Rattle.laws.proofs.Tests.{by-test, not-both}
 use Rattle.laws.proofs.Counts.{any-default}
@@ -20,16 +20,19 @@ use Rattle.deal.specs.Hands.{wordOf, wordsOf}
 use Rattle.deal.proofs.Built.{at-seat}
 use Rattle.deal.proofs.Held.{has-holds}
 use Rattle.play.specs.declared.Play.{Play}
-use Rattle.play.specs.Words.{bitOf, withBit, withEntry}
+use Rattle.play.specs.Words.{bitOf, withBit, withFour, withEntry}
 use Rattle.play.specs.Position.{putPlayed, startOf, turnOf, handOf, couldFollow, leads, worthOf, revokesWith, withLead, withCard, withTrick, step}
-use Rattle.play.specs.History.{positionOf, AllPlayed, holdersOf, bestWorth, entriesOf, revokedOf}
-use Rattle.play.proofs.Cards.{fair, trick-more, trick-last, trick-size, in-trick-more, in-trick-last, tricks-same, tricks-more}
+use Rattle.play.specs.History.{positionOf, AllPlayed, holdersOf, bestWorth, entriesOf, foursOf, lowOf, highOf, revokedOf}
+use Rattle.play.proofs.Cards.{fair, trick-more, trick-last, trick-size, in-trick-more, in-trick-last}
 use Rattle.play.proofs.Cards.{leader-same, not-in-trick}
 use Rattle.play.proofs.Masks.{wordBy, word-same, word-and, word-without, word-places}
 use Rattle.play.proofs.Holders.{turn-seat, holders-52, holds-law, stood, suit-law}
 use Rattle.play.proofs.Thirteen.{at-most-52}
+use Rattle.play.proofs.Winning.{winning-played}
 use Rattle.play.proofs.Worth.{winner-low, best-more}
-use Rattle.play.proofs.UnderWay.{led-on, none-under-way, four-over, bit-low, neither, in-play, few-tricks, best-seat, won-by, in-trick-test, one-more}
+use Rattle.play.proofs.UnderWay.{led-on, none-under-way, four-over, bit-low, neither, in-play, few-tricks, best-seat, best-card, won-by}
+use Rattle.play.proofs.UnderWay.{in-trick-test, one-more}
+use Rattle.play.proofs.Bounds.{entries-low, fours-low}
 
 module _ (deal : List ℕ) (trump opening : ℕ) (all : length deal ≡ 52) where
   -- the fields of a position are what the Laws say after the cards
@@ -43,10 +46,12 @@ module _ (deal : List ℕ) (trump opening : ℕ) (all : length deal ≡ 52) wher
     pub led : (cardsInTrick g ≡ 0 → ⊥) → p .led ≡ suitLed (trickUnderWay g)
     pub best : p .best ≡ bestWorth trump (leader trump opening g) (trickUnderWay g)
     pub tricks : p .tricks ≡ entriesOf trump opening g
+    pub low : p .low ≡ foursOf (lowOf trump) g
+    pub high : p .high ≡ foursOf (highOf trump) g
     pub revoked : p .revoked ≡ revokedOf deal trump opening g
 
   starts : Stands (startOf deal (wordsOf deal) trump opening) []
-  unfolding startOf holdersOf isPlayed some cardsPlayed leader bestWorth trickUnderWay cardsInTrick entriesOf revokedOf wordBy
+  unfolding startOf holdersOf isPlayed some cardsPlayed leader bestWorth trickUnderWay cardsInTrick entriesOf foursOf revokedOf wordBy
   starts = record {
     holders = refl;
     dealt = refl;
@@ -58,6 +63,8 @@ module _ (deal : List ℕ) (trump opening : ℕ) (all : length deal ≡ 52) wher
         (ne refl);
     best = refl;
     tricks = refl;
+    low = refl;
+    high = refl;
     revoked = refl;
   }
 
@@ -118,7 +125,7 @@ module _ (deal : List ℕ) (trump opening : ℕ) (all : length deal ≡ 52) wher
   under-way-low g w = led-low (cardsInTrick g) g w
 
   -- what was played is a card
-  played-low : (g : List ℕ) → AllPlayed deal trump opening g → (x : ℕ) → isPlayed g x ≡ true → x < 52
+  pub played-low : (g : List ℕ) → AllPlayed deal trump opening g → (x : ℕ) → isPlayed g x ≡ true → x < 52
   unfolding AllPlayed isPlayed some
   played-low [] w x e = not-both false e refl
   played-low (c ∷ g) w x e =
@@ -140,6 +147,8 @@ module _ (deal : List ℕ) (trump opening : ℕ) (all : length deal ≡ 52) wher
         led = λ ne. rw (lead-test s, ne-eqb (cardsInTrick g) 0 ne) (s .led ne);
         best = s .best;
         tricks = s .tricks;
+        low = s .low;
+        high = s .high;
         revoked = s .revoked;
       }
 
@@ -154,20 +163,7 @@ module _ (deal : List ℕ) (trump opening : ℕ) (all : length deal ≡ 52) wher
       let n = eqb-false (cardsInTrick g) 0 e in
       rw (e, led-on c (trickUnderWay g) (λ z. n (sym (trick-size g) ∙ z)), mod-eq-of-lt (under-way-low g w))))
 
-  -- ---- words that do not run over
-  pub entries-low : (g : List ℕ) → entriesOf trump opening g < 16 ^ suc (tricksComplete g)
-  unfolding entriesOf tricksComplete cardsPlayed
-  entries-low [] = omega arith
-  entries-low (c ∷ g) =
-      let before = entries-low g in
-      by-test (leb 3 (cardsInTrick g))
-      (λ (q : leb 3 (cardsInTrick g) ≡ true).
-      let k = leb-true 3 (cardsInTrick g) q in
-      rw (in-trick-last c g k, tricks-more c g k, pow-suc) (omega arith))
-      (λ (q : leb 3 (cardsInTrick g) ≡ false).
-      let k = leb-false 3 (cardsInTrick g) q in
-      rw (in-trick-more c g k, ne-eqb (suc (cardsInTrick g)) 0 (λ e. omega arith), tricks-same c g k) before)
-
+  -- a bit for each card
   revoked-low : (g : List ℕ) → revokedOf deal trump opening g < 2 ^ cardsPlayed g
   unfolding revokedOf cardsPlayed
   revoked-low [] = omega arith
@@ -221,6 +217,8 @@ module _ (deal : List ℕ) (trump opening : ℕ) (all : length deal ≡ 52) wher
     led : r .led ≡ suitLed (c ∷ trickUnderWay g)
     best : r .best ≡ bestWorth trump (leader trump opening g) (c ∷ trickUnderWay g)
     tricks : r .tricks ≡ entriesOf trump opening g
+    low : r .low ≡ foursOf (lowOf trump) g
+    high : r .high ≡ foursOf (highOf trump) g
     revoked : r .revoked ≡ revokedOf deal trump opening (c ∷ g)
 
   on-table : {p : Play} {g : List ℕ} (c : ℕ) → Stands p g → AllPlayed deal trump opening (c ∷ g) → OnTable (withCard (withLead p c) c) c g
@@ -239,12 +237,24 @@ module _ (deal : List ℕ) (trump opening : ℕ) (all : length deal ≡ 52) wher
         led = led-is s c;
         best = on-best c g s w;
         tricks = q .tricks;
+        low = q .low;
+        high = q .high;
         revoked = on-revoked c g s (w .1) (at-most-52 deal trump opening all g (w .1));
       }
 
   -- ---- the trick counted
+  -- the card that wins is a card
+  pub winning-low : (c : ℕ) (g : List ℕ) → AllPlayed deal trump opening (c ∷ g) → winningCard trump (c ∷ trickUnderWay g) < 52
+  unfolding AllPlayed isPlayed some
+  winning-low c g w =
+      let x = winningCard trump (c ∷ trickUnderWay g) in
+      let in-trick = winning-played trump c (trickUnderWay g) in
+      by-test (eqb c x)
+      (λ (q : eqb c x ≡ true). omega (arith, eqb-true c x q, fair trump opening deal g c (w .0) .code))
+      (λ (q : eqb c x ≡ false). played-low g (w .1) x (in-play g x (rw q at in-trick)))
+
   incomplete : {r : Play} {c : ℕ} {g : List ℕ} → OnTable r c g → cardsInTrick g < 3 → Stands (withTrick r) (c ∷ g)
-  unfolding withTrick entriesOf
+  unfolding withTrick entriesOf foursOf
   incomplete {r} {c} {g} o k =
       let more = in-trick-more c g k in
       let goes : eqb (r .played % 4) 0 ≡ false = rw (o .played) (in-trick-test c g ∙ rw more (ne-eqb (suc (cardsInTrick g)) 0 (λ e. omega arith))) in
@@ -260,12 +270,15 @@ module _ (deal : List ℕ) (trump opening : ℕ) (all : length deal ≡ 52) wher
         led = λ ne. rw under (o .led);
         best = rw (goes, under, lead) (o .best);
         tricks = rw (goes, more, ne-eqb (suc (cardsInTrick g)) 0 (λ e. omega arith)) (o .tricks);
+        low = rw (goes, more, ne-eqb (suc (cardsInTrick g)) 0 (λ e. omega arith)) (o .low);
+        high = rw (goes, more, ne-eqb (suc (cardsInTrick g)) 0 (λ e. omega arith)) (o .high);
         revoked = o .revoked;
       }
 
-  complete : {r : Play} {c : ℕ} {g : List ℕ} → OnTable r c g → cardsPlayed (c ∷ g) ≤ 52 → 3 ≤ cardsInTrick g → Stands (withTrick r) (c ∷ g)
-  unfolding withTrick withEntry entriesOf bestWorth
-  complete {r} {c} {g} o most k =
+  complete : {r : Play} {c : ℕ} {g : List ℕ} → OnTable r c g → AllPlayed deal trump opening (c ∷ g) → 3 ≤ cardsInTrick g → Stands (withTrick r) (c ∷ g)
+  unfolding withTrick withEntry withFour entriesOf foursOf bestWorth
+  complete {r} {c} {g} o w k =
+      let most = at-most-52 deal trump opening all (c ∷ g) w in
       let last = in-trick-last c g k in
       let ends : eqb (r .played % 4) 0 ≡ true = rw (o .played) (in-trick-test c g ∙ rw last) in
       let under = trick-last c g k in
@@ -273,7 +286,11 @@ module _ (deal : List ℕ) (trump opening : ℕ) (all : length deal ≡ 52) wher
       (best-seat trump (leader trump opening g) c (trickUnderWay g) ∙ sym (won-by trump opening c g last)) in
       let low : leader trump opening (c ∷ g) < 4 = rw (won-by trump opening c g last) (winner-low trump (leader trump opening g) c (trickUnderWay g)) in
       let few : suc (tricksComplete g) ≤ 13 = few-tricks c g most in
-      let small : entriesOf trump opening g < 2 ^ 60 = omega (arith, entries-low g, pow-le-pow-right {n = 16} (omega arith) few) in
+      let small : entriesOf trump opening g < 2 ^ 60 = omega (arith, entries-low trump opening g, pow-le-pow-right {n = 16} (omega arith) few) in
+      let fours : (number : List ℕ → ℕ) → foursOf number g < 2 ^ 60 =
+      λ number. omega (arith, fours-low number g, pow-le-pow-right {n = 16} (omega arith) few, pow-suc 16 (tricksComplete g)) in
+      let card : r .best / 4 % 64 ≡ winningCard trump (c ∷ trickUnderWay g) = rw (o .best)
+      (best-card trump (leader trump opening g) c (trickUnderWay g) (winning-low c g w)) in
       record {
         holders = o .holders;
         dealt = o .dealt;
@@ -284,14 +301,16 @@ module _ (deal : List ℕ) (trump opening : ℕ) (all : length deal ≡ 52) wher
         led = λ ne. absurd (ne last);
         best = rw (ends, under);
         tricks = rw (ends, last, won, o .led, o .tricks, mod-eq-of-lt small);
+        low = rw (ends, last, card, o .low, mod-eq-of-lt (fours (lowOf trump)));
+        high = rw (ends, last, card, o .high, mod-eq-of-lt (fours (highOf trump)));
         revoked = o .revoked;
       }
 
-  counted : {r : Play} {c : ℕ} {g : List ℕ} → OnTable r c g → cardsPlayed (c ∷ g) ≤ 52 → Stands (withTrick r) (c ∷ g)
+  counted : {r : Play} {c : ℕ} {g : List ℕ} → OnTable r c g → AllPlayed deal trump opening (c ∷ g) → Stands (withTrick r) (c ∷ g)
   unfolding withTrick
-  counted {r} {c} {g} o most =
+  counted {r} {c} {g} o w =
       by-test (leb 3 (cardsInTrick g))
-      (λ (q : leb 3 (cardsInTrick g) ≡ true). complete o most (leb-true 3 (cardsInTrick g) q))
+      (λ (q : leb 3 (cardsInTrick g) ≡ true). complete o w (leb-true 3 (cardsInTrick g) q))
       (λ (q : leb 3 (cardsInTrick g) ≡ false). incomplete o (leb-false 3 (cardsInTrick g) q))
 
   pub stands : (g : List ℕ) → AllPlayed deal trump opening g → Stands (positionOf deal trump opening g) g
@@ -299,4 +318,4 @@ module _ (deal : List ℕ) (trump opening : ℕ) (all : length deal ≡ 52) wher
   stands [] w = starts
   stands (c ∷ g) w =
       let f = fair trump opening deal g c (w .0) in
-      rw (lt-leb 52 c (f .code)) (counted (on-table c (stands g (w .1)) w) (at-most-52 deal trump opening all (c ∷ g) w))
+      rw (lt-leb 52 c (f .code)) (counted (on-table c (stands g (w .1)) w) w)

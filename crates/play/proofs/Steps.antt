@@ -51,6 +51,8 @@ pub on-table : (p : Play) (card : ℕ) {worth revoke left bits best : ℕ} {hold
       led = p .led;
       best = best;
       tricks = p .tricks;
+      low = p .low;
+      high = p .high;
       revoked = bits;
     })
     (withCard p card)

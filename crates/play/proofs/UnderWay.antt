@@ -1,5 +1,5 @@
 -- The trick under way with one card more, and the numbers of a step. Assumes nothing.
-use Prim.Native.Nat.{ℕ, zero, suc, _≤_, _<_, _+_, _%_}
+use Prim.Native.Nat.{ℕ, zero, suc, _≤_, _<_, _+_, _/_, _%_}
 use mathlib.Core.Path.{_≡_, refl}
 use mathlib.Core.Bool.{Bool, true, false, not, _&&_, _||_}
 use mathlib.Core.List.{List, [], _∷_}
@@ -7,10 +7,12 @@ use native.Mathlib.Omega.{arith}
 use borrow.Author.Tests.{leb-true, leb-false}
 use lib.Bits.{bitOr}
 use lib.Dec.{eqb, leb}
-use Rattle.laws.specs.Law44.{cardsPlayed, tricksComplete, cardsInTrick, trickUnderWay, suitLed, winner, leader, isPlayed}
+use Rattle.laws.specs.Cards.{suitOf}
+use Rattle.laws.specs.Law44.{cardsPlayed, tricksComplete, cardsInTrick, trickUnderWay, suitLed, winningCard, winner, leader, wonBy, isPlayed}
 use Rattle.laws.proofs.Tests.{by-test, not-both}
+use Rattle.play.specs.declared.Won.{Won}
 use Rattle.play.specs.Words.{bitOf, worth}
-use Rattle.play.specs.History.{bestWorth}
+use Rattle.play.specs.History.{bestWorth, toldOf}
 use Rattle.play.proofs.Cards.{trick-more, in-trick-last}
 use Rattle.play.proofs.Cards.{not-in-trick}
 use Rattle.play.proofs.Worth.{winner-low}
@@ -63,6 +65,20 @@ few-tricks c g h = omega arith
 pub best-seat : (trump leader c : ℕ) (t : List ℕ) → bestWorth trump leader (c ∷ t) % 4 ≡ winner trump leader (c ∷ t)
 unfolding bestWorth worth
 best-seat trump leader c t = omega (arith, winner-low trump leader c t)
+
+-- the card stands above it
+pub best-card : (trump leader c : ℕ) (t : List ℕ) → winningCard trump (c ∷ t) < 52 → bestWorth trump leader (c ∷ t) / 4 % 64 ≡ winningCard trump (c ∷ t)
+unfolding bestWorth worth
+best-card trump leader c t h =
+    let w = winningCard trump (c ∷ t) in
+    let led = suitLed (c ∷ t) in
+    omega (arith, winner-low trump leader c t, bit-low (eqb (suitOf w) trump), bit-low (eqb (suitOf w) led))
+
+-- the answer by a trick's best worth is Law 44's
+pub best-answer : (trump leader c : ℕ) (t : List ℕ) (best : ℕ) → best ≡ bestWorth trump leader (c ∷ t) → winningCard trump (c ∷ t) < 52
+    → _≡_ {A = Won} (record { seat = best % 4; card = best / 4 % 64 }) (toldOf (wonBy trump leader (c ∷ t)))
+unfolding wonBy
+best-answer trump leader c t best e h = rw (e, best-seat trump leader c t, best-card trump leader c t h)
 
 pub won-by : (trump opening c : ℕ) (g : List ℕ) → cardsInTrick (c ∷ g) ≡ 0 → leader trump opening (c ∷ g)
     ≡ winner trump (leader trump opening g) (c ∷ trickUnderWay g)

@@ -1,19 +1,21 @@
 -- The position after a history of cards, latest first, and which histories the verdicts allow.
 -- `deal` has the holder of each card, `trump` is the contract's strain, `opening` leads to the first trick.
 -- Assumes nothing.
-use Prim.Native.Nat.{ℕ, _+_, _*_, _%_}
+use Prim.Native.Nat.{ℕ, _+_, _*_, _/_, _%_}
 use mathlib.Core.Path.{_≡_}
-use mathlib.Core.List.{List, [], _∷_}
+use mathlib.Core.List.{List, [], _∷_, map}
 use lib.Dec.{eqb}
 use lib.ListN.{set}
 use Rattle.laws.specs.Choice.{if_then_else_}
 use Rattle.laws.specs.Refusals.{accepted}
-use Rattle.laws.specs.Law44.{cardsInTrick, trickUnderWay, suitLed, winningCard, leader, winner, toPlay, winners}
+use Rattle.laws.specs.Law44 as Law
+use Rattle.laws.specs.Law44.{cardsInTrick, trickUnderWay, suitLed, winningCard, leader, winner, toPlay}
 use Rattle.laws.specs.Law61.{Revoke, isRevoke}
 use Rattle.laws.specs.CardRefusal.{cardRefusal}
 use Rattle.deal.specs.Hands.{wordsOf}
 use Rattle.play.specs.declared.Play.{Play}
 use Rattle.play.specs.declared.Tricks.{Tricks}
+use Rattle.play.specs.declared.Won.{Won}
 use Rattle.play.specs.Words.{bitOf, worth}
 use Rattle.play.specs.Position.{startOf, step}
 use Rattle.play.specs.Told as Told
@@ -46,6 +48,19 @@ entriesOf trump opening (c ∷ g) =
     if eqb (cardsInTrick (c ∷ g)) 0 then entriesOf trump opening g * 16 + leader trump opening (c ∷ g) % 4 * 4 + suitLed (c ∷ trickUnderWay g) % 4
     else entriesOf trump opening g
 
+-- four bits of each complete trick's number, the last lowest; `number` is asked of the trick's cards, latest first
+unfoldable pub foursOf : (List ℕ → ℕ) → List ℕ → ℕ
+foursOf number [] = 0
+foursOf number (c ∷ g) =
+    if eqb (cardsInTrick (c ∷ g)) 0 then foursOf number g * 16 + number (c ∷ trickUnderWay g) % 16 else foursOf number g
+
+-- the four lowest bits of the card that won, and the two above them
+abbrev pub lowOf : ℕ → List ℕ → ℕ
+lowOf trump t = winningCard trump t
+
+abbrev pub highOf : ℕ → List ℕ → ℕ
+highOf trump t = winningCard trump t / 16
+
 -- a bit for each card, the last lowest: 1 for a revoke
 unfoldable pub revokedOf : List ℕ → ℕ → ℕ → List ℕ → ℕ
 revokedOf deal trump opening [] = 0
@@ -60,6 +75,14 @@ unfoldable pub playsOf : ℕ → ℕ → ℕ → List ℕ → ℕ
 playsOf trump opening seat [] = 0
 playsOf trump opening seat (c ∷ g) = (if eqb (toPlay trump opening g) seat then 1 else 0) + playsOf trump opening seat g
 
--- the complete tricks as the Laws have them: how many, those of each side, and the winners in order
+-- a trick's answer as the code has it
+abbrev pub toldOf : Law.Won → Won
+toldOf w = record { seat = w .seat; card = w .card }
+
+-- and as the Laws have it
+abbrev pub lawOf : Won → Law.Won
+lawOf w = record { seat = w .seat; card = w .card }
+
+-- the complete tricks as the Laws have them: how many, those of each side, and their answers in order
 unfoldable pub tricksOf : ℕ → ℕ → List ℕ → Tricks
-tricksOf trump opening g = Told.tricksOf (winners trump opening g)
+tricksOf trump opening g = Told.tricksOf (map toldOf (Law.wonTricks trump opening g))

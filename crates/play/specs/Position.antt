@@ -11,9 +11,10 @@ use Rattle.laws.specs.Cards.{suitOf, clockwise, dealtTo}
 use Rattle.laws.specs.Refusals.{accepted, noCard, cardNotHeld, cardAlreadyPlayed}
 use Rattle.deal.specs.Hands.{hasSuit}
 use Rattle.play.specs.declared.Play.{Play}
+use Rattle.play.specs.declared.Won.{Won}
 use Rattle.play.specs.declared.CardVerdict.{CardVerdict}
 use Rattle.play.specs.declared.CardVerdict.the-variants.{Playable, NoCard, NotHeld, AlreadyPlayed}
-use Rattle.play.specs.Words.{bitOf, worth, withBit, withEntry}
+use Rattle.play.specs.Words.{bitOf, worth, withBit, withFour, withEntry}
 
 -- the holders with one place changed: who held the card has played it, which the place shows as 4 more than the seat
 unfoldable pub putPlayed : List ℕ → ℕ → List ℕ
@@ -32,6 +33,8 @@ startOf holders dealt trump opening =
       led = 0;
       best = 0;
       tricks = opening % 4 * 4;
+      low = 0;
+      high = 0;
       revoked = 0;
     }
 
@@ -84,6 +87,8 @@ withLead p card =
       led = if leads p then suitOf card else p .led;
       best = p .best;
       tricks = p .tricks;
+      low = p .low;
+      high = p .high;
       revoked = p .revoked;
     }
 
@@ -108,10 +113,16 @@ withCard p card =
       led = p .led;
       best = max (p .best) (worthOf p card);
       tricks = p .tricks;
+      low = p .low;
+      high = p .high;
       revoked = withBit (p .revoked) (bitOf (revokesWith p card));
     }
 
--- the trick counted, where it is complete: its winner leads to the next
+-- the answer of a trick by its best worth
+abbrev pub wonIn : Play → Won
+wonIn p = record { seat = p .best % 4; card = p .best / 4 % 64 }
+
+-- the trick counted, where it is complete: its answer is kept, and its winner leads to the next
 unfoldable pub withTrick : Play → Play
 withTrick p =
     record {
@@ -120,10 +131,12 @@ withTrick p =
       left = p .left;
       trump = p .trump;
       played = p .played;
-      leader = if leads p then p .best % 4 else p .leader;
+      leader = if leads p then wonIn p .seat else p .leader;
       led = p .led;
       best = if leads p then 0 else p .best;
-      tricks = if leads p then withEntry (p .tricks) (p .best % 4) (p .led) else p .tricks;
+      tricks = if leads p then withEntry (p .tricks) (wonIn p .seat) (p .led) else p .tricks;
+      low = if leads p then withFour (p .low) (wonIn p .card) else p .low;
+      high = if leads p then withFour (p .high) (wonIn p .card / 16) else p .high;
       revoked = p .revoked;
     }
 

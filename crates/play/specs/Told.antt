@@ -1,7 +1,7 @@
 -- What a position tells at the end: the complete tricks, and the bytes of cards whose bit is set.
 -- Assumes nothing.
 use Prim.Native.Nat.{ℕ, zero, suc, _+_, _-_, _*_, _/_, _%_, _^_}
-use mathlib.Core.List.{List, [], _∷_, _++_}
+use mathlib.Core.List.{List, [], _∷_, _++_, map}
 use lib.Dec.{eqb, ltb}
 use lib.ListN.{length}
 use Rattle.laws.specs.Choice.{if_then_else_}
@@ -9,6 +9,7 @@ use Rattle.laws.specs.Padded.{padded}
 use Rattle.laws.specs.Law44.{tricksWon}
 use Rattle.play.specs.declared.Play.{Play}
 use Rattle.play.specs.declared.Tricks.{Tricks}
+use Rattle.play.specs.declared.Won.{Won}
 use Rattle.play.specs.Words.{withEntry}
 use Rattle.play.specs.Position.{leads}
 
@@ -16,18 +17,27 @@ use Rattle.play.specs.Position.{leads}
 unfoldable pub completeIn : Play → ℕ
 completeIn p = if ltb (p .played) 52 then p .played / 4 else 13
 
--- the winners of n tricks, in the tricks' order, by their entries
-unfoldable pub winnersIn : ℕ → ℕ → List ℕ
-winnersIn zero entries = []
-winnersIn (suc n) entries = winnersIn n (entries / 16) ++ (entries / 4 % 4 ∷ [])
+-- the answers of n tricks, in the tricks' order, by their entries and the words of the cards that won
+unfoldable pub answersIn : ℕ → ℕ → ℕ → ℕ → List Won
+answersIn zero entries low high = []
+answersIn (suc n) entries low high =
+    answersIn n (entries / 16) (low / 16) (high / 16) ++ (record { seat = entries / 4 % 4; card = high % 16 * 16 + low % 16 } ∷ [])
 
--- tricks with these winners: how many, those of each side, and the winners in thirteen places
-abbrev pub tricksOf : List ℕ → Tricks
-tricksOf ws = record { count = length ws; won = tricksWon 0 ws ∷ tricksWon 1 ws ∷ []; winners = padded 0 13 ws }
+-- what stands at a place without a trick
+abbrev pub noTrick : Won
+noTrick = record { seat = 0; card = 0 }
+
+-- the winners of tricks with these answers
+abbrev pub seatsOf : List Won → List ℕ
+seatsOf ws = map (λ (w : Won). w .seat) ws
+
+-- tricks with these answers: how many, those of each side, and the answers in thirteen places
+abbrev pub tricksOf : List Won → Tricks
+tricksOf ws = record { count = length ws; won = tricksWon 0 (seatsOf ws) ∷ tricksWon 1 (seatsOf ws) ∷ []; answers = padded noTrick 13 ws }
 
 -- the complete tricks
 unfoldable pub tricksIn : Play → Tricks
-tricksIn p = tricksOf (winnersIn (completeIn p) (p .tricks))
+tricksIn p = tricksOf (answersIn (completeIn p) (p .tricks) (p .low) (p .high))
 
 -- the entries of the tricks, with one for the trick under way where there is one
 unfoldable pub entriesIn : Play → ℕ

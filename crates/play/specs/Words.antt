@@ -1,4 +1,4 @@
--- Words that grow at the low end: a bit more, or an entry of four bits more.
+-- Words that grow at the low end: a bit more, or four.
 -- Assumes nothing.
 use Prim.Native.Nat.{ℕ, _+_, _*_, _%_, _^_}
 use mathlib.Core.Bool.{Bool}
@@ -17,6 +17,10 @@ worth trump led card seat = bitOf (eqb (suitOf card) trump) * 512 + bitOf (eqb (
 -- one bit more, lowest; 64 bits stay
 unfoldable pub withBit : ℕ → ℕ → ℕ
 withBit word bit = word % 2 ^ 63 * 2 + bit % 2
+
+-- four bits more, lowest; 64 bits stay
+unfoldable pub withFour : ℕ → ℕ → ℕ
+withFour word bits = word % 2 ^ 60 * 16 + bits % 16
 
 -- one trick more, lowest: its winner 2 bits, and the suit led 2; 64 bits stay
 unfoldable pub withEntry : ℕ → ℕ → ℕ → ℕ

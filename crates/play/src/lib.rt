@@ -14,12 +14,15 @@ use crate::words::choose;
 use crate::words::entered;
 use crate::words::greater;
 pub use crate::words::with_bit;
+use crate::words::with_four;
 use laws::ACCEPTED;
 use laws::CARD_ALREADY_PLAYED;
 use laws::CARD_NOT_HELD;
 use laws::NO_CARD;
 ghost use mathlib.Core.Path.{_≡_};
-ghost use Prim.Native.Nat.{_<_};
+ghost use mathlib.Core.List.{List, _∷_};
+ghost use Prim.Native.Nat.{ℕ, _<_};
+ghost use Rattle.laws.specs.Law44.{winningCard, wonBy};
 ghost use Rattle.play.specs.Words.{bitOf};
 ghost use Rattle.play.specs.Position.{
   putPlayed,
@@ -30,6 +33,7 @@ ghost use Rattle.play.specs.Position.{
   wasDealt,
   worthOf,
   revokesWith,
+  wonIn,
   verdictOf,
   verdictNumber,
   withLead,
@@ -37,6 +41,7 @@ ghost use Rattle.play.specs.Position.{
   withTrick,
   step,
 };
+ghost use Rattle.play.specs.History.{bestWorth, toldOf};
 
 // What the code keeps of the play. A word of entries has the last entry lowest.
 pub struct Play {
@@ -52,17 +57,26 @@ pub struct Play {
     pub best: u64,
     // Four bits for each complete trick: its winner 2, and the suit led 2. Above them stands who led first.
     pub tricks: u64,
+    // Four bits for each complete trick, of the card that won: its lowest four, and its two above them.
+    pub low: u64,
+    pub high: u64,
     // A bit for each card played: 1 for a revoke.
     pub revoked: u64,
     // Who holds each card.
     pub holders: [u8; 52],
 }
 
-// The complete tricks: how many, those of each side, and their winners.
+// A trick's answer: the seat that won it, and the card that won.
+pub struct Won {
+    pub seat: u8,
+    pub card: u8,
+}
+
+// The complete tricks: how many, those of each side, and their answers.
 pub struct Tricks {
     pub count: u8,
     pub won: [u8; 2],
-    pub winners: [u8; 13],
+    pub answers: [Won; 13],
 }
 
 // What is said of a card before it is played.
@@ -116,6 +130,8 @@ impl Play {
             led: 0,
             best: 0,
             tricks: first * 4,
+            low: 0,
+            high: 0,
             revoked: 0,
         }
     }
@@ -223,14 +239,29 @@ impl Play {
         self
     }
 
-    // The position with the trick counted, where it is complete: its winner leads to the next.
+    // The answer of the trick under way, by its best worth: Law 44's of every trick that has this worth.
+    fn won(self) -> Won
+        ensures { λ r. ⌜ (r ≡ wonIn self) × ((trump leader card : ℕ) (trick : List ℕ) → self .best ≡ bestWorth trump leader (card ∷ trick)
+            → winningCard trump (card ∷ trick) < 52 → r ≡ toldOf (wonBy trump leader (card ∷ trick))) ⌝ }
+    {
+        Won {
+            seat: (self.best % 4) as u8,
+            card: (self.best / 4 % 64) as u8,
+        }
+    }
+
+    // The position with the trick counted, where it is complete: its answer is kept, and its winner leads to the next.
     fn with_trick(mut self) -> Self
         ensures { λ r. ⌜ r ≡ withTrick self ⌝ }
     {
         if self.played % 4 == 0 {
-            let winner = self.best % 4;
-            self.leader = winner;
-            self.tricks = entered(self.tricks, winner, self.led);
+            let won = self.won();
+            let seat = won.seat as u64;
+            let card = won.card as u64;
+            self.leader = seat;
+            self.tricks = entered(self.tricks, seat, self.led);
+            self.low = with_four(self.low, card);
+            self.high = with_four(self.high, card / 16);
             self.best = 0;
         }
         self

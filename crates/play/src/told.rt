@@ -1,6 +1,7 @@
-// What a position tells at the end: the complete tricks with their winners, and the byte of a revoke.
+// What a position tells at the end: the complete tricks with their answers, and the byte of a revoke.
 use crate::Play;
 use crate::Tricks;
+use crate::Won;
 use crate::words::entered;
 ghost use mathlib.Core.Path.{_≡_};
 ghost use Prim.Native.Nat.{_+_, _<_, _≤_, _*_, _^_};
@@ -29,22 +30,28 @@ impl Play {
         ensures { λ r. ⌜ r ≡ tricksIn self ⌝ }
     {
         let count = self.complete();
-        let mut winners = [0u8; 13];
+        let none = Won { seat: 0, card: 0 };
+        let mut answers = [none; 13];
         let mut rest = self.tricks;
+        let mut low = self.low;
+        let mut high = self.high;
         let mut east: u8 = 0;
         let mut i = count;
         while 0 < i {
             i -= 1;
-            let by = narrow(rest / 4 % 4);
+            let seat = narrow(rest / 4 % 4);
+            let card = narrow(high % 16 * 16 + low % 16);
             rest = rest / 16;
+            low = low / 16;
+            high = high / 16;
             let at = i as usize;
-            winners[at] = by;
-            east += by % 2;
+            answers[at] = Won { seat, card };
+            east += seat % 2;
         }
         Tricks {
             count,
             won: [count - east, east],
-            winners,
+            answers,
         }
     }
 

@@ -2,7 +2,7 @@
 ghost use mathlib.Core.Path.{_≡_};
 ghost use Prim.Native.Nat.{_+_, _*_, _%_, _^_, _<_, max};
 ghost use Rattle.laws.specs.Choice.{if_then_else_};
-ghost use Rattle.play.specs.Words.{bitOf, withBit, withEntry};
+ghost use Rattle.play.specs.Words.{bitOf, withBit, withFour, withEntry};
 
 // The card of each place.
 pub(crate) const CARDS: [u8; 52] = [
@@ -92,6 +92,13 @@ pub fn with_bit(word: u64, bit: u64) -> u64
     ensures { λ r. ⌜ r ≡ withBit word bit ⌝ }
 {
     word % 9223372036854775808 * 2 + bit % 2
+}
+
+// The word with four bits more, lowest.
+pub(crate) fn with_four(word: u64, bits: u64) -> u64
+    ensures { λ r. ⌜ r ≡ withFour word bits ⌝ }
+{
+    word % 1152921504606846976 * 16 + bits % 16
 }
 
 // The word with one trick more, lowest: its winner 2 bits, and the suit led 2.

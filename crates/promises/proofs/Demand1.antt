@@ -5,17 +5,17 @@ use mathlib.Core.Path.{_≡_, refl, sym, ap, _∙_}
 use mathlib.Core.List.{List, [], _∷_, _++_}
 use lib.ListN.{length, take, drop, length-append, length-drop, length-map}
 use Rattle.laws.specs.Record.{Parts}
-use Rattle.laws.specs.Reading.{Reading, Reading.refused as stopped, Reading.found}
-use Rattle.laws.specs.Judge.{Outcome, Outcome.refused, Outcome.accepted, outcome, readRecord, Rooms, numberOf}
-use Rattle.laws.specs.Judgement.{answerBytes, revokesOf, revokeByte, revokeBytes, failuresOf, failuresBytes}
+use Rattle.laws.specs.Reading.{Reading.found}
+use Rattle.laws.specs.Judge.{Outcome, Outcome.refused, Outcome.accepted, readRecord, Rooms, numberOf}
+use Rattle.laws.specs.Judgement.{answerBytes, revokesOf, revokeByte, revokeBytes, failuresOf, failuresBytes, winnersBytes}
 use Rattle.laws.specs.Failures.{failureBytes}
-use Rattle.laws.specs.Lent.{roomsOf, _over_, answerLeft, listLeft, failuresLeft}
+use Rattle.laws.specs.Lent.{roomsOf, _over_, answerLeft, listLeft, failuresLeft, winnersLeft}
 use Rattle.laws.proofs.Padded.{length-padded}
 use Rattle.laws.proofs.Accepts.{lent-is}
 use Rattle.laws.proofs.Numbered.{ruled}
-use Rattle.judge.proofs.Answering.{seven-long, few-revokes}
+use Rattle.judge.proofs.Answering.{seven-long, Few, few-found, winners-long}
 use Rattle.promises.specs.Demand1.{saidOf, Demand1}
-use Rattle.promises.proofs.Demand2Accepts.{either, lent-enough}
+use Rattle.promises.proofs.Demand2Accepts.{either, was-found, lent-enough}
 
 -- ---- bytes over the front of a buffer
 pub front-is : (front old : List ℕ) → take (length front) (front over old) ≡ front
@@ -46,43 +46,42 @@ pub failures-long : (p : Parts) → length (failuresBytes p) ≡ 52
 unfolding failuresBytes
 failures-long p = length-padded 0 52 (failureBytes (failuresOf p))
 
-module _ (bytes answer list failures : List ℕ) where
+module _ (bytes answer list failures winners : List ℕ) where
   abbrev rooms : Rooms
-  rooms = roomsOf answer list failures
+  rooms = roomsOf answer list failures winners
 
   abbrev said : Outcome
-  said = saidOf bytes answer list failures
+  said = saidOf bytes answer list failures winners
 
   -- ---- refused
-  untouched : (o : Outcome) → (numberOf o ≡ 0 → ⊥) → (answerLeft o answer ≡ answer) × (listLeft o list ≡ list) × (failuresLeft o failures ≡ failures)
-  unfolding answerLeft listLeft failuresLeft
-  untouched (refused n place) h = (refl, refl, refl)
+  untouched : (o : Outcome) → (numberOf o ≡ 0 → ⊥)
+      → (answerLeft o answer ≡ answer) × (listLeft o list ≡ list) × (failuresLeft o failures ≡ failures) × (winnersLeft o winners ≡ winners)
+  unfolding answerLeft listLeft failuresLeft winnersLeft
+  untouched (refused n place) h = (refl, refl, refl, refl)
   untouched (accepted p) h = absurd (h refl)
 
   -- ---- accepted
   pub was-read : (p : Parts) → said ≡ accepted p → (e : ℕ) × (readRecord bytes 0 ≡ found p e)
-  was-read p q = go (readRecord bytes 0) refl (sym (lent-is rooms (lent-enough bytes rooms p q) bytes) ∙ q)
-    where
-      go : (r : Reading Parts) → readRecord bytes 0 ≡ r → outcome r ≡ accepted p → (e : ℕ) × (readRecord bytes 0 ≡ found p e)
-      go (stopped n place) e o = let z : _≡_ {A = ℕ} 0 1 = cc in absurd (omega arith)
-      go (found a end) e o = let same : a ≡ p = cc in (end, e ∙ ap (λ (x : Parts). found x end) same)
+  was-read p q = was-found (readRecord bytes 0) (sym (lent-is rooms (lent-enough bytes rooms p q) bytes) ∙ q)
 
-  few : (p : Parts) → said ≡ accepted p → length (revokesOf p) ≤ 48
-  few p q = few-revokes bytes (was-read p q .1)
+  few : (p : Parts) → said ≡ accepted p → Few p
+  few p q = few-found bytes (was-read p q .1)
 
   lengths : (o : Outcome) → said ≡ o
       → (length (answerLeft o answer) ≡ length answer) × (length (listLeft o list) ≡ length list) × (length (failuresLeft o failures) ≡ length failures)
-  unfolding answerLeft listLeft failuresLeft
-  lengths (refused n place) q = (refl, refl, refl)
+      × (length (winnersLeft o winners) ≡ length winners)
+  unfolding answerLeft listLeft failuresLeft winnersLeft
+  lengths (refused n place) q = (refl, refl, refl, refl)
   lengths (accepted p) q =
       let lent = lent-enough bytes rooms p q in (
         length-over (answerBytes p) answer (omega (arith, seven-long p, lent .answer)),
-        length-over (revokeBytes p) list (omega (arith, revoke-bytes-long p, few p q, lent .list)),
+        length-over (revokeBytes p) list (omega (arith, revoke-bytes-long p, few p q .revokes, lent .list)),
         length-over (failuresBytes p) failures (omega (arith, failures-long p, lent .failures)),
+        length-over (winnersBytes p) winners (omega (arith, winners-long p, few p q .tricks, lent .winners)),
       )
 
-  pub demand-1 : Demand1 bytes answer list failures
-  unfolding answerLeft listLeft failuresLeft
+  pub demand-1 : Demand1 bytes answer list failures winners
+  unfolding answerLeft listLeft failuresLeft winnersLeft
   demand-1 =
       record {
         number = either said (ruled bytes rooms);
@@ -91,8 +90,11 @@ module _ (bytes answer list failures : List ℕ) where
         answer-behind = λ p q. rw q (rw (seven-long p) at (behind-is (answerBytes p) answer));
         list-front = λ p q. rw q (rw (revoke-bytes-long p) at (front-is (revokeBytes p) list));
         list-behind = λ p q. rw q (rw (revoke-bytes-long p) at (behind-is (revokeBytes p) list));
-        at-most-48 = few;
+        at-most-48 = λ p q. few p q .revokes;
         failures-front = λ p q. rw q (rw (failures-long p) at (front-is (failuresBytes p) failures));
         failures-behind = λ p q. rw q (rw (failures-long p) at (behind-is (failuresBytes p) failures));
+        winners-front = λ p q. rw q (rw (winners-long p) at (front-is (winnersBytes p) winners));
+        winners-behind = λ p q. rw q (rw (winners-long p) at (behind-is (winnersBytes p) winners));
+        at-most-13 = λ p q. few p q .tricks;
         same-lengths = lengths said refl;
       }

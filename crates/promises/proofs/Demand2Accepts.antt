@@ -4,19 +4,18 @@ use Prim.Native.Nat.{ℕ, _≤_, _<_}
 use native.Mathlib.Omega.{arith}
 use mathlib.Core.Path.{_≡_, refl, ap}
 use mathlib.Core.Logic.{_↔_, _⊎_, inl, inr}
-use mathlib.Core.Bool.{true, false}
 use mathlib.Core.List.{List}
-use borrow.Author.Tests.{le-ltb, lt-ltb, ltb-true, ltb-false}
+use borrow.Author.Tests.{le-ltb, lt-ltb, ltb-false}
 use lib.Dec.{ltb}
 use lib.ListN.{length}
 use Rattle.laws.specs.Bytes.{Bytes}
 use Rattle.laws.specs.Refusals.{shortBuffer}
 use Rattle.laws.specs.Record.{Parts, encode, packed}
-use Rattle.laws.specs.Judge.{Outcome, Outcome.refused, Outcome.accepted, readLent, Rooms, leastRooms, Enough, judgeOf, numberOf}
+use Rattle.laws.specs.Reading.{Reading, Reading.refused as stopped, Reading.found}
+use Rattle.laws.specs.Judge.{Outcome, Outcome.refused, Outcome.accepted, outcome, readLent, Rooms, leastRooms, Enough, judgeOf, numberOf}
 use Rattle.laws.specs.Lawful.{Lawful}
-use Rattle.laws.proofs.Tests.{by-test}
 use Rattle.laws.proofs.Bytes.{bytes-of}
-use Rattle.laws.proofs.Readings.{test-is, test-stops}
+use Rattle.laws.proofs.Readings.{first-test, test-is, test-stops}
 use Rattle.laws.proofs.CardRefusals.{already-played, anothers-card}
 use Rattle.laws.proofs.Accepts.{least-enough, accepts-parts, read-back, unique}
 use Rattle.laws.proofs.Numbered.{Ruled, ruled, not-0}
@@ -26,12 +25,17 @@ use Rattle.promises.proofs.Demand2Records.{judged}
 
 -- an outcome with the number 0 is accepted: no refusal has the number 0
 reached : (o : Outcome) → Ruled o → numberOf o ≡ 0 → (p : Parts) × (o ≡ accepted p)
-reached (refused n place) f z = absurd (not-0 f z)
+reached (refused n place) f z = absurd (not-0 refl f z)
 reached (accepted p) f z = (p, refl)
 
 pub either : (o : Outcome) → Ruled o → (numberOf o ≡ 0) ⊎ Refusal (numberOf o)
 either (refused n place) f = inr (record { refusal = n; place = place; is = refl; of-record = f .number; places = f .place-lt })
 either (accepted p) f = inl refl
+
+-- what is accepted was read to its end
+pub was-found : {p : Parts} (r : Reading Parts) → outcome r ≡ accepted p → (e : ℕ) × (r ≡ found p e)
+was-found (stopped n place) o = let z : _≡_ {A = ℕ} 0 1 = cc in absurd (omega arith)
+was-found {p} (found a end) o = let same : a ≡ p = cc in (end, ap (λ (x : Parts). found x end) same)
 
 module _ (bytes : List ℕ) (rooms : Rooms) where
   zero-accepts : (numberOf (judgeOf bytes rooms) ≡ 0) ↔ ((p : Parts) × (judgeOf bytes rooms ≡ accepted p))
@@ -49,27 +53,33 @@ module _ (bytes : List ℕ) (rooms : Rooms) where
   unfolding judgeOf readLent
   short-failures h k f = simp (le-ltb (rooms .answer) 7 h, le-ltb (rooms .list) 48 k, lt-ltb (rooms .failures) 52 f, test-is, test-stops)
 
-  -- two constructors of an outcome
-  pub never : {P : Type 0} {n place : ℕ} {p : Parts} → judgeOf bytes rooms ≡ refused n place → judgeOf bytes rooms ≡ accepted p → P
-  never e f = absurd (let z : _≡_ {A = ℕ} 0 1 = clash (judgeOf bytes rooms) e f in omega arith)
-    where
-      clash : {n place : ℕ} {p : Parts} (o : Outcome) → o ≡ refused n place → o ≡ accepted p → _≡_ {A = ℕ} 0 1
-      clash o e f = cc
+  short-winners : 7 ≤ rooms .answer → 48 ≤ rooms .list → 52 ≤ rooms .failures → rooms .winners < 26 → judgeOf bytes rooms ≡ refused shortBuffer 3
+  unfolding judgeOf readLent
+  short-winners h k f w =
+      simp (
+        le-ltb (rooms .answer) 7 h,
+        le-ltb (rooms .list) 48 k,
+        le-ltb (rooms .failures) 52 f,
+        lt-ltb (rooms .winners) 26 w,
+        test-is,
+        test-stops,
+      )
 
-  -- what is accepted was lent buffers of at least 7, 48 and 52 bytes
+  -- what is accepted was lent buffers of at least 7, 48, 52 and 26 bytes
   pub lent-enough : (p : Parts) → judgeOf bytes rooms ≡ accepted p → Enough rooms
+  unfolding judgeOf readLent
   lent-enough p q =
-      by-test (ltb (rooms .answer) 7)
-      (λ (a : ltb (rooms .answer) 7 ≡ true). never (short-answer (ltb-true (rooms .answer) 7 a)) q)
-      (λ (a : ltb (rooms .answer) 7 ≡ false).
-      let long : 7 ≤ rooms .answer = ltb-false (rooms .answer) 7 a in
-      by-test (ltb (rooms .list) 48)
-      (λ (b : ltb (rooms .list) 48 ≡ true). never (short-list long (ltb-true (rooms .list) 48 b)) q)
-      (λ (b : ltb (rooms .list) 48 ≡ false).
-      let list : 48 ≤ rooms .list = ltb-false (rooms .list) 48 b in
-      by-test (ltb (rooms .failures) 52)
-      (λ (f : ltb (rooms .failures) 52 ≡ true). never (short-failures long list (ltb-true (rooms .failures) 52 f)) q)
-      (λ (f : ltb (rooms .failures) 52 ≡ false). record { answer = long; list = list; failures = ltb-false (rooms .failures) 52 f })))
+      let r = was-found (readLent rooms bytes 0) q in
+      let a = first-test shortBuffer 0 (ltb (rooms .answer) 7) bytes 0 _ (r .1) in
+      let l = first-test shortBuffer 1 (ltb (rooms .list) 48) bytes 0 _ (a .1) in
+      let f = first-test shortBuffer 2 (ltb (rooms .failures) 52) bytes 0 _ (l .1) in
+      let w = first-test shortBuffer 3 (ltb (rooms .winners) 26) bytes 0 _ (f .1) in
+      record {
+        answer = ltb-false (rooms .answer) 7 (a .0);
+        list = ltb-false (rooms .list) 48 (l .0);
+        failures = ltb-false (rooms .failures) 52 (f .0);
+        winners = ltb-false (rooms .winners) 26 (w .0);
+      }
 
   -- what is accepted is the encoding of lawful parts
   pub accepted-lawful : Bytes bytes → (p : Parts) → judgeOf bytes rooms ≡ accepted p → Lawful p × (bytes ≡ encode p)
@@ -106,6 +116,7 @@ demand-2-accepts =
       short-answer = short-answer;
       short-list = short-list;
       short-failures = short-failures;
+      short-winners = short-winners;
       at-least-20 = λ bytes small rooms p q. accepted-20 bytes rooms small p q;
       passed-out = (by-judging passedOutParts (judged .passed-out), judged .no-contract, judged .bytes);
       one-byte-less = judged .one-less;

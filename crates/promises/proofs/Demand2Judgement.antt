@@ -15,13 +15,13 @@ use Rattle.laws.specs.Events.{Event, listPlays}
 use Rattle.laws.specs.LeadRevoke.{disobeys, allRevokes}
 use Rattle.laws.specs.Failures.{Failure, isFailure, failures}
 use Rattle.laws.specs.Judgement.{callsOf, contractOf, declarerOf, trumpOf, openingOf, playOf, wonOf, afterOf, revokesOf, failuresOf, scoreOf}
-use Rattle.laws.specs.Judgement.{twosComplement, playedFields, answerFields, answerBytes, revokeBytes, failuresBytes}
+use Rattle.laws.specs.Judgement.{twosComplement, playedFields, answerFields, answerBytes, revokeBytes, failuresBytes, winnersBytes}
 use Rattle.laws.specs.Lawful.{Lawful}
-use Rattle.laws.specs.Lent.{roomsOf, _over_, answerLeft, listLeft, failuresLeft}
+use Rattle.laws.specs.Lent.{roomsOf, _over_, answerLeft, listLeft, failuresLeft, winnersLeft}
 use Rattle.laws.proofs.Accepts as Accepts
 use Rattle.laws.proofs.Tests.{by-test}
 use Rattle.laws.proofs.Written.{Fit, read-back}
-use Rattle.judge.proofs.Answering.{answer-bits, seven-bytes, few-revokes}
+use Rattle.judge.proofs.Answering.{answer-bits, seven-bytes, Few, few-found}
 use Rattle.promises.proofs.Demand1.{was-read}
 use Rattle.judge.proofs.Widths.{won-le, after-le, declarer-lt, level-le, strain-le, doubled-le, valid, word-lt}
 use Rattle.laws.proofs.PlaysListed.{listed-exactly}
@@ -31,13 +31,14 @@ use Rattle.promises.specs.Demand1.{saidOf}
 use Rattle.promises.specs.Demand2Judgement.{PlayOf, Revokes, Fails, revokeEntry, failureEntry, RevokeOf, FailureOf}
 use Rattle.promises.specs.Demand2Judgement.{Demand2Judgement, ContractBits, AnswerBits, Demand2Bits}
 
-left : (p : Parts) (answer list failures : List ℕ) (o : Outcome) → o ≡ accepted p
+left : (p : Parts) (answer list failures winners : List ℕ) (o : Outcome) → o ≡ accepted p
     → (numberOf o ≡ 0)
     × (answerLeft o answer ≡ answerBytes p over answer)
     × (listLeft o list ≡ revokeBytes p over list)
     × (failuresLeft o failures ≡ failuresBytes p over failures)
-unfolding answerLeft listLeft failuresLeft
-left p answer list failures o q = rw q (refl, refl, refl, refl)
+    × (winnersLeft o winners ≡ winnersBytes p over winners)
+unfolding answerLeft listLeft failuresLeft winnersLeft
+left p answer list failures winners o q = rw q (refl, refl, refl, refl, refl)
 
 -- the list of the plays that pass a test has an entry exactly when it stands for a play of which that holds
 module _ {A : Type 0} (p : Parts) (test : List Event → ℕ → Bool) (entry : List Event → ℕ → A) (Is : List Event → ℕ → Type 0)
@@ -83,10 +84,11 @@ field-back p before f behind e fit =
     rw (seven-bytes p, e) (read-back before f behind 7 fit (ap bits (sym e) ∙ answer-bits p))
 
 module _ (p : Parts) (ok : Lawful p) where
-  few : length (revokesOf p) ≤ 48
+  pub few : Few p
   few =
-      few-revokes (encode p)
-      (was-read (encode p) (replicate 7 0) (replicate 48 0) (replicate 52 0) p (Accepts.read-back leastRooms Accepts.least-enough p ok) .1)
+      few-found (encode p)
+      (was-read (encode p) (replicate 7 0) (replicate 48 0) (replicate 52 0) (replicate 26 0) p
+      (Accepts.read-back leastRooms Accepts.least-enough p ok) .1)
 
   head-fit : (rest : List Field) → Fit rest → Fit (field 7 (p .board) ∷ field 9 (p .table) ∷ rest)
   unfolding Fit
@@ -118,7 +120,7 @@ module _ (p : Parts) (ok : Lawful p) where
     played-fit =
         let score : Fit (field 16 (twosComplement (scoreOf p)) ∷ []) = (word-lt (scoreOf p) (valid p ok bid), tt) in
         let tricks : Fit (field 4 (wonOf p) ∷ field 4 (afterOf p) ∷ field 6 (length (revokesOf p)) ∷ field 16 (twosComplement (scoreOf p)) ∷ [])
-        = (omega (arith, won-le p ok), (omega (arith, after-le p ok), (omega (arith, few), score))) in (
+        = (omega (arith, won-le p ok), (omega (arith, after-le p ok), (omega (arith, few .revokes), score))) in (
           omega (arith, level-le p ok bid .1),
           (omega (arith, strain-le p ok bid), (omega (arith, doubled-le p ok bid), (omega (arith, declarer-lt p ok bid), tricks))),
         )
@@ -188,8 +190,9 @@ demand-2-bits p ok = bits-of-answer p ok
 pub demand-2-judgement : Demand2Judgement
 demand-2-judgement =
     record {
-      answers = λ p ok answer list failures enough.
-          left p answer list failures (saidOf (encode p) answer list failures) (Accepts.read-back (roomsOf answer list failures) enough p ok);
+      answers = λ p ok answer list failures winners enough.
+          left p answer list failures winners (saidOf (encode p) answer list failures winners)
+          (Accepts.read-back (roomsOf answer list failures winners) enough p ok);
       revokes = revoked;
       failures = failed;
     }

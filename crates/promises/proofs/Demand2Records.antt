@@ -17,10 +17,14 @@ use Rattle.laws.specs.Record
 use Rattle.laws.specs.Reading
 use Rattle.laws.specs.Plays
 use Rattle.laws.specs.Judge
+use Rattle.laws.specs.Judgement
 use Rattle.laws.specs.Auction.{passedOut}
+use Rattle.laws.specs.Cards.{north, east}
 use Rattle.laws.specs.Record.{encode}
 use Rattle.laws.specs.Judge.{Outcome.accepted, leastRooms, judgeOf, numberOf}
+use Rattle.laws.specs.Judgement.{winnersBytes}
 use Rattle.promises.specs.Demand2.{fourPasses, passedOutParts, oneClub, fifthCard}
+use Rattle.promises.specs.Demand2Winners.{oneNotrump}
 
 -- what the judge says of the two records, of three that are one off, and of a fifth card that North does not hold
 pub record Judged : Type 0 where
@@ -35,6 +39,9 @@ pub record Judged : Type 0 where
   pub own-again : numberOf (judgeOf (encode (fifthCard 0)) leastRooms) ≡ 23 * 1024 + 4
   pub easts-again : numberOf (judgeOf (encode (fifthCard 13)) leastRooms) ≡ 12 * 1024 + 4
   pub easts : numberOf (judgeOf (encode (fifthCard 14)) leastRooms) ≡ 12 * 1024 + 4
+  pub notrump : judgeOf (encode oneNotrump) leastRooms ≡ accepted oneNotrump
+  pub trump-wins : winnersBytes (oneClub 12) ≡ north ∷ 0 ∷ []
+  pub suit-led-wins : winnersBytes oneNotrump ≡ east ∷ 13 ∷ []
 
 pub judged : Judged
 unfolding
@@ -46,13 +53,13 @@ unfolding
     CallRefusal.placeOf CallRefusal.callPlace
     Law44.cardsPlayed Law44.allPlayed Law44.tricksComplete Law44.tricksLeft Law44.cardsInTrick Law44.trickUnderWay
     Law44.suitLed Law44.highest Law44.winningCard Law44.playerOf Law44.winner Law44.leader Law44.toPlay
-    Law44.isPlayed Law44.holds Law44.hasPlayed Law44.playable CardRefusal.cardRefusal Law68.atClaimPoint Law68.claimable
+    Law44.wonBy Law44.wonTricks Law44.isPlayed Law44.holds Law44.hasPlayed Law44.playable CardRefusal.cardRefusal Law68.atClaimPoint Law68.claimable
     Events.cardsOf Events.cardsAmong Events.asEvents
     Record.row Record.eventFields Record.playFields Record.claimFields Record.layout
     Record.bits Record.padding Record.padded Record.number Record.bytesOf Record.packed Record.encode
     Reading.bitAt Reading.numberAt Reading.read Reading.refuse Reading.readRow Reading.readEach Reading.overfull Reading.ending Plays.readPlays
     Judge.readHeading Judge.readDeal Judge.readCalls Judge.readCards Judge.readNoClaim Judge.readMarkedClaim Judge.readClaim
-    Judge.readRecord Judge.readLent Judge.judgeOf
+    Judge.readRecord Judge.readLent Judge.judgeOf Judgement.wonTricksOf Judgement.wonBytes Judgement.winnersBytes
 judged =
     record {
       bytes = refl;
@@ -66,4 +73,7 @@ judged =
       own-again = refl;
       easts-again = refl;
       easts = refl;
+      notrump = refl;
+      trump-wins = refl;
+      suit-led-wins = refl;
     }

@@ -9,6 +9,7 @@ pub mod Demand2Judgement
 pub mod PlaysInOrder
 pub mod Demand2Revokes
 pub mod Demand2Failures
+pub mod Demand2Winners
 pub mod Demand3
 pub mod Demand3OneDeal
 pub mod TalliesMatchpoints

@@ -179,7 +179,7 @@ module _ (bytes : List ℕ) where
 
   first-slip : slip bytes ≡ slip (take decidingBytes bytes)
   unfolding slip
-  first-slip = ap slipOf (first-bytes decidingBytes (lit≤ tt) bytes leastRooms)
+  first-slip = ap slipOf (first-bytes decidingBytes bytes (lit≤ tt) leastRooms)
 
 slip-text : (n at : ℕ) → refusalLine n at ≡ (decimal n ++ (32 ∷ decimal at)) ++ (10 ∷ [])
 unfolding refusalLine
@@ -191,6 +191,6 @@ slip-promises =
       of-record = of-record;
       refused = λ bytes rooms enough n at q. refused-slip bytes rooms enough n at q ∙ slip-text n at;
       numbered = numbered;
-      judged-by-first = λ bytes rooms. first-bytes decidingBytes (lit≤ tt) bytes rooms;
+      judged-by-first = λ bytes rooms. first-bytes decidingBytes bytes (lit≤ tt) rooms;
       first-bytes = first-slip;
     }

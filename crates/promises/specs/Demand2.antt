@@ -78,11 +78,13 @@ pub record Demand2Accepts : Type 0 where
   -- the number is 0 exactly when a record is accepted, and else a refusal and its place
   pub zero-accepts : (bytes : List ℕ) (rooms : Rooms) → (numberOf (judgeOf bytes rooms) ≡ 0) ↔ ((p : Parts) × (judgeOf bytes rooms ≡ accepted p))
   pub zero-or-refusal : (bytes : List ℕ) (rooms : Rooms) → (numberOf (judgeOf bytes rooms) ≡ 0) ⊎ Refusal (numberOf (judgeOf bytes rooms))
-  -- a buffer that is too short comes first: the answer's, then the list's, then that of the plays against 50C or 50D1
+  -- a buffer that is too short comes first: the answer's, then the list's, then that of the plays against 50C or 50D1, then the winners'
   pub short-answer : (bytes : List ℕ) (rooms : Rooms) → rooms .answer < 7 → judgeOf bytes rooms ≡ refused shortBuffer 0
   pub short-list : (bytes : List ℕ) (rooms : Rooms) → 7 ≤ rooms .answer → rooms .list < 48 → judgeOf bytes rooms ≡ refused shortBuffer 1
   pub short-failures : (bytes : List ℕ) (rooms : Rooms) → 7 ≤ rooms .answer → 48 ≤ rooms .list → rooms .failures < 52
       → judgeOf bytes rooms ≡ refused shortBuffer 2
+  pub short-winners : (bytes : List ℕ) (rooms : Rooms) → 7 ≤ rooms .answer → 48 ≤ rooms .list → 52 ≤ rooms .failures → rooms .winners < 26
+      → judgeOf bytes rooms ≡ refused shortBuffer 3
   -- an accepted record has at least 20 bytes
   pub at-least-20 : (bytes : List ℕ) → Bytes bytes → (rooms : Rooms) (p : Parts) → judgeOf bytes rooms ≡ accepted p → 20 ≤ length bytes
   -- lawful parts that are passed out, in the bytes of docs/RULES.md; one byte less is 2, one more is 16

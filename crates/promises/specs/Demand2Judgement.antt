@@ -1,4 +1,4 @@
--- Demand 2, what the judge answers: for lawful parts the answer, the revokes and the plays against 50C or 50D1 are the Laws' on those parts.
+-- Demand 2, what the judge answers: for lawful parts the answer, the revokes, the plays against 50C or 50D1 and the winners are the Laws' on those parts.
 -- Assumes nothing.
 use Prim.Native.Nat.{ℕ}
 use mathlib.Core.Path.{_≡_}
@@ -16,9 +16,9 @@ use Rattle.laws.specs.Auction.{passedOut}
 use Rattle.laws.specs.Law77.{validScore}
 use Rattle.laws.specs.Reading.{numberAt}
 use Rattle.laws.specs.Judgement.{callsOf, playOf, contractOf, declarerOf, trumpOf, openingOf, wonOf, afterOf, revokesOf, failuresOf, scoreOf}
-use Rattle.laws.specs.Judgement.{twosComplement, answerBytes, revokeBytes, failuresBytes}
+use Rattle.laws.specs.Judgement.{twosComplement, answerBytes, revokeBytes, failuresBytes, winnersBytes}
 use Rattle.laws.specs.Lawful.{Lawful}
-use Rattle.laws.specs.Lent.{roomsOf, _over_, answerLeft, listLeft, failuresLeft}
+use Rattle.laws.specs.Lent.{roomsOf, _over_, answerLeft, listLeft, failuresLeft, winnersLeft}
 use Rattle.promises.specs.Demand1.{saidOf}
 
 -- x stands for a play of the parts: at some card, after the events before it, this held of the play, and x is its entry
@@ -53,13 +53,14 @@ abbrev pub FailureOf : Parts → Failure → Type 0
 FailureOf p f = PlayOf p (Fails p) (failureEntry p) f
 
 pub record Demand2Judgement : Type 0 where
-  -- lawful parts are accepted, and the buffers hold their answer, their revokes and their plays against 50C or 50D1 over what was there
-  pub answers : (p : Parts) → Lawful p → (answer list failures : List ℕ) → Enough (roomsOf answer list failures)
-      → (let said = saidOf (encode p) answer list failures in
+  -- lawful parts are accepted, and the buffers hold their answer, their revokes, their plays against 50C or 50D1 and their winners over what was there
+  pub answers : (p : Parts) → Lawful p → (answer list failures winners : List ℕ) → Enough (roomsOf answer list failures winners)
+      → (let said = saidOf (encode p) answer list failures winners in
       (numberOf said ≡ 0)
       × (answerLeft said answer ≡ answerBytes p over answer)
       × (listLeft said list ≡ revokeBytes p over list)
-      × (failuresLeft said failures ≡ failuresBytes p over failures))
+      × (failuresLeft said failures ≡ failuresBytes p over failures)
+      × (winnersLeft said winners ≡ winnersBytes p over winners))
   -- a revoke is listed exactly when it is one
   pub revokes : (p : Parts) (r : Revoke) → List·Memᴰ r (revokesOf p) ↔ RevokeOf p r
   -- a play is in the fourth slice exactly when it is against 50C or 50D1

@@ -6,6 +6,7 @@ pub mod BestTotal
 pub mod Demand1
 pub mod Demand2Judgement
 pub mod Demand2Revokes
+pub mod Demand2Winners
 pub mod Demand3
 pub mod Tallies
 pub mod Demand2Imps

@@ -5,7 +5,7 @@ use mathlib.Core.Bool.{Bool, true, false, _||_}
 use mathlib.Core.List.{List, [], _∷_}
 use native.Mathlib.Omega.{arith}
 use lib.Dec.{eqb}
-use lib.ListN.{length, getD, take, drop, length-take, length-drop}
+use lib.ListN.{length, getD, take, drop, length-take, length-drop, length-map}
 use Rattle.laws.specs.Choice.{if_then_else_}
 use Rattle.laws.specs.Cards.{noSeat, clockwise, partnerOf, sideOf}
 use Rattle.laws.specs.Law44.{tricksWon}
@@ -15,6 +15,8 @@ use Rattle.laws.specs.Law68.{claimedTricks}
 use Rattle.laws.proofs.Tests.{by-test}
 use Rattle.laws.proofs.Counts.{many-le}
 use Rattle.play.specs.declared.Tricks.{Tricks}
+use Rattle.play.specs.declared.Won.{Won}
+use Rattle.play.specs.Told.{seatsOf}
 use Rattle.penalty.specs.declared.listed.Listed.{Listed}
 use Rattle.transfer.specs.Inputs.{countedAt, revokesIn, winnersIn, claimedBy, earlier, totalFrom}
 use Rattle.transfer.proofs.Lists.{next-revoke, revokes-end}
@@ -104,11 +106,13 @@ module _ (rs : Listed) (ts : Tricks) (declarer claim left : ℕ) (all : length (
       rw (e, es, fd, fw) (sym (total-at j (omega arith)))
 
 -- ---- bounds
-pub won-bound : (ts : Tricks) → length (ts .winners) ≡ 13 → (side k : ℕ) → tricksWon side (drop k (winnersIn ts)) ≤ 13
+pub won-bound : (ts : Tricks) → length (ts .answers) ≡ 13 → (side k : ℕ) → tricksWon side (drop k (winnersIn ts)) ≤ 13
 unfolding tricksWon winnersIn
 won-bound ts n side k =
-    let l = take (ts .count) (ts .winners) in
-    omega (arith, many-le (λ seat. eqb (sideOf seat) side) (drop k l), length-drop k l, length-take (ts .count) (ts .winners))
+    let seats = seatsOf (ts .answers) in
+    let l = take (ts .count) seats in
+    let many = many-le (λ seat. eqb (sideOf seat) side) (drop k l) in
+    omega (arith, many, length-drop k l, length-take (ts .count) seats, length-map (ts .answers) (λ (w : Won). w .seat))
 
 pub claimed-bound : (declarer claim left side : ℕ) → claimedBy declarer claim left side ≤ claim + left
 unfolding claimedBy claimedTricks

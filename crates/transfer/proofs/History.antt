@@ -2,7 +2,7 @@
 use Prim.Native.Nat.{ℕ, _≤_, _<_, _+_, _*_, _/_, _%_}
 use mathlib.Core.Path.{_≡_, refl, sym, ap, ap₂, _∙_}
 use mathlib.Core.Bool.{Bool, true, false}
-use mathlib.Core.List.{List, [], _∷_, _++_, map}
+use mathlib.Core.List.{List, [], _∷_, _++_, map, map-map}
 use native.Mathlib.Omega.{arith}
 use borrow.Author.Tests.{eqb-false}
 use lib.Dec.{eqb}
@@ -10,7 +10,7 @@ use lib.ListN.{length, take, length-map}
 use Rattle.laws.specs.Choice.{if_then_else_}
 use Rattle.laws.specs.Padded.{padded}
 use Rattle.laws.specs.Cards.{partnerOf, suitOf, cardsDealt}
-use Rattle.laws.specs.Law44.{cardsPlayed, tricksComplete, winners}
+use Rattle.laws.specs.Law44.{cardsPlayed, tricksComplete, wonTricks, winners}
 use Rattle.laws.specs.Events.{Event, played, exposed, choice, cardsOf, listPlays}
 use Rattle.laws.specs.Law51.{noSuit, required}
 use Rattle.laws.specs.LeadRevoke.{leads, ledAfter, disobeys, listedSuit, revokeBy, Counted, listedAs, countedBy, countedRevokes, allRevokes}
@@ -18,16 +18,17 @@ use Rattle.laws.specs.Kept.{NoneRefused}
 use Rattle.laws.specs.Law64.{transferredTricks}
 use Rattle.laws.specs.Judgement
 use Rattle.laws.proofs.Tests.{by-test}
-use Rattle.laws.proofs.Padded.{padded-back}
+use Rattle.laws.proofs.Padded.{padded-back, take-map}
 use Rattle.laws.proofs.Revokes.{revoke-exactly}
 use Rattle.laws.proofs.KeptChoices.{kept-choices}
 use Rattle.laws.proofs.LeadRevokes.{following, counted-listed}
 use Rattle.play.specs.Words.{bitOf}
-use Rattle.play.specs.Told.{revokeByte}
-use Rattle.play.specs.History.{tricksOf, byteOf}
+use Rattle.play.specs.Told.{revokeByte, noTrick, seatsOf}
+use Rattle.play.specs.declared.Won.{Won}
+use Rattle.play.specs.History.{toldOf, tricksOf, byteOf}
 use Rattle.play.proofs.Holders.{turn-seat}
 use Rattle.play.proofs.Thirteen.{at-most-52}
-use Rattle.play.proofs.Complete.{winners-count}
+use Rattle.play.proofs.Complete.{answers-count}
 use Rattle.penalty.specs.declared.listed.Listed.{Listed}
 use Rattle.penalty.specs.Listed.{listedOf}
 use Rattle.penalty.proofs.AtMost.{cards-allowed, card-held, at-most-48}
@@ -77,9 +78,14 @@ unfolding AllWithin
 all-append [] ss v w = w
 all-append (r ∷ rs) ss v w = (v .0, all-append rs ss (v .1) w)
 
-few-winners : (trump opening : ℕ) (g : List ℕ) → cardsPlayed g ≤ 52 → length (winners trump opening g) ≤ 13
+-- the winners from the answers as the code has them
+pub seats-told : (trump opening : ℕ) (g : List ℕ) → seatsOf (map toldOf (wonTricks trump opening g)) ≡ winners trump opening g
+unfolding winners
+seats-told trump opening g = map-map (λ (x : Won). x .seat) toldOf (wonTricks trump opening g)
+
+pub few-tricks : (trump opening : ℕ) (g : List ℕ) → cardsPlayed g ≤ 52 → length (wonTricks trump opening g) ≤ 13
 unfolding tricksComplete
-few-winners trump opening g h = omega (arith, winners-count trump opening g)
+few-tricks trump opening g h = omega (arith, answers-count trump opening g)
 
 module _ (deal : List ℕ) (trump opening : ℕ) where
   -- the revokes of a history as the code lists them
@@ -142,7 +148,12 @@ module _ (deal : List ℕ) (trump opening : ℕ) (all : length deal ≡ 52) (dea
     unfolding winnersIn tricksOf
     winners-back =
         let g = cardsOf e in
-        padded-back 0 13 (winners trump opening g) (few-winners trump opening g (at-most-52 deal trump opening all g (cards-allowed deal trump opening e w)))
+        let ws = map toldOf (wonTricks trump opening g) in
+        let most = at-most-52 deal trump opening all g (cards-allowed deal trump opening e w) in
+        let many : length ws ≡ length (wonTricks trump opening g) = length-map (wonTricks trump opening g) toldOf in
+        take-map (λ (x : Won). x .seat) (length ws) (padded noTrick 13 ws)
+        ∙ ap seatsOf (padded-back noTrick 13 ws (rw many (few-tricks trump opening g most)))
+        ∙ seats-told trump opening g
 
     -- the theorem: the count on what the play tells is Law 64 on the history
     pub transferred-law : (declarer claim left : ℕ)

@@ -7,7 +7,7 @@ use native.Mathlib.Omega.{arith}
 use native.Mathlib.Numerals.{add-one}
 use borrow.Author.Tests.{eqb-true, eq-eqb}
 use lib.Dec.{eqb}
-use lib.ListN.{length, getD, take, drop, length-take, List·getD-eq-default}
+use lib.ListN.{length, getD, take, drop, length-take, length-map, List·getD-map, List·getD-eq-default}
 use lib.Seq.{drop-cons, getD-take}
 use Rattle.laws.specs.Choice.{if_then_else_, some, howMany}
 use Rattle.laws.specs.Cards.{noSeat}
@@ -17,6 +17,8 @@ use Rattle.laws.specs.Law64.{repeated, sideRevoked}
 use Rattle.laws.proofs.Tests.{same-test, and-left, and-right, and-both}
 use Rattle.laws.proofs.Counts.{any-default}
 use Rattle.play.specs.declared.Tricks.{Tricks}
+use Rattle.play.specs.declared.Won.{Won}
+use Rattle.play.specs.Told.{noTrick, seatsOf}
 use Rattle.penalty.specs.declared.listed.Listed.{Listed}
 use Rattle.transfer.specs.Inputs.{countedOf, countedAt, countedIn, revokesIn, winnersIn, earlier}
 
@@ -57,14 +59,27 @@ module _ (rs : Listed) (all : length (rs .list) ≡ 48) (free : length (rs .excu
       drop-counted i (take (rs .count) (rs .list)) (take (rs .count) (rs .excused)) same-length
       ∙ rw (past-end (take (rs .count) (rs .list)) i (rw (length-take (rs .count) (rs .list)) (omega arith)))
 
-module _ (ts : Tricks) (all : length (ts .winners) ≡ 13) where
-  pub next-winner : (i : ℕ) → i < min (ts .count) 13 → drop i (winnersIn ts) ≡ getD (ts .winners) i 0 ∷ drop (suc i) (winnersIn ts)
-  unfolding winnersIn
-  next-winner i h = from-place (ts .winners) (ts .count) i (omega arith) (omega arith)
+module _ (ts : Tricks) (all : length (ts .answers) ≡ 13) where
+  abbrev seats : List ℕ
+  seats = seatsOf (ts .answers)
 
-  pub winners-end : (i : ℕ) → min (ts .count) 13 ≤ i → drop i (winnersIn ts) ≡ []
+  -- the winner that stands at a place of the answers
+  abbrev pub seatAt : ℕ → ℕ
+  seatAt i = getD (ts .answers) i noTrick .seat
+
+  seats-13 : length seats ≡ 13
+  seats-13 = length-map (ts .answers) (λ (w : Won). w .seat) ∙ all
+
+  seat-is : (i : ℕ) → getD seats i 0 ≡ seatAt i
+  seat-is i = List·getD-map (λ (w : Won). w .seat) (ts .answers) i noTrick
+
+  next-winner : (i : ℕ) → i < min (ts .count) 13 → drop i (winnersIn ts) ≡ seatAt i ∷ drop (suc i) (winnersIn ts)
   unfolding winnersIn
-  winners-end i h = past-end (take (ts .count) (ts .winners)) i (rw (length-take (ts .count) (ts .winners)) (omega arith))
+  next-winner i h = rw (sym (seat-is i)) (from-place seats (ts .count) i (omega (arith, seats-13)) (omega arith))
+
+  winners-end : (i : ℕ) → min (ts .count) 13 ≤ i → drop i (winnersIn ts) ≡ []
+  unfolding winnersIn
+  winners-end i h = past-end (take (ts .count) seats) i (rw (length-take (ts .count) seats) (omega (arith, seats-13)))
 
 -- ---- a revoke before: the same seat and suit, by the low four bits
 pub same-low : (a b : ℕ) → (eqb (a / 4 % 4) (b / 4 % 4) && eqb (a % 4) (b % 4)) ≡ eqb (a % 16) (b % 16)
@@ -122,20 +137,24 @@ module _ (rs : Listed) (all : length (rs .list) ≡ 48) (free : length (rs .excu
   pub side-end : (side i : ℕ) → min (rs .count) 48 ≤ i → sideRevoked side (drop i (revokesIn rs)) ≡ false
   side-end side i h = ap (sideRevoked side) (revokes-end rs all free i h) ∙ side-none side
 
-module _ (ts : Tricks) (all : length (ts .winners) ≡ 13) where
+module _ (ts : Tricks) (all : length (ts .answers) ≡ 13) where
   pub won-at : (side i : ℕ) → i < min (ts .count) 13
-      → tricksWon side (drop i (winnersIn ts)) ≡ (if eqb (getD (ts .winners) i 0 % 2) side then 1 else 0) + tricksWon side (drop (i + 1) (winnersIn ts))
+      → tricksWon side (drop i (winnersIn ts)) ≡ (if eqb (seatAt ts all i % 2) side then 1 else 0) + tricksWon side (drop (i + 1) (winnersIn ts))
   won-at side i h =
-      ap (tricksWon side) (next-winner ts all i h) ∙ won-next side (getD (ts .winners) i 0) (drop (suc i) (winnersIn ts)) ∙ rw add-one
+      ap (tricksWon side) (next-winner ts all i h) ∙ won-next side (seatAt ts all i) (drop (suc i) (winnersIn ts)) ∙ rw add-one
 
   pub won-end : (side i : ℕ) → min (ts .count) 13 ≤ i → tricksWon side (drop i (winnersIn ts)) ≡ 0
   won-end side i h = ap (tricksWon side) (winners-end ts all i h) ∙ won-none side
 
   -- the winner at a place, or nobody
-  pub winner-at : (i : ℕ) → i < min (ts .count) 13 → getD (ts .winners) i 0 ≡ getD (winnersIn ts) i noSeat
+  pub winner-at : (i : ℕ) → i < min (ts .count) 13 → seatAt ts all i ≡ getD (winnersIn ts) i noSeat
   unfolding winnersIn
-  winner-at i h = any-default (ts .winners) i 0 noSeat (omega arith) ∙ sym (getD-take (ts .count) (ts .winners) i noSeat (omega arith))
+  winner-at i h =
+      let l = seats ts all in
+      sym (seat-is ts all i) ∙ any-default l i 0 noSeat (omega (arith, seats-13 ts all)) ∙ sym (getD-take (ts .count) l i noSeat (omega arith))
 
   pub no-winner : (i : ℕ) → min (ts .count) 13 ≤ i → noSeat ≡ getD (winnersIn ts) i noSeat
   unfolding winnersIn
-  no-winner i h = sym (List·getD-eq-default (take (ts .count) (ts .winners)) noSeat (rw (length-take (ts .count) (ts .winners)) (omega arith)))
+  no-winner i h =
+      let l = seats ts all in
+      sym (List·getD-eq-default (take (ts .count) l) noSeat (rw (length-take (ts .count) l) (omega (arith, seats-13 ts all))))

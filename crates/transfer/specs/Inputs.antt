@@ -9,6 +9,7 @@ use Rattle.laws.specs.LeadRevoke.{Counted}
 use Rattle.laws.specs.Law68.{agreed, claimedTricks}
 use Rattle.laws.specs.Law64.{dues, total, transferredTricks}
 use Rattle.play.specs.declared.Tricks.{Tricks}
+use Rattle.play.specs.Told.{seatsOf}
 use Rattle.penalty.specs.declared.listed.Listed.{Listed}
 
 -- the revoke that a byte lists, trick 4 bits, seat 2, suit 2, with 1 where it is excused
@@ -29,9 +30,9 @@ countedIn (b ∷ bytes) (f ∷ free) = countedOf b f ∷ countedIn bytes free
 unfoldable pub revokesIn : Listed → List Counted
 revokesIn rs = countedIn (take (rs .count) (rs .list)) (take (rs .count) (rs .excused))
 
--- the winners of the complete tricks: as many as are counted
+-- the winners of the complete tricks, from their answers: as many as are counted
 unfoldable pub winnersIn : Tricks → List ℕ
-winnersIn ts = take (ts .count) (ts .winners)
+winnersIn ts = take (ts .count) (seatsOf (ts .answers))
 
 -- the tricks that a side gets by a claim of so many for declarer's side, of those left; without a claim both numbers are 0
 unfoldable pub claimedBy : ℕ → ℕ → ℕ → ℕ → ℕ

@@ -57,7 +57,8 @@ fn winner_of(ts: Tricks, trick: u8) -> u8
 {
     let at = one_less(trick) as usize;
     if at < at_most(ts.count as u16, 13) as usize {
-        return ts.winners[at];
+        let won = ts.answers[at];
+        return won.seat;
     }
     NOBODY
 }
@@ -96,7 +97,8 @@ fn won_from(ts: Tricks, side: u8, trick: u8) -> u16
     let mut i = one_less(trick) as usize;
     let mut n: u16 = 0;
     while i < end {
-        if ts.winners[i] % 2 == side {
+        let won = ts.answers[i];
+        if won.seat % 2 == side {
             n += 1;
         }
         i += 1;

@@ -1,4 +1,5 @@
-// Worked plays, four lines each: the winners of the tricks, the revokes (trick, seat, suit led), the tricks of each side, and what Law 64 makes of a claim.
+// Worked plays, four lines each: the winners of the tricks (seat, card), the revokes (trick, seat, suit led), the tricks of each side, and what
+// Law 64 makes of a claim.
 // A card is 13 × suit + rank: clubs from 0, diamonds from 13, hearts from 26, spades from 39, the two first. Seats are 0 North to 3 West.
 use libc::STDOUT_FILENO;
 use penalty::Listed;
@@ -32,8 +33,11 @@ fn show_winners(ts: Tricks) {
     let mut i: usize = 0;
     while i < 13 {
         if i < ts.count as usize {
+            let won = ts.answers[i];
             text(b" ");
-            number(ts.winners[i] as u64);
+            number(won.seat as u64);
+            text(b",");
+            number(won.card as u64);
         }
         i += 1;
     }

@@ -3,6 +3,7 @@ pub mod Lengths
 pub mod Turns
 pub mod CallTurns
 pub mod Items
+pub mod CardsAlone
 pub mod PlayTurns
 pub mod CardTurns
 pub mod RunTurns

@@ -18,11 +18,42 @@ ghost use Rattle.laws.specs.CodeRefusal.{codesFull};
 ghost use Rattle.laws.specs.FlatPlay.{Item, codeItem, itemsOf, isCard, cardsIn, itemRefusal, afterItem};
 ghost use Rattle.laws.specs.Contents.{takeItems};
 ghost use Rattle.deal.specs.Hands.{wordsOf};
+ghost use Rattle.play.specs.Words.{bitOf};
 ghost use Rattle.penalty.specs.History.{ThirteenEach, OfEvents, positionOf};
 ghost use Rattle.writer.specs.Checked.{refusalIn, cardsBy};
 
+// 1 where a number begins a code, else 0.
+fn code_bit(number: u8) -> u8
+    ensures { λ r. ⌜ r ≡ bitOf (beginsCode number) ⌝ }
+{
+    if begins_code(number) { 1 } else { 0 }
+}
+
+// Whether some number of the list begins a code. All are looked at, so that many can be at once.
+pub(crate) fn has_code(plays: &[u8]) -> bool
+    ensures { λ r. ⌜ r ≡ some beginsCode (now (plays .entry)) ⌝ }
+{
+    let mut seen: u8 = 0;
+    let mut i: usize = 0;
+    while i < plays.len() {
+        seen = seen | code_bit(plays[i]);
+        i += 1;
+    }
+    seen != 0
+}
+
 // How many cards there are: codes and their numbers do not count.
 pub(crate) fn count_cards(plays: &[u8]) -> usize
+    ensures { λ r. ⌜ r ≡ cardsIn (now (plays .entry)) ⌝ }
+{
+    if has_code(plays) {
+        return count_beside_codes(plays);
+    }
+    plays.len()
+}
+
+// The same, number by number.
+fn count_beside_codes(plays: &[u8]) -> usize
     ensures { λ r. ⌜ r ≡ cardsIn (now (plays .entry)) ⌝ }
 {
     let mut cards: usize = 0;

@@ -1,5 +1,6 @@
 // The contents of a record written over the front of a lent buffer, whatever they are, and how many bytes they take.
 use crate::plays::count_cards;
+use crate::plays::has_code;
 use packing::Packer;
 use penalty::begins_code;
 ghost use mathlib.Core.Path.{_≡_};
@@ -75,14 +76,17 @@ fn put_events(p: Packer, out: &mut [u8], plays: &[u8]) -> Packer
     q
 }
 
-// The play count, and the plays.
+// The play count, and the plays: a row of cards, or with codes among them.
 fn put_plays(p: Packer, out: &mut [u8], plays: &[u8], cards: usize) -> Packer
     requires { ⌜ some isBroken (itemsOf (now plays)) ≡ false ⌝ }
     ensures packer { λ r. ⌜ r ≡ packerAfterAll (length (now (out .entry))) p (field 6 cards ∷ fieldsOf (now (plays .entry))) ⌝ }
     ensures bytes { λ _. ⌜ now (out .exit) ≡ bytesAfterAll p (field 6 cards ∷ fieldsOf (now (plays .entry))) (now (out .entry)) ⌝ }
 {
     let a = p.put(out, 6, cards as u64);
-    put_events(a, out, plays)
+    if has_code(plays) {
+        return put_events(a, out, plays);
+    }
+    a.put_row(out, 6, plays)
 }
 
 // The claim's mark, and the claim where there is one.
@@ -135,6 +139,17 @@ fn code_bits(code: u8) -> usize
 
 // How many bits the plays take: six for a card, thirteen for an exposure, ten for a choice.
 pub(crate) fn play_bits(plays: &[u8]) -> usize
+    requires { ⌜ (some isBroken (itemsOf (now plays)) ≡ false) × (length (now plays) ≤ 512) ⌝ }
+    ensures { λ r. ⌜ r ≡ bits (fieldsOf (now (plays .entry))) ⌝ }
+{
+    if has_code(plays) {
+        return bits_beside_codes(plays);
+    }
+    6 * plays.len()
+}
+
+// The same, number by number.
+fn bits_beside_codes(plays: &[u8]) -> usize
     requires { ⌜ (some isBroken (itemsOf (now plays)) ≡ false) × (length (now plays) ≤ 512) ⌝ }
     ensures { λ r. ⌜ r ≡ bits (fieldsOf (now (plays .entry))) ⌝ }
 {

@@ -1,6 +1,7 @@
 //! Times the proved judge and writer and the Rust ones on the same records in one run, and merges of tallies. docs/PERFORMANCE.md says what it measures.
 use outside::compare::Judge;
 use outside::contents::Contents;
+use outside::judge::Least;
 use outside::making::{self, Made};
 use outside::random::Random;
 use outside::run::{output_of, stop, Words};
@@ -80,8 +81,8 @@ fn set(random: &mut Random, make: impl Fn(&mut Random) -> Made) -> Vec<Made> {
 fn judged(what: &str, made: &[Made]) {
     let records: Vec<Vec<u8>> = made.iter().map(|m| m.parts.bytes()).collect();
     line(what, [proved::judge as Judge, judge::judge], &records, |judge, record| {
-        let (mut answer, mut list, mut failures) = ([0; 7], [0; 48], [0; 52]);
-        let number = black_box(judge)(black_box(record), black_box(&mut answer), black_box(&mut list), black_box(&mut failures));
+        let mut least = Least::of(0);
+        let number = black_box(judge)(black_box(record), black_box(&mut least.lend()));
         assert_eq!(number, 0, "a record that is accepted");
     });
 }

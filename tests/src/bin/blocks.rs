@@ -1,7 +1,7 @@
 //! Writes records of all shapes, with what the judge has to answer, to standard output for tests/c/blocks.c.
 use outside::compare::Room;
 use outside::damage::{self, codes};
-use outside::judge;
+use outside::judge::{self, Lent};
 use outside::making;
 use outside::random::Random;
 use outside::run::stop;
@@ -35,9 +35,11 @@ fn main() {
 }
 
 fn put(out: &mut Vec<u8>, record: &[u8], room: Room) {
-    let [mut answer, mut list, mut failures] = [room.answer, room.list, room.failures].map(|length| vec![0; length]);
-    let number = judge::judge(record, &mut answer, &mut list, &mut failures);
-    for length in [record.len(), room.answer, room.list, room.failures] {
+    let lengths = [room.answer, room.list, room.failures, room.winners];
+    let [mut answer, mut list, mut failures, mut winners] = lengths.map(|length| vec![0; length]);
+    let mut lent = Lent { answer: &mut answer, list: &mut list, failures: &mut failures, winners: &mut winners };
+    let number = judge::judge(record, &mut lent);
+    for length in [record.len()].into_iter().chain(lengths) {
         out.extend((length as u16).to_be_bytes());
     }
     out.extend(number.to_be_bytes());
@@ -48,5 +50,8 @@ fn put(out: &mut Vec<u8>, record: &[u8], room: Room) {
         out.push(revokes);
         out.extend(&list[..usize::from(revokes)]);
         out.extend(&failures[..52]);
+        let told = judge::read(record).map_or(0, |judgement| judgement.winners().len());
+        out.push(told as u8);
+        out.extend(&winners[..told]);
     }
 }

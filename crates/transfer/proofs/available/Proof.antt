@@ -5,6 +5,7 @@ use native.Mathlib.Omega.{arith}
 use borrow.Author.Needs.{needs}
 use lib.ListN.{length, getD, drop}
 use Rattle.laws.specs.Law64.{wonFrom}
+use Rattle.laws.proofs.Padded.{length-under}
 use Rattle.transfer.proofs.Counting.{won-bound, claimed-bound}
 use Rattle.transfer.proofs.available.Statement.{statement}
 use Rattle.transfer.proofs.available.Tie as tie
@@ -17,7 +18,7 @@ claimed-by-requires c κs = search needs
 
 add-result : tie.Need-add-result
 add-result c = let st = c .before .before in
-    let n : length (st .args .ts .winners) ≡ 13 = search needs in
+    let n : length (st .args .ts .answers) ≡ 13 = search (needs, length-under) in
     let side = st .args .byte / 4 % 4 % 2 in
     omega (
       arith,

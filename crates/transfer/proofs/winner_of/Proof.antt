@@ -4,6 +4,7 @@ use mathlib.Core.Path.{_≡_, refl, sym, ap, _∙_}
 use native.Mathlib.Omega.{arith}
 use borrow.Author.Needs.{needs}
 use lib.ListN.{length, getD, drop}
+use Rattle.laws.proofs.Padded.{length-under}
 use Rattle.transfer.proofs.Lists.{winner-at, no-winner}
 use Rattle.transfer.proofs.winner_of.Statement.{statement}
 use Rattle.transfer.proofs.winner_of.Tie as tie
@@ -23,13 +24,16 @@ at-most-requires c κs = search needs
 cast-if1 : tie.Need-cast-if1
 cast-if1 c = search needs
 
-element-copy-out-result : tie.Need-element-copy-out-result
-element-copy-out-result c = search needs
+mul-won : tie.Need-mul-won
+mul-won c = search needs
+
+element-copy-out-won : tie.Need-element-copy-out-won
+element-copy-out-won c = search needs
 
 returns : tie.Need-returns
 returns c = let st = c .before .before .before .before in
     let ts = st .args .t1 in
-    let n : length (ts .winners) ≡ 13 = search needs in
+    let n : length (ts .answers) ≡ 13 = search (needs, length-under) in
     let e = c .before .before .before .one-less .ensures in
     let h = c .before .before .at-most .ensures in
     rw (sym e) (winner-at ts n (c .before .before .before .one-less .result) (omega arith))
@@ -37,7 +41,7 @@ returns c = let st = c .before .before .before .before in
 returns-2 : tie.Need-returns-2
 returns-2 c = let st = c .before .before .before in
     let ts = st .args .t1 in
-    let n : length (ts .winners) ≡ 13 = search needs in
+    let n : length (ts .answers) ≡ 13 = search (needs, length-under) in
     let e = c .before .before .one-less .ensures in
     let h = c .before .at-most .ensures in
     rw (sym e) (no-winner ts n (c .before .before .one-less .result) (omega arith))
@@ -51,6 +55,7 @@ winner-of-spec =
     cast-at-most
     at-most-requires
     cast-if1
-    element-copy-out-result
+    mul-won
+    element-copy-out-won
     returns
     returns-2)

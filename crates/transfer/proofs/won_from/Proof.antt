@@ -1,5 +1,6 @@
 -- `transfer::won_from` meets its contract: what is counted, and what the winners from `i` on count, are together the whole. Assumes nothing.
-use Rattle.transfer.proofs.Lists.{won-at, won-end}
+use Rattle.laws.proofs.Padded.{length-under}
+use Rattle.transfer.proofs.Lists.{seatAt, won-at, won-end}
 use Prim.Native.Nat.{ℕ, _≤_, _<_, _+_, _-_, _*_, _/_, _%_, min}
 use mathlib.Core.Path.{_≡_, refl, sym, ap, _∙_}
 use native.Mathlib.Nat.{zero-add}
@@ -11,7 +12,6 @@ use mathlib.Core.Logic.{⊎-elim}
 use native.Mathlib.Numerals.{add-one}
 use Rattle.laws.specs.Law44.{tricksWon}
 use Rattle.transfer.specs.Inputs.{winnersIn}
-use Rattle.transfer.proofs.Lists.{next-winner, winners-end, won-none, won-next}
 use Rattle.transfer.proofs.won_from.Statement.{statement}
 use Rattle.transfer.proofs.won_from.Tie as tie
 
@@ -42,8 +42,11 @@ cast-i c = search needs
 loop-holds : tie.Need-loop-holds Inv-loop μ-loop
 loop-holds c = (c .before .at-most .ensures, omega arith, rw (c .one-less .ensures, zero-add))
 
-element-copy-out-if1 : tie.Need-element-copy-out-if1 Inv-loop μ-loop
-element-copy-out-if1 c = search needs
+mul-won : tie.Need-mul-won Inv-loop μ-loop
+mul-won c = search needs
+
+element-copy-out-won : tie.Need-element-copy-out-won Inv-loop μ-loop
+element-copy-out-won c = search needs
 
 add-n : tie.Need-add-n Inv-loop μ-loop
 add-n c = search needs
@@ -55,21 +58,21 @@ loop-less : tie.Need-loop-less Inv-loop μ-loop
 loop-less c = search needs
 
 loop-again : tie.Need-loop-again Inv-loop μ-loop
-loop-again c = let l = c .before .before .before .loop in
-    let st = c .before .before .before .before .before .before in
+loop-again c = let l = c .before .before .before .before .loop in
+    let st = c .before .before .before .before .before .before .before in
     let ts = st .args .t1 in
-    let n : length (ts .winners) ≡ 13 = search needs in
+    let n : length (ts .answers) ≡ 13 = search (needs, length-under) in
     let next = won-at ts n (st .args .side) (l .i) (omega arith) in
     ⊎-elim
-    (λ w. (l .inv .0, omega arith, omega (arith, rw (eq-eqb (getD (ts .winners) (l .i) 0 % 2) (st .args .side) (w .0 .taken)) at next)))
-    (λ w. (l .inv .0, omega arith, omega (arith, rw (ne-eqb (getD (ts .winners) (l .i) 0 % 2) (st .args .side) (w .0 .left)) at next)))
+    (λ w. (l .inv .0, omega arith, omega (arith, rw (eq-eqb (seatAt ts n (l .i) % 2) (st .args .side) (w .0 .taken)) at next)))
+    (λ w. (l .inv .0, omega arith, omega (arith, rw (ne-eqb (seatAt ts n (l .i) % 2) (st .args .side) (w .0 .left)) at next)))
     (c .if1 .came)
 
 returns : tie.Need-returns Inv-loop μ-loop
 returns c = let l = c .before .loop in
     let st = c .before .before .before .before in
     let ts = st .args .t1 in
-    let n : length (ts .winners) ≡ 13 = search needs in
+    let n : length (ts .answers) ≡ 13 = search (needs, length-under) in
     omega (arith, l .inv .2, won-end ts n (st .args .side) (l .i) (omega arith))
 
 pub won-from-spec : {M : Type 1} → statement M
@@ -84,7 +87,8 @@ won-from-spec =
     one-less-requires
     cast-i
     loop-holds
-    element-copy-out-if1
+    mul-won
+    element-copy-out-won
     add-n
     add-i
     loop-less

@@ -1,17 +1,16 @@
--- `play::Play::tricks` meets its contract: the winners are filled in from the last trick on. The measure is `i`. Assumes nothing.
-use Prim.Native.Nat.{_≤_}
+-- `play::Play::tricks` meets its contract: the answers are filled in from the last trick on. The measure is `i`. Assumes nothing.
 use native.Mathlib.Omega.{arith}
 use borrow.Author.Needs.{needs}
-use Rattle.play.specs.Told.{tricksIn}
-use Rattle.play.proofs.Filling.{Filled, fill-begins, fill-goes, fill-ends}
+use Rattle.play.specs.Told.{answersIn, tricksIn}
+use Rattle.play.proofs.Filling.{Filled, answers-many, fill-begins, fill-goes, fill-ends}
 use Rattle.play.proofs.Play.tricks.Statement.{statement}
 use Rattle.play.proofs.Play.tricks.Tie as tie
 
 abbrev Inv-loop : tie.InvT-loop
-Inv-loop count winners₀ rest₀ east₀ i₀ winners rest east i = Filled count rest₀ winners rest east i
+Inv-loop count answers₀ rest₀ low₀ high₀ east₀ i₀ answers rest low high east i = Filled (answersIn count rest₀ low₀ high₀) answers rest low high east i
 
 abbrev μ-loop : tie.MeasureT-loop
-μ-loop count winners₀ rest₀ east₀ i₀ winners rest east i = i
+μ-loop count answers₀ rest₀ low₀ high₀ east₀ i₀ answers rest low high east i = i
 
 complete-requires : tie.Need-complete-requires Inv-loop μ-loop
 complete-requires c κs = search needs
@@ -25,27 +24,52 @@ sub-i c = omega arith
 narrow-requires : tie.Need-narrow-requires Inv-loop μ-loop
 narrow-requires c κs = omega arith
 
+mul-narrow : tie.Need-mul-narrow Inv-loop μ-loop
+mul-narrow c = search needs
+
+add-narrow : tie.Need-add-narrow Inv-loop μ-loop
+add-narrow c = search needs
+
+narrow-requires-2 : tie.Need-narrow-requires-2 Inv-loop μ-loop
+narrow-requires-2 c κs = omega arith
+
 cast-at : tie.Need-cast-at Inv-loop μ-loop
 cast-at c = search needs
 
-array-write-winners : tie.Need-array-write-winners Inv-loop μ-loop
-array-write-winners c = omega (arith, c .before .before .loop .inv .few, c .before .before .loop .inv .most)
+mul-answers : tie.Need-mul-answers Inv-loop μ-loop
+mul-answers c = search needs
+
+array-set-from-answers : tie.Need-array-set-from-answers Inv-loop μ-loop
+array-set-from-answers c =
+    let l = c .before .before .before .loop .inv in
+    omega (arith, l .few, l .most)
 
 add-east : tie.Need-add-east Inv-loop μ-loop
-add-east c = omega (arith, c .before .before .loop .inv .small, c .before .before .loop .inv .most)
+add-east c =
+    let l = c .before .before .before .loop .inv in
+    omega (arith, l .small, l .most)
 
 loop-less : tie.Need-loop-less Inv-loop μ-loop
 loop-less c = omega arith
 
 loop-again : tie.Need-loop-again Inv-loop μ-loop
-loop-again c = fill-goes (c .before .before .loop .inv) (c .before .loop-test .taken) (c .narrow .ensures)
+loop-again c =
+    let n = c .before in
+    fill-goes (n .before .before .loop .inv) (n .before .loop-test .taken) (rw (n .narrow .ensures, c .narrow2 .ensures))
 
-sub-t15 : tie.Need-sub-t15 Inv-loop μ-loop
-sub-t15 c = omega (arith, c .before .loop .inv .small)
+sub-t23 : tie.Need-sub-t23 Inv-loop μ-loop
+sub-t23 c =
+    let m = c .before .before in
+    let p = m .before .args .self in
+    omega (arith, c .before .loop .inv .small, answers-many (m .complete .result) (p .tricks) (p .low) (p .high))
 
 returns : tie.Need-returns Inv-loop μ-loop
 unfolding tricksIn
-returns c = rw (← c .before .before .complete .ensures .0) (fill-ends (c .before .loop .inv) (c .loop-test .left))
+returns c =
+    let m = c .before .before in
+    let p = m .before .args .self in
+    rw (← m .complete .ensures .0)
+    (fill-ends (answers-many (m .complete .result) (p .tricks) (p .low) (p .high)) (c .before .loop .inv) (c .loop-test .left))
 
 pub tricks-spec : {M : Type 1} → statement M
 tricks-spec =
@@ -57,10 +81,14 @@ tricks-spec =
     loop-holds
     sub-i
     narrow-requires
+    mul-narrow
+    add-narrow
+    narrow-requires-2
     cast-at
-    array-write-winners
+    mul-answers
+    array-set-from-answers
     add-east
     loop-less
     loop-again
-    sub-t15
+    sub-t23
     returns)

@@ -1,74 +1,22 @@
--- `count_cards` meets its contract: the cards so far and those to come are all of them. Assumes nothing.
-use Prim.Native.Nat.{ℕ, _≤_, _<_, _+_, _-_, _*_}
-use mathlib.Core.Path.{_≡_, refl, sym, ap, _∙_}
-use native.Mathlib.Omega.{arith}
+-- `count_cards` meets its contract: without a code each number is a card. Assumes nothing.
+use mathlib.Core.Path.{sym, _∙_}
 use borrow.Author.Needs.{needs}
-use lib.ListN.{length, getD}
-use Rattle.writer.proofs.Items.{Counted, count-begins, count-ends, count-card, count-code}
+use Rattle.writer.proofs.CardsAlone.{cards-alone}
 use Rattle.writer.proofs.plays.count_cards.Statement.{statement}
 use Rattle.writer.proofs.plays.count_cards.Tie as tie
 
-abbrev Inv-loop : tie.InvT-loop
-Inv-loop plays cards₀ i₀ cards i = Counted plays cards i × (i ≤ length plays + 2)
+has-code-requires : tie.Need-has-code-requires
+has-code-requires c κs = search needs
 
-abbrev μ-loop : tie.MeasureT-loop
-μ-loop plays cards₀ i₀ cards i = length plays - i
+count-beside-codes-requires : tie.Need-count-beside-codes-requires
+count-beside-codes-requires c κs = search needs
 
-loop-holds : tie.Need-loop-holds Inv-loop μ-loop
-loop-holds c = (count-begins _, omega arith)
+returns : tie.Need-returns
+returns c = search needs
 
-shared-slice-read-begins-code : tie.Need-shared-slice-read-begins-code Inv-loop μ-loop
-shared-slice-read-begins-code c = search needs
-
-begins-code-requires : tie.Need-begins-code-requires Inv-loop μ-loop
-begins-code-requires c κs = search needs
-
-add-i : tie.Need-add-i Inv-loop μ-loop
-add-i c = search needs
-
-loop-less : tie.Need-loop-less Inv-loop μ-loop
-loop-less c = search needs
-
-loop-again : tie.Need-loop-again Inv-loop μ-loop
-loop-again c =
-    let b = c .before in
-    let l = b .before .before in
-    (count-code _ (l .before .loop .inv .0) (l .loop-test .taken) (sym (b .begins-code .ensures) ∙ c .if1 .taken), omega (arith, l .loop-test .taken))
-
-add-cards : tie.Need-add-cards Inv-loop μ-loop
-add-cards c =
-    let l = c .before .before .before in
-    omega (arith, l .before .loop .inv .0 .few, l .loop-test .taken)
-
-add-i-2 : tie.Need-add-i-2 Inv-loop μ-loop
-add-i-2 c = search needs
-
-loop-less-2 : tie.Need-loop-less-2 Inv-loop μ-loop
-loop-less-2 c = search needs
-
-loop-again-2 : tie.Need-loop-again-2 Inv-loop μ-loop
-loop-again-2 c =
-    let b = c .before in
-    let l = b .before .before in
-    (count-card _ (l .before .loop .inv .0) (l .loop-test .taken) (sym (b .begins-code .ensures) ∙ c .if1 .left), omega (arith, l .loop-test .taken))
-
-returns : tie.Need-returns Inv-loop μ-loop
-returns c = count-ends _ (c .before .loop .inv .0) (omega arith)
+returns-2 : tie.Need-returns-2
+returns-2 c = cards-alone _ (sym (c .before .has-code .ensures) ∙ c .if1 .left)
 
 pub count-cards-spec : {M : Type 1} → statement M
 count-cards-spec =
-    tie.close
-    (tie.spec
-    Inv-loop
-    μ-loop
-    loop-holds
-    shared-slice-read-begins-code
-    begins-code-requires
-    add-i
-    loop-less
-    loop-again
-    add-cards
-    add-i-2
-    loop-less-2
-    loop-again-2
-    returns)
+    tie.close (tie.spec has-code-requires count-beside-codes-requires returns returns-2)
