@@ -2,7 +2,7 @@
 # make demo      judges the records in samples/, prints a sheet and a slip, and merges two sections both ways
 # make install   puts headers, archives and pkg-config files under PREFIX
 # make bench     the proved judge's speed beside the Rust judge's, and that of merges
-# make fuzz      compares on random records, contents, tallies, trees, sheets, slips and team matches for FUZZ_SECONDS, from SEED where it is given
+# make fuzz      compares on random records, contents, tallies, trees, sheets, slips, endings and team matches for FUZZ_SECONDS, from SEED where it is given
 # What is built beside the proofs stands in build/, since `rt ci` removes target/.
 .PHONY: test demo install install-files bench fuzz outside clean tools rt-tool FORCE
 
@@ -17,9 +17,10 @@ TREES = 20000
 SHEETS = 3000
 SLIPS = 10000
 TEAMS = 3000
+ENDINGS = 32000
 BLOCKS = 20000
 
-# The archive that judges and writes, a member for each; build/stand-in/libjudge.a has the Rust judge and writer behind the same interface,
+# The archive that judges, writes and tells best play, a member for each; build/stand-in/libjudge.a has the Rust ones behind the same interface,
 # as build/stand-in/libtally.a has the Rust tally behind that of build/libtally.a.
 ARCHIVE = build/libjudge.a
 TALLY_ARCHIVE = build/libtally.a
@@ -27,6 +28,7 @@ TREE = target/bin/tree
 SHEET = target/bin/sheet
 CELLS = target/bin/cells
 SLIP = target/bin/slip
+BEST = target/bin/best
 TEAM = target/bin/team
 MERGES = target/bin/try_merges
 
@@ -53,15 +55,15 @@ rt-tool:
 tools: rt-tool
 	$(call need,$(CC) $(CXX) cargo valgrind)
 
-$(ARCHIVE) $(TALLY_ARCHIVE) $(TREE) $(SHEET) $(CELLS) $(SLIP) $(TEAM) $(MERGES): | rt-tool
+$(ARCHIVE) $(TALLY_ARCHIVE) $(TREE) $(SHEET) $(CELLS) $(SLIP) $(BEST) $(TEAM) $(MERGES): | rt-tool
 
 SOURCES = crates.txt $(shell find crates -name '*.rt' -o -name '*.antt')
 
 target/staticlib/lib%.a: $(SOURCES) | rt-tool
 	rt staticlib $*
 
-# Judge and writer are compiled apart: docs/PERFORMANCE.md says why.
-build/libjudge.a: target/staticlib/libjudge.a target/staticlib/libwriter.a
+# Judge, writer and best play are compiled apart: docs/PERFORMANCE.md says why.
+build/libjudge.a: target/staticlib/libjudge.a target/staticlib/libwriter.a target/staticlib/libbest_record.a
 	$(call need,$(AR))
 	@mkdir -p build
 	@rm -f $@
@@ -98,7 +100,7 @@ build/standings: $(TALLY_ARCHIVE) $(wildcard scoring/* terminal/*) include/tally
 	@mkdir -p build
 	$(CC) $(CFLAGS) -Iinclude -Iterminal scoring/standings.c $(SCORING) $(TALLY_ARCHIVE) -o $@
 
-demo: build/terminal build/section build/standings $(SHEET) $(CELLS) $(SLIP)
+demo: build/terminal build/section build/standings $(SHEET) $(CELLS) $(SLIP) $(BEST)
 	@echo "Records that are accepted:"
 	@build/terminal $(sort $(filter-out samples/refused-%,$(wildcard samples/*.hex)))
 	@echo "Records that are refused:"
@@ -109,6 +111,8 @@ demo: build/terminal build/section build/standings $(SHEET) $(CELLS) $(SLIP)
 	@$(CELLS) <samples/scores
 	@echo "The slip of a record:"
 	@$(SLIP) <crates/try_slip/data/east-west
+	@echo "What best play would give from a record:"
+	@$(BEST) <crates/try_best/data/claim-best-play
 	@mkdir -p build/work/demo
 	@for text in samples/sections/*.txt; do build/terminal -w $$text >build/work/demo/$$(basename $$text .txt) || exit 1; done
 	@build/section build/work/demo/A build/work/demo/a-*
@@ -138,7 +142,7 @@ install-files:
 build/rust-built: $(ARCHIVE) $(TALLY_ARCHIVE) FORCE | tools
 	$(CARGO) build --release --offline --locked --quiet
 
-outside: tools build/rust-built build/terminal build/section build/standings $(TREE) $(SHEET) $(CELLS) $(SLIP) $(TEAM)
+outside: tools build/rust-built build/terminal build/section build/standings $(TREE) $(SHEET) $(CELLS) $(SLIP) $(BEST) $(TEAM)
 	$(CC) $(CFLAGS) -Iinclude tests/c/header.c $(ARCHIVE) -o build/header-c
 	valgrind --quiet --error-exitcode=1 build/header-c
 	$(CXX) $(CXXFLAGS) -Iinclude -x c++ tests/c/header.c -x none $(ARCHIVE) -o build/header-c++
@@ -166,6 +170,7 @@ outside: tools build/rust-built build/terminal build/section build/standings $(T
 	$(RUST)/trees --program $(TREE) --count $(TREES) $(SEED_WORDS)
 	$(RUST)/sheets --program $(SHEET) --cells $(CELLS) --count $(SHEETS) $(SEED_WORDS)
 	$(RUST)/slips --program $(SLIP) --count $(SLIPS) $(SEED_WORDS)
+	$(RUST)/endings --program $(BEST) --count $(ENDINGS) $(SEED_WORDS)
 	$(RUST)/teams --program $(TEAM) --count $(TEAMS) $(SEED_WORDS)
 	$(RUST)/blocks $(or $(SEED),64) $(BLOCKS) >build/blocks.records
 	$(CC) $(CFLAGS) -g -Iinclude tests/c/blocks.c $(ARCHIVE) -o build/blocks
@@ -179,8 +184,8 @@ outside: tools build/rust-built build/terminal build/section build/standings $(T
 	$(CC) $(CFLAGS) -Iinclude tests/c/stack.c $(ARCHIVE) -o build/stack
 	build/stack build/blocks.records
 
-# A fifth of the time for records, a tenth each for records with penalty cards, contents, tallies, trees, sheets, slips and team matches.
-fuzz: build/rust-built $(TREE) $(SHEET) $(CELLS) $(SLIP) $(TEAM)
+# A tenth of the time each for records, records with penalty cards, contents, tallies, trees, sheets, slips, endings and team matches, and another for records.
+fuzz: build/rust-built $(TREE) $(SHEET) $(CELLS) $(SLIP) $(BEST) $(TEAM)
 	$(RUST)/records --seconds $$(($(FUZZ_SECONDS) / 5)) $(SEED_WORDS)
 	$(RUST)/penalties --seconds $$(($(FUZZ_SECONDS) / 10)) $(SEED_WORDS)
 	$(RUST)/writes --seconds $$(($(FUZZ_SECONDS) / 10)) $(SEED_WORDS)
@@ -188,6 +193,7 @@ fuzz: build/rust-built $(TREE) $(SHEET) $(CELLS) $(SLIP) $(TEAM)
 	$(RUST)/trees --program $(TREE) --seconds $$(($(FUZZ_SECONDS) / 10)) $(SEED_WORDS)
 	$(RUST)/sheets --program $(SHEET) --cells $(CELLS) --seconds $$(($(FUZZ_SECONDS) / 10)) $(SEED_WORDS)
 	$(RUST)/slips --program $(SLIP) --seconds $$(($(FUZZ_SECONDS) / 10)) $(SEED_WORDS)
+	$(RUST)/endings --program $(BEST) --seconds $$(($(FUZZ_SECONDS) / 10)) $(SEED_WORDS)
 	$(RUST)/teams --program $(TEAM) --seconds $$(($(FUZZ_SECONDS) / 10)) $(SEED_WORDS)
 
 bench: build/rust-built $(MERGES)

@@ -1,6 +1,7 @@
-/* The judge and the writer of table records of duplicate bridge, for C99 and C++.
+/* The judge and the writer of table records of duplicate bridge, and what best play would give from one, for C99 and C++.
  *
- * The library libjudge.a has two functions, judge_record and judge_write_record. docs/RULES.md has the record's layout and the rules.
+ * The library libjudge.a has three functions, judge_record, judge_write_record and judge_best_play. docs/RULES.md has the record's
+ * layout and the rules.
  *
  * Proved, of the library's source: what this header says that they return, write and leave, for every record, all contents and every
  * buffer. Not proved, and tried by tests: the compiler's work on that source, and all else in this header, which is plain C. */
@@ -12,7 +13,7 @@
 
 /* The version of this interface. A changed signature or size raises the first number, a function more the second. */
 #define JUDGE_VERSION_MAJOR 4
-#define JUDGE_VERSION_MINOR 0
+#define JUDGE_VERSION_MINOR 1
 
 #ifdef __cplusplus
 extern "C" {
@@ -65,6 +66,20 @@ uint32_t judge_write_record(uint32_t board, uint32_t table, const uint8_t *holde
                             size_t calls_len, const uint8_t *cards, size_t cards_len, uint32_t marked, uint32_t claim,
                             uint8_t *record, size_t record_len);
 
+/* Says what best play would give from a record's last card on, at a trick's end with at most sixteen cards left: how many of the tricks
+ * left declarer's side takes if all hands are seen, suit is followed where possible, nothing else binds, and each side plays its best.
+ *
+ * Returns the tricks, 0 to 4, and no more than are left. Otherwise returns refusal * 1024 + place: first what judge_record refuses the
+ * record with up to its last card, with the same number and place in the same order; then 31, where the board is passed out, more than
+ * sixteen cards are left or a trick is under way. A claim, padding and bytes behind the last card are not looked at, so 1, 13 to 16, and
+ * the 2 of a claim do not occur. After all 52 cards the answer is 0.
+ *
+ * It takes longest with four tricks left; docs/PERFORMANCE.md has what was measured.
+ *
+ * No record and no length is trusted. C has to see to it that the pointer has as many bytes as the length says; a null pointer beside the
+ * length 0 is refused with 2. Nothing is written, and nothing is kept between calls. */
+uint32_t judge_best_play(const uint8_t *record, size_t record_len);
+
 /* The refusals by number. Calls and plays count from 0; a mark counts among the calls, and takes no turn; an exposure or a choice does not
  * count among the plays, and its place is that of the card that it stands before.
  *
@@ -103,6 +118,7 @@ enum judge_refusal {
     JUDGE_EXPOSURE_NOT_ALLOWED = 25, /* Law 48: exposed is no card in a defender's hand, or is faced already; place: the play */
     JUDGE_CHOICE_NOT_OPEN = 26,      /* Law 50D2: choice for a lead that is not open; writing, a code that is broken or has no card after it; place: the play */
     JUDGE_TOO_MANY_CODES = 27,       /* more than 40 exposures and choices; place: the play */
+    JUDGE_NO_ENDING = 31,            /* judge_best_play alone: passed out, more than 16 cards left, or not at a trick's end; place 0 */
     JUDGE_TOO_MANY_CALLS = 33        /* judge_write_record alone: more than 511 codes of calls; place 511 */
 };
 

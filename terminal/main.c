@@ -27,7 +27,7 @@ static enum status judge(const char *name, const struct bytes *record, int trick
     uint32_t number = judge_record(record->at, record->length, answer, sizeof answer, revokes, sizeof revokes, failures,
                                    sizeof failures, winners, sizeof winners);
     if (number == 0) {
-        print_judgement(stdout, answer, revokes, failures);
+        print_judgement(stdout, record->at, record->length, answer, revokes, failures);
         if (tricks) print_play(stdout, record->at, answer, winners);
         return ACCEPTED;
     }

@@ -33,7 +33,27 @@ static void print_failures(FILE *out, const uint8_t *failures) {
     }
 }
 
-void print_judgement(FILE *out, const uint8_t *answer, const uint8_t *revokes, const uint8_t *failures) {
+/* So many bits of an accepted record, from a bit on. */
+static unsigned bits_of(const uint8_t *record, size_t at, unsigned width) {
+    unsigned value = 0;
+    for (size_t bit = at; bit < at + width; bit++) value = value << 1 | (record[bit / 8] >> (7 - bit % 8) & 1u);
+    return value;
+}
+
+/* The play count of an accepted record, which stands behind board, table, deal, call count and calls. */
+static unsigned play_count(const uint8_t *record) {
+    unsigned calls = bits_of(record, 120, 9);
+    return bits_of(record, 129 + 6 * (size_t)calls, 6);
+}
+
+static void print_best_play(FILE *out, const uint8_t *record, size_t length) {
+    uint32_t tricks = judge_best_play(record, length);
+    unsigned left = 13 - play_count(record) / 4;
+    if (judge_is_refusal(tricks) || left == 0) return;
+    fprintf(out, "; best play: %u of the %u trick%s left", (unsigned)tricks, left, left == 1 ? "" : "s");
+}
+
+void print_judgement(FILE *out, const uint8_t *record, size_t length, const uint8_t *answer, const uint8_t *revokes, const uint8_t *failures) {
     struct judge_judgement j = judge_unpack(answer);
     fprintf(out, "Board %u table %u: ", j.board, j.table);
     if (j.level == 0) {
@@ -46,6 +66,7 @@ void print_judgement(FILE *out, const uint8_t *answer, const uint8_t *revokes, c
     fprintf(out, "NS %d", j.score);
     print_revokes(out, revokes, j.revokes);
     print_failures(out, failures);
+    print_best_play(out, record, length);
     fprintf(out, "\n");
 }
 
@@ -82,6 +103,7 @@ void print_refusal(FILE *out, uint32_t number) {
     case JUDGE_EXPOSURE_NOT_ALLOWED: fprintf(out, "play %u: exposed is no card in a defender's hand, or is faced already\n", place); return;
     case JUDGE_CHOICE_NOT_OPEN: fprintf(out, "play %u: choice of a lead not open, or no card after an exposure or choice\n", place); return;
     case JUDGE_TOO_MANY_CODES: fprintf(out, "play %u: more than 40 exposures and choices\n", place); return;
+    case JUDGE_NO_ENDING: fprintf(out, "passed out, more than 16 cards left, or not at a trick's end\n"); return;
     case JUDGE_TOO_MANY_CALLS: fprintf(out, "more than %u calls and marks\n", place); return;
     case JUDGE_CARD_ALREADY_PLAYED: fprintf(out, "play %u: card already played\n", place); return;
     case JUDGE_NOT_ENDED: fprintf(out, "a padding bit is 1, or a byte follows the record\n"); return;

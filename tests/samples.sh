@@ -1,6 +1,6 @@
 #!/bin/sh
-# Holds the bytes of each sample to the record in words beside it, by the program write_record, whose path is given; and the records that try_slip reads
-# to their words, beside them or among the samples.
+# Holds the bytes of each sample to the record in words beside it, by the program write_record, whose path is given; and the records that try_slip and
+# try_best read to their words, beside them or among the samples.
 set -u
 writer=$1
 failed=0
@@ -20,7 +20,7 @@ held() {
     fi
 }
 
-for program in slip; do
+for program in slip best; do
     data=crates/try_$program/data
     for record in "$data"/*; do
         name=$(basename "$record" .txt)

@@ -1,5 +1,5 @@
 /* Tries include/judge.h as C99 and as C++: the helpers on bytes worked out by hand, null pointers, short buffers, the order of the
- * checks, the passed-out board of docs/RULES.md, judged and written, and a record with a penalty card. */
+ * checks, the passed-out board of docs/RULES.md, judged and written, a record with a penalty card, and best play from an ending. */
 #include "judge.h"
 
 #include <stdio.h>
@@ -98,6 +98,7 @@ static void unpacks_a_number(void) {
     expect("a wrong exposure", JUDGE_EXPOSURE_NOT_ALLOWED, 25);
     expect("a choice that is not open", JUDGE_CHOICE_NOT_OPEN, 26);
     expect("too many exposures and choices", JUDGE_TOO_MANY_CODES, 27);
+    expect("no ending", JUDGE_NO_ENDING, 31);
     expect("too many calls", JUDGE_TOO_MANY_CALLS, 33);
     expect("the list of revokes", JUDGE_REVOKE_BYTES, 48);
     expect("the list of failures", JUDGE_FAILURE_BYTES, 52);
@@ -106,7 +107,7 @@ static void unpacks_a_number(void) {
     expect("a length is no refusal", judge_is_refusal(1023), 0);
     expect("a refusal", judge_is_refusal(3 * 1024), 1);
     expect("the version's first number", JUDGE_VERSION_MAJOR, 4);
-    expect("the version's second number", JUDGE_VERSION_MINOR >= 0, 1);
+    expect("the version's second number", JUDGE_VERSION_MINOR >= 1, 1);
 }
 
 /* N all clubs, E diamonds, S hearts, W spades, four passes; and a byte that is no part of it. */
@@ -272,6 +273,23 @@ static void refuses_to_write(void) {
     expect("the buffer after a refusal", memcmp(record, all_fives, sizeof record), 0);
 }
 
+/* samples/claim-best-play.txt: S leads H2, which nobody can follow, and W has the three clubs that are left: one of the four tricks. */
+static const uint8_t ENDING[48] = {
+    0x02, 0x03, 0x2A, 0x54, 0x0F, 0xD0, 0x3F, 0xA9, 0x59, 0x50, 0x3F, 0xAB, 0xFE, 0xA5, 0x40, 0x02,
+    0x0E, 0x00, 0x00, 0x48, 0xCA, 0x88, 0x9C, 0xC2, 0xA9, 0x1E, 0xBA, 0xC9, 0xA1, 0x75, 0x74, 0x67,
+    0x95, 0xF6, 0x53, 0x8E, 0x16, 0xD4, 0xF3, 0x73, 0x43, 0x2C, 0x4F, 0xB9, 0x24, 0x70, 0x3B, 0x20,
+};
+
+static void asks_best_play(void) {
+    expect("one of four tricks", (long)judge_best_play(ENDING, sizeof ENDING), 1);
+    expect("the same without its claim", (long)judge_best_play(ENDING, sizeof ENDING - 1), 1);
+    expect("the same without its last card", (long)judge_best_play(ENDING, sizeof ENDING - 2), 2 * 1024);
+    expect("a passed-out board", (long)judge_best_play(PASSED_OUT, 21), 31 * 1024);
+    expect("48 cards left", (long)judge_best_play(LOW_CARD, 26), 31 * 1024);
+    expect("a low bid after the end", (long)judge_best_play(LOW_AFTER_END, 20), 8 * 1024 + 4);
+    expect("null record for best play", (long)judge_best_play(NULL, 0), 2 * 1024);
+}
+
 int main(void) {
     unpacks_the_answer();
     unpacks_the_largest();
@@ -287,5 +305,6 @@ int main(void) {
     writes_the_example();
     writes_a_code();
     refuses_to_write();
+    asks_best_play();
     return failed;
 }

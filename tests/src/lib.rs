@@ -1,8 +1,9 @@
-//! A judge, a writer, a tally, a sheet, a slip and a team match for duplicate bridge, written from docs/RULES.md alone, and what is needed to compare
-//! the proved library with them: records of all shapes, damaged records, their contents, tallies in bytes and forged
-//! ones, trees of tally calls, sheets, team matches.
+//! A judge, a writer, best play from an ending, a tally, a sheet, a slip and a team match for duplicate bridge, written from docs/RULES.md alone, and what is
+//! needed to compare the proved library with them: records of all shapes, damaged records, their contents, endings, tallies in bytes and forged ones, trees
+//! of tally calls, sheets, team matches.
 
 pub mod auction;
+pub mod best;
 pub mod compare;
 pub mod contents;
 pub mod damage;

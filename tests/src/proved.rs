@@ -1,4 +1,4 @@
-//! The proved judge and writer, as the archive exports them.
+//! The proved judge, writer and best play, as the archive exports them.
 use crate::contents::Contents;
 use crate::judge::Lent;
 
@@ -29,6 +29,7 @@ extern "C" {
         record: *mut u8,
         record_len: usize,
     ) -> u32;
+    fn judge_best_play(record: *const u8, record_len: usize) -> u32;
 }
 
 /// The proved judge on slices. Rust's slices keep what its C interface trusts: true lengths and no overlap.
@@ -68,4 +69,9 @@ pub fn write(c: &Contents, record: &mut [u8]) -> u32 {
             record.len(),
         )
     }
+}
+
+/// The proved best play on a slice.
+pub fn best(record: &[u8]) -> u32 {
+    unsafe { judge_best_play(record.as_ptr(), record.len()) }
 }

@@ -45,6 +45,13 @@ pub unsafe extern "C" fn judge_write_record(
     crate::writer::write(&Contents { board, table, holders, calls, cards, marked, claim }, lent(record, record_len))
 }
 
+/// # Safety
+/// As for `judge_record`.
+#[no_mangle]
+pub unsafe extern "C" fn judge_best_play(record: *const u8, record_len: usize) -> u32 {
+    crate::best::best(given(record, record_len))
+}
+
 unsafe fn given<'a>(at: *const u8, length: usize) -> &'a [u8] {
     if at.is_null() {
         &[]

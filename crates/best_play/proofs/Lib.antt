@@ -1,3 +1,5 @@
+pub mod Window
 pub mod Search
 pub mod Cards
 pub mod Laws
+pub mod SomeCard

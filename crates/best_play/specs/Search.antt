@@ -1,5 +1,5 @@
 -- The search for best play on the position that the code keeps. Assumes nothing.
-use Prim.Native.Nat.{ℕ, zero, suc, _+_, _-_, _%_}
+use Prim.Native.Nat.{ℕ, zero, suc, _+_, _-_, _%_, max, min}
 use mathlib.Core.Bool.{Bool, true, false, not, _&&_}
 use lib.Dec.{eqb, leb, ltb}
 use Rattle.laws.specs.Choice.{if_then_else_}
@@ -7,6 +7,10 @@ use Rattle.laws.specs.Cards.{suitOf, dealtTo}
 use Rattle.laws.specs.BestPlay.{greatest, smallest}
 use Rattle.play.specs.declared.Play.{Play}
 use Rattle.play.specs.Position.{turnOf, couldFollow, leads, step}
+
+-- the nearest number to x from a floor to a ceiling
+unfoldable pub within : ℕ → ℕ → ℕ → ℕ
+within floor ceiling x = max floor (min ceiling x)
 
 -- the card may be played: the seat at turn holds it, and leads, follows, or has no card of the suit led
 unfoldable pub mayIn : Play → ℕ → Bool

@@ -1,19 +1,28 @@
 // What best play would give from a position: two functions that call each other on alternating sides' turns, with one card fewer each time.
 use play::Play;
 ghost use mathlib.Core.Path.{_≡_};
-ghost use Prim.Native.Nat.{_+_, _≤_, max, min};
-ghost use Rattle.best_play.specs.Search.{mayIn, gainIn, oursIn, mostIn, leastIn, bestIn};
+ghost use Prim.Native.Nat.{_-_, _≤_};
+ghost use Rattle.best_play.specs.Search.{within, mayIn, gainIn, oursIn, mostIn, leastIn, bestIn};
 
-fn more(a: u16, b: u16) -> u16
-    ensures { λ r. ⌜ r ≡ max a b ⌝ }
+// The nearest number to x from the floor to the ceiling.
+fn nearest(floor: u16, ceiling: u16, x: u16) -> u16
+    requires { ⌜ floor ≤ ceiling ⌝ }
+    ensures { λ r. ⌜ (r ≡ within floor ceiling x) × (floor ≤ r) × (r ≤ ceiling) ⌝ }
 {
-    if a < b { b } else { a }
+    if x < floor {
+        return floor;
+    }
+    if ceiling < x {
+        return ceiling;
+    }
+    x
 }
 
+// What is left of a, or 0.
 fn less(a: u16, b: u16) -> u16
-    ensures { λ r. ⌜ r ≡ min a b ⌝ }
+    ensures { λ r. ⌜ r ≡ a - b ⌝ }
 {
-    if b < a { b } else { a }
+    if a < b { 0 } else { a - b }
 }
 
 // Whether a card may be played: it is in the hand of the seat at turn, and of the suit led where that seat holds it.
@@ -56,50 +65,63 @@ fn is_ours(p: Play, side: u64) -> bool
     p.turn() % 2 == side
 }
 
-// Declarer's side picks the most, with so many cards left.
-fn most(p: Play, side: u64, left: u8) -> u16
-    ensures { λ r. ⌜ (r ≡ mostIn side left p) × (r ≤ 13 + left) ⌝ }
+// Declarer's side picks the most, with so many cards left. It is told as far as it lies from the floor to the ceiling: where it reaches the ceiling, no other
+// card is tried.
+fn most(p: Play, side: u64, left: u8, floor: u16, ceiling: u16) -> u16
+    requires { ⌜ (floor ≤ ceiling) × (ceiling ≤ 1000) ⌝ }
+    ensures { λ r. ⌜ (r ≡ within floor ceiling (mostIn side left p)) × (floor ≤ r) × (r ≤ ceiling) ⌝ }
 {
     if left == 0 {
-        return 0;
+        return floor;
     }
-    let mut best: u16 = 0;
+    let mut best = floor;
     let mut card: u8 = 0;
     while card < 52 {
+        if best == ceiling {
+            return best;
+        }
         let c = card;
         card += 1;
         if may_play(p, c) {
             let after = p.play(c);
             let gained = gain(after, side);
+            let low = less(best, gained);
+            let high = ceiling - gained;
             if is_ours(after, side) {
-                best = more(best, gained + most(after, side, left - 1));
+                best = gained + most(after, side, left - 1, low, high);
             } else {
-                best = more(best, gained + least(after, side, left - 1));
+                best = gained + least(after, side, left - 1, low, high);
             }
         }
     }
     best
 }
 
-// The defenders pick the least.
-fn least(p: Play, side: u64, left: u8) -> u16
-    ensures { λ r. ⌜ (r ≡ leastIn side left p) × (r ≤ 13 + left) ⌝ }
+// The defenders pick the least; where it reaches the floor, no other card is tried.
+fn least(p: Play, side: u64, left: u8, floor: u16, ceiling: u16) -> u16
+    requires { ⌜ (floor ≤ ceiling) × (ceiling ≤ 1000) ⌝ }
+    ensures { λ r. ⌜ (r ≡ within floor ceiling (leastIn side left p)) × (floor ≤ r) × (r ≤ ceiling) ⌝ }
 {
     if left == 0 {
-        return 0;
+        return floor;
     }
-    let mut best: u16 = 13;
+    let mut best = nearest(floor, ceiling, 13);
     let mut card: u8 = 0;
     while card < 52 {
+        if best == floor {
+            return best;
+        }
         let c = card;
         card += 1;
         if may_play(p, c) {
             let after = p.play(c);
             let gained = gain(after, side);
+            let low = less(floor, gained);
+            let high = best - gained;
             if is_ours(after, side) {
-                best = less(best, gained + most(after, side, left - 1));
+                best = gained + most(after, side, left - 1, low, high);
             } else {
-                best = less(best, gained + least(after, side, left - 1));
+                best = gained + least(after, side, left - 1, low, high);
             }
         }
     }
@@ -115,7 +137,7 @@ pub fn best_play(p: Play, side: u64) -> u16
     }
     let left = (52 - p.played) as u8;
     if is_ours(p, side) {
-        return most(p, side, left);
+        return most(p, side, left, 0, 65);
     }
-    least(p, side, left)
+    least(p, side, left, 0, 65)
 }

@@ -49,6 +49,7 @@ pub mod FirstBytes
 pub mod Slip
 pub mod BestPlay
 pub mod PlayedOut
+pub mod LineTricks
 pub mod CardsAlone
 pub mod PlaysListed
 pub mod LeadRevokes

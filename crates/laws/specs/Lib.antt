@@ -37,6 +37,7 @@ pub mod Lengths
 pub mod BestPlay
 pub mod Lines
 pub mod LastCard
+pub mod BestRecord
 pub mod Tally
 pub mod Decimal
 pub mod Sheet
@@ -44,3 +45,4 @@ pub mod Percentages
 pub mod CellSheet
 pub mod TeamMatch
 pub mod Slip
+pub mod BestText

@@ -147,6 +147,10 @@ boardNotFree = 29
 abbrev pub tooManyBoards : ℕ
 tooManyBoards = 30
 
+-- best play asked for on a board that was passed out, with more than sixteen cards left, or not at a trick's end
+abbrev pub noEnding : ℕ
+noEnding = 31
+
 -- more than 511 codes of calls and marks given for a record
 abbrev pub tooManyCalls : ℕ
 tooManyCalls = 33

@@ -95,6 +95,9 @@ pub const BOARD_NOT_FREE: u8 = 29;
 // A 33rd board of a team match.
 pub const TOO_MANY_BOARDS: u8 = 30;
 
+// Best play asked for on a board that was passed out, with more than sixteen cards left, or not at a trick's end.
+pub const NO_ENDING: u8 = 31;
+
 // More than 511 codes of calls and marks given for a record.
 pub const TOO_MANY_CALLS: u8 = 33;
 

@@ -27,6 +27,7 @@ pub mod TeamMatchReached
 pub mod TeamMatch
 pub mod Slip
 pub mod BestPlay
+pub mod BestRecord
 pub mod TallyNumbers
 pub mod TallyInRecord
 pub mod TallyBytes

@@ -17,6 +17,7 @@ pub mod PenaltyCards
 pub mod TeamMatch
 pub mod Slip
 pub mod BestPlay
+pub mod BestRecord
 pub mod TallyBytes
 pub mod Demand3Bytes
 pub mod Reduction
