@@ -58,3 +58,14 @@ pub mod OneCard
 pub mod TallyRules
 pub mod OneDeal
 pub mod TricksWon
+pub mod PbnOrder
+pub mod PbnWords
+pub mod PbnDeal
+pub mod PbnLines
+pub mod PbnStages
+pub mod PbnSteps
+pub mod PbnParse
+pub mod PbnWhole
+pub mod PbnPlace
+pub mod PbnRecord
+pub mod PbnSame

@@ -46,3 +46,7 @@ pub mod CellSheet
 pub mod TeamMatch
 pub mod Slip
 pub mod BestText
+pub mod PbnText
+pub mod PbnOrder
+pub mod PbnReading
+pub mod Pbn

@@ -151,6 +151,10 @@ tooManyBoards = 30
 abbrev pub noEnding : ℕ
 noEnding = 31
 
+-- a text outside the subset of Portable Bridge Notation; the seat of its Auction tag is not the dealer, or Play or its seat is not as the calls have it
+abbrev pub outsideSubset : ℕ
+outsideSubset = 32
+
 -- more than 511 codes of calls and marks given for a record
 abbrev pub tooManyCalls : ℕ
 tooManyCalls = 33

@@ -98,6 +98,9 @@ pub const TOO_MANY_BOARDS: u8 = 30;
 // Best play asked for on a board that was passed out, with more than sixteen cards left, or not at a trick's end.
 pub const NO_ENDING: u8 = 31;
 
+// A text outside the subset of Portable Bridge Notation, or a tag's seat that is not the calls'.
+pub const OUTSIDE_SUBSET: u8 = 32;
+
 // More than 511 codes of calls and marks given for a record.
 pub const TOO_MANY_CALLS: u8 = 33;
 

@@ -33,3 +33,4 @@ pub mod TallyInRecord
 pub mod TallyBytes
 pub mod Demand3Bytes
 pub mod Reduction
+pub mod Pbn

@@ -21,3 +21,4 @@ pub mod BestRecord
 pub mod TallyBytes
 pub mod Demand3Bytes
 pub mod Reduction
+pub mod Pbn
