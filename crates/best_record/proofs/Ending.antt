@@ -24,9 +24,9 @@ use Rattle.penalty.proofs.AtMost.{cards-allowed}
 use Rattle.penalty.proofs.TableStands.{play-is}
 use Rattle.best_play.specs.Search.{bestIn}
 use Rattle.best_play.proofs.Laws.{best-is}
-use Rattle.judge.specs.declared.reached.Reached.{Reached}
-use Rattle.judge.specs.Reached.{reachedOf}
-use Rattle.judge.proofs.Reaching.{events-played}
+use Rattle.last_card.specs.declared.reached.Reached.{Reached}
+use Rattle.last_card.specs.Reached.{reachedOf}
+use Rattle.last_card.proofs.Standing.{events-played}
 use Rattle.best_record.specs.Ending.{endingAt}
 
 -- ---- an ending, by the number of cards played

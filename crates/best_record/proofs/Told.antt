@@ -18,7 +18,7 @@ use Rattle.laws.proofs.Numbered.{Fair, fair-last-card}
 use Rattle.laws.proofs.LastCard.{last-card-found}
 use Rattle.penalty.proofs.AtMost.{cards-allowed}
 use Rattle.best_play.proofs.SomeCard.{at-most-left}
-use Rattle.judge.proofs.Reaching.{events-played}
+use Rattle.last_card.proofs.Standing.{events-played}
 use Rattle.best_record.proofs.Ending.{rest, said-is}
 
 -- a refusal up to the last card is 2 to 27

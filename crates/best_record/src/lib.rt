@@ -1,6 +1,6 @@
 // What best play would give from a table record, for C: the record is read up to its last card, and the tricks left that declarer's side takes are told.
 use best_play::best_play;
-use judge::read_to_last_card;
+use last_card::read_to_last_card;
 use laws::NO_ENDING;
 use laws::refusal_number;
 ghost use mathlib.Core.Path.{_≡_};

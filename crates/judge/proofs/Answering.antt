@@ -1,43 +1,31 @@
 -- What judging a record comes to in the number returned and in the four buffers. Assumes nothing.
-use Prim.Native.Nat.{ℕ, _≤_, _<_, _+_, _-_, _*_, _/_, _%_}
+use Prim.Native.Nat.{ℕ, _≤_, _<_, _+_, _*_, _/_, _%_}
 use native.Mathlib.Nat.{zero-add, div-one}
 use native.Mathlib.Numerals.{add-one}
 use native.Mathlib.Omega.{arith}
-use mathlib.Core.Path.{_≡_, refl, sym, ap, _∙_, subst}
-use mathlib.Core.Bool.{Bool, true, false}
-use mathlib.Core.List.{List, [], _∷_, _++_, map, map-map, map-id, reverse-reverse}
+use mathlib.Core.Path.{_≡_, refl, ap, _∙_, subst}
+use mathlib.Core.List.{List, [], _∷_, _++_, map}
 use borrow.Author.Tests.{lt-ltb, le-ltb}
 use lib.ListN.{length, take, drop, getD, set, length-map, List·getD-map}
 use lib.Seq.{paste-suc}
-use Rattle.laws.specs.Auction.{passedOut}
-use Rattle.laws.specs.Record.{Parts, bits, number, bytesOf, packed}
+use Rattle.laws.specs.Record.{Parts, number, bytesOf}
 use Rattle.laws.specs.Reading.{Reading, Reading.refused, Reading.found, refuse}
-use Rattle.laws.specs.LastCard.{readToLastCard, readBehind}
 use Rattle.laws.specs.Judge as Judge
-use Rattle.laws.specs.Events as Events
 use Rattle.laws.specs.Failures.{failureBytes}
 use Rattle.laws.specs.Law44.{Won}
-use Rattle.laws.specs.Padded.{padded}
-use Rattle.laws.specs.Judgement.{answerFields, answerBytes, playedFields, callsOf, wonTricksOf, revokesOf, failuresOf, revokeByte, revokeBytes}
-use Rattle.laws.specs.Judgement.{failuresBytes, wonBytes, winnersBytes}
+use Rattle.laws.specs.Judgement.{answerFields, wonTricksOf, revokesOf, failuresOf, revokeByte, revokeBytes, failuresBytes, wonBytes}
 use Rattle.laws.specs.Lent.{roomsOf, _over_, answerLeft, listLeft, failuresLeft, winnersLeft}
 use Rattle.laws.proofs.Bytes.{length-bytes}
-use Rattle.laws.proofs.Padded.{padded-back, length-padded, take-map}
-use Rattle.laws.proofs.TricksWon.{bytes-long, byte-seat, byte-card, bytes-first}
+use Rattle.laws.proofs.Padded.{padded-back, length-padded}
+use Rattle.laws.proofs.TricksWon.{bytes-long, byte-seat, byte-card}
 use Rattle.laws.proofs.Accepts.{lent-is}
 use Rattle.laws.proofs.Numbered.{Ruled, ruled, not-0}
-use Rattle.laws.proofs.Readings.{first-of, first-ending}
-use Rattle.laws.proofs.LastCard.{record-is, last-card-found}
 use Rattle.play.specs.declared.Won.{Won as Told}
 use Rattle.play.specs.Told.{noTrick}
-use Rattle.play.specs.History.{toldOf, lawOf}
-use Rattle.play.proofs.Thirteen.{at-most-52}
-use Rattle.penalty.proofs.AtMost.{cards-allowed, at-most-48}
-use Rattle.transfer.proofs.History.{few-tricks}
-use Rattle.judge.specs.declared.whole.Judged.{Judged}
-use Rattle.judge.specs.Whole.{judgedOf, listedIn, tricksTold}
-use Rattle.judge.proofs.Composing.{found-same}
-use Rattle.judge.proofs.Reaching.{events-played}
+use Rattle.play.specs.History.{lawOf}
+use Rattle.judgement.specs.declared.whole.Judged.{Judged}
+use Rattle.judgement.specs.Whole.{judgedOf, listedIn}
+use Rattle.judgement.proofs.Told.{seven-bytes, few-found, tricks-count, winners-told, winners-long}
 
 -- ---- bytes over the front of a buffer
 -- a turn of a loop that copies s over the front of d
@@ -66,69 +54,6 @@ pub seven : (x : ℕ) {a b c d e f g : ℕ} → a ≡ x / 281474976710656 % 256 
     → e ≡ x / 65536 % 256 → f ≡ x / 256 % 256 → g ≡ x % 256 → a ∷ b ∷ c ∷ d ∷ e ∷ f ∷ g ∷ [] ≡ bytesOf 7 x
 unfolding bytesOf
 seven x p q r s t u v = rw (p, q, r, s, t, u, v, div-one x)
-
--- ---- the answer's fields make seven bytes
-pub answer-bits : (p : Parts) → bits (answerFields p) ≡ 56
-unfolding answerFields playedFields bits
-answer-bits p = go (passedOut (callsOf p)) refl
-  where
-    go : (out : Bool) → passedOut (callsOf p) ≡ out → bits (answerFields p) ≡ 56
-    go true e = rw e
-    go false e = rw e
-
-pub seven-bytes : (p : Parts) → answerBytes p ≡ bytesOf 7 (number (answerFields p))
-unfolding answerBytes packed
-seven-bytes p = rw (answer-bits p)
-
-pub seven-long : (p : Parts) → length (answerBytes p) ≡ 7
-seven-long p = rw (seven-bytes p) (length-bytes 7 (number (answerFields p)))
-
--- ---- what a record that was read has at the most
-pub record Few (p : Parts) : Type 0 where
-  pub revokes : length (revokesOf p) ≤ 48
-  pub tricks : length (wonTricksOf p) ≤ 13
-
-pub few-found : (bytes : List ℕ) {p : Parts} {e : ℕ} → Judge.readRecord bytes 0 ≡ found p e → Few p
-unfolding readBehind revokesOf wonTricksOf
-few-found bytes {p} q =
-    let x = first-of (readToLastCard bytes 0) _ (sym (record-is bytes) ∙ q) in
-    let r = x .0 in
-    let c = first-of (Judge.readClaim (r .calls) (Events.cardsOf (r .plays)) bytes (x .1)) _ (x .3) in
-    let z = first-ending bytes (c .1) _ (c .3) in
-    let same = found-same (z .1) .0 in
-    let s = last-card-found bytes r (x .1) (x .2) in
-    let w = events-played s in
-    let played = Events.cardsOf (r .plays) in
-    let most = at-most-52 (r .deal) _ _ (s .dealt .holders) played (cards-allowed (r .deal) _ _ (r .plays) w) in
-    record {
-      revokes = rw (sym same, reverse-reverse (r .calls), reverse-reverse (r .plays))
-          (at-most-48 (r .deal) _ _ (s .dealt .holders) (s .dealt .thirteen) (r .plays) w);
-      tricks = rw (sym same, reverse-reverse (r .calls), reverse-reverse (r .plays)) (few-tricks _ _ played most);
-    }
-
--- ---- at most 13 tricks, and their bytes
-pub tricks-count : (p : Parts) → tricksTold p .count ≡ length (wonTricksOf p)
-unfolding tricksTold
-tricks-count p = length-map (wonTricksOf p) toldOf
-
--- the answers in thirteen places, as the Laws have them, begin with those of the complete tricks
-answers-back : (ws : List Won) → length ws ≤ 13 → take (length ws) (map lawOf (padded noTrick 13 (map toldOf ws))) ≡ ws
-answers-back ws h =
-    let told = map toldOf ws in
-    let many = length-map ws toldOf in
-    take-map lawOf (length ws) (padded noTrick 13 told)
-    ∙ ap (map lawOf) (rw many at (padded-back noTrick 13 told (omega (arith, many))))
-    ∙ map-map lawOf toldOf ws ∙ map-id ws
-
-pub winners-told : (p : Parts) → length (wonTricksOf p) ≤ 13
-    → take (2 * tricksTold p .count) (wonBytes (map lawOf (tricksTold p .answers))) ≡ winnersBytes p
-unfolding winnersBytes tricksTold
-winners-told p h =
-    rw (tricks-count p) (bytes-first (length (wonTricksOf p)) _ ∙ ap wonBytes (answers-back (wonTricksOf p) h))
-
-pub winners-long : (p : Parts) → length (winnersBytes p) ≡ 2 * length (wonTricksOf p)
-unfolding winnersBytes
-winners-long p = bytes-long (wonTricksOf p)
 
 -- four buffers that are long enough
 pub enough-of : (answer list failures winners : List ℕ) → 7 ≤ length answer → 48 ≤ length list → 52 ≤ length failures → 26 ≤ length winners

@@ -1,25 +1,8 @@
-// The judge of table records, for C: the record read in order, scored by Law 77, the answer written.
-mod cards;
-mod claim;
-mod codes;
-mod law77;
-mod plays;
-mod reached;
-mod reading;
-mod runs;
-mod settle;
-mod slip;
-mod whole;
-
-use crate::whole::judge;
+// The judge of table records, for C: the record judged, and the answer written to what was lent.
+use judgement::judge;
 use laws::SHORT_BUFFER;
 use laws::refusal_number;
 use play::Tricks;
-pub use reached::Reached;
-pub use reached::read_to_last_card;
-pub use slip::Explained;
-pub use slip::Items;
-pub use slip::explain;
 ghost use mathlib.Core.Path.{_≡_};
 ghost use mathlib.Core.List.{_++_, map};
 ghost use Prim.Native.Nat.{_*_, _<_, _≤_};

@@ -13,7 +13,7 @@ use Rattle.laws.specs.Lent.{roomsOf, _over_, answerLeft, listLeft, failuresLeft
 use Rattle.laws.proofs.Padded.{length-padded}
 use Rattle.laws.proofs.Accepts.{lent-is}
 use Rattle.laws.proofs.Numbered.{ruled}
-use Rattle.judge.proofs.Answering.{seven-long, Few, few-found, winners-long}
+use Rattle.judgement.proofs.Told.{seven-long, Few, few-found, winners-long}
 use Rattle.promises.specs.Demand1.{saidOf, Demand1}
 use Rattle.promises.proofs.Demand2Accepts.{either, was-found, lent-enough}
 

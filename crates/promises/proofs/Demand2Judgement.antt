@@ -21,9 +21,9 @@ use Rattle.laws.specs.Lent.{roomsOf, _over_, answerLeft, listLeft, failuresLeft
 use Rattle.laws.proofs.Accepts as Accepts
 use Rattle.laws.proofs.Tests.{by-test}
 use Rattle.laws.proofs.Written.{Fit, read-back}
-use Rattle.judge.proofs.Answering.{answer-bits, seven-bytes, Few, few-found}
+use Rattle.judgement.proofs.Told.{answer-bits, seven-bytes, Few, few-found}
 use Rattle.promises.proofs.Demand1.{was-read}
-use Rattle.judge.proofs.Widths.{won-le, after-le, declarer-lt, level-le, strain-le, doubled-le, valid, word-lt}
+use Rattle.judgement.proofs.Widths.{won-le, after-le, declarer-lt, level-le, strain-le, doubled-le, valid, word-lt}
 use Rattle.laws.proofs.PlaysListed.{listed-exactly}
 use Rattle.laws.proofs.LeadRevokes.{disobeys-exactly}
 use Rattle.laws.proofs.FailuresInFull.{failure-exactly}

@@ -17,7 +17,7 @@ use Rattle.laws.proofs.Spelled.{Stands, holds, stands-front}
 use Rattle.tally.specs.InBytes.{dealBytes, dealIn}
 use Rattle.tally.proofs.InBytes.{length-deal-in, bytes-deal-back, slice-bytes}
 use Rattle.tally_bytes.proofs.Places.{slice-at, holder-in}
-use Rattle.judge.proofs.Dealing.{holder-is}
+use Rattle.last_card.proofs.Dealing.{holder-is}
 
 -- a member of a row that stands in bytes
 row-at : (w : ℕ) (bytes : List ℕ) (at : ℕ) (l : List ℕ) {end : ℕ} → Stands bytes at (row w l) end → (i : ℕ) → i < length l

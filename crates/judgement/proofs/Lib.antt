@@ -1,0 +1,10 @@
+pub mod Points
+pub mod Claiming
+pub mod Padding
+pub mod Settling
+pub mod Judging
+pub mod Reaching
+pub mod Told
+pub mod Widths
+pub mod Granting
+pub mod Explaining

@@ -1,0 +1,12 @@
+pub mod Sections
+pub mod Turns
+pub mod CallTurns
+pub mod CodeTurns
+pub mod PlayTurns
+pub mod CardTurns
+pub mod RunTurns
+pub mod Dealing
+pub mod Beginning
+pub mod Composing
+pub mod Standing
+pub mod SixBits
