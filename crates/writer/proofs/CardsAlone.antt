@@ -1,86 +1,25 @@
--- A flat list of plays without a code: each number is a card. Assumes nothing.
-use Prim.Native.Nat.{ℕ, suc, _≤_, _<_, _+_, _*_}
-use native.Mathlib.Omega.{arith}
+-- The fields of a flat list of plays without a code: a row of six bits each. Assumes nothing.
+use Prim.Native.Nat.{ℕ, _*_}
 use mathlib.Core.Path.{_≡_, refl, sym, ap, _∙_}
-use mathlib.Core.Bool.{Bool, true, false, not, _||_}
-use mathlib.Core.List.{List, [], _∷_, _++_, map}
-use lib.Bits.{bitOr}
-use lib.Dec.{eqb}
-use lib.ListN.{length, getD, take}
-use lib.Seq.{take-suc, take-all}
-use Rattle.laws.specs.Choice.{some, howMany}
+use mathlib.Core.Bool.{false}
+use mathlib.Core.List.{List, [], _∷_, map}
+use lib.ListN.{length}
+use Rattle.laws.specs.Choice.{some}
 use Rattle.laws.specs.Events.{played, beginsCode}
-use Rattle.laws.specs.FlatPlay.{Item, event, itemsOf, isCard, cardsIn, eventsAmong}
+use Rattle.laws.specs.FlatPlay.{event, eventsAmong}
 use Rattle.laws.specs.Record.{Field, field, row, bits, eventFields, playFields}
-use Rattle.laws.proofs.Tests.{or-left, or-right}
 use Rattle.laws.proofs.Lengths.{bits-row}
-use Rattle.laws.proofs.FlatPlay.{card-first}
-use Rattle.play.specs.Words.{bitOf}
-use Rattle.writer.specs.Given.{fieldsOf}
+use Rattle.contents.proofs.CardsAlone.{items-alone}
+use Rattle.writer.specs.Fields.{fieldsOf}
 
--- ---- a bit for whether some number so far passes a test
-or-bits : (a b : Bool) → bitOr (bitOf a) (bitOf b) ≡ bitOf (a || b)
-or-bits true true = refl
-or-bits true false = refl
-or-bits false true = refl
-or-bits false false = refl
+fields-all : (l : List ℕ) → playFields (eventsAmong (map (λ (c : ℕ). event (played c)) l)) ≡ row 6 l
+unfolding playFields eventsAmong eventFields row
+fields-all [] = refl
+fields-all (c ∷ l) = ap (λ (m : List Field). field 6 c ∷ m) (fields-all l)
 
-some-last : (test : ℕ → Bool) (l : List ℕ) (x : ℕ) → some test (l ++ (x ∷ [])) ≡ (some test l || test x)
-unfolding some
-some-last test [] x = or-none (test x)
-  where
-    or-none : (b : Bool) → (b || false) ≡ b
-    or-none true = refl
-    or-none false = refl
-some-last test (y ∷ l) x = ap (λ (b : Bool). test y || b) (some-last test l x) ∙ sym (or-assoc (test y) (some test l) (test x))
-  where
-    or-assoc : (a b c : Bool) → ((a || b) || c) ≡ (a || (b || c))
-    or-assoc true b c = refl
-    or-assoc false b c = refl
+pub fields-alone : (l : List ℕ) → some beginsCode l ≡ false → row 6 l ≡ fieldsOf l
+unfolding fieldsOf
+fields-alone l e = rw (items-alone l e) (sym (fields-all l))
 
--- a turn of the loop that looks for a code
-pub seen-more : (l : List ℕ) (i : ℕ) {seen bit : ℕ} → i < length l → seen ≡ bitOf (some beginsCode (take i l)) → bit ≡ bitOf (beginsCode (getD l i 0))
-    → bitOr seen bit ≡ bitOf (some beginsCode (take (i + 1) l))
-seen-more l i h es eb =
-    let next : i + 1 ≡ suc i = omega arith in
-    rw (es, eb, next, take-suc l i 0 h, some-last beginsCode (take i l) (getD l i 0))
-    (or-bits (some beginsCode (take i l)) (beginsCode (getD l i 0)))
-
--- the whole list was looked at
-pub seen-all : (l : List ℕ) (i : ℕ) {seen : ℕ} → i ≤ length l → length l ≤ i → seen ≡ bitOf (some beginsCode (take i l))
-    → not (eqb seen 0) ≡ some beginsCode l
-seen-all l i h k e = rw (e, take-all i l k) (bit-set (some beginsCode l))
-  where
-    bit-set : (b : Bool) → not (eqb (bitOf b) 0) ≡ b
-    bit-set true = refl
-    bit-set false = refl
-
--- ---- without a code
-module _ where
-  items-alone : (l : List ℕ) → some beginsCode l ≡ false → itemsOf l ≡ map (λ (c : ℕ). event (played c)) l
-  unfolding itemsOf some
-  items-alone [] e = refl
-  items-alone (c ∷ l) e =
-      card-first c l (or-left (beginsCode c) (some beginsCode l) e)
-      ∙ ap (λ (m : List Item). event (played c) ∷ m) (items-alone l (or-right (beginsCode c) (some beginsCode l) e))
-
-  cards-all : (l : List ℕ) → howMany isCard (map (λ (c : ℕ). event (played c)) l) ≡ length l
-  unfolding howMany isCard
-  cards-all [] = refl
-  cards-all (c ∷ l) = omega (arith, cards-all l)
-
-  pub cards-alone : (l : List ℕ) → some beginsCode l ≡ false → length l ≡ cardsIn l
-  unfolding cardsIn
-  cards-alone l e = rw (items-alone l e) (sym (cards-all l))
-
-  fields-all : (l : List ℕ) → playFields (eventsAmong (map (λ (c : ℕ). event (played c)) l)) ≡ row 6 l
-  unfolding playFields eventsAmong eventFields row
-  fields-all [] = refl
-  fields-all (c ∷ l) = ap (λ (m : List Field). field 6 c ∷ m) (fields-all l)
-
-  pub fields-alone : (l : List ℕ) → some beginsCode l ≡ false → row 6 l ≡ fieldsOf l
-  unfolding fieldsOf
-  fields-alone l e = rw (items-alone l e) (sym (fields-all l))
-
-  pub bits-alone : (l : List ℕ) → some beginsCode l ≡ false → 6 * length l ≡ bits (fieldsOf l)
-  bits-alone l e = sym (bits-row 6 l) ∙ ap bits (fields-alone l e)
+pub bits-alone : (l : List ℕ) → some beginsCode l ≡ false → 6 * length l ≡ bits (fieldsOf l)
+bits-alone l e = sym (bits-row 6 l) ∙ ap bits (fields-alone l e)

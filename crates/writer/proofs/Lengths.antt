@@ -13,7 +13,8 @@ use Rattle.laws.specs.Record.{bits, claimFields, layout, encode}
 use Rattle.laws.proofs.Tests.{by-test}
 use Rattle.laws.proofs.Spelled.{length-packed}
 use Rattle.laws.proofs.Lengths.{layout-bits}
-use Rattle.writer.specs.Given.{claimOf, partsOf, fieldsOf, lengthOf}
+use Rattle.contents.specs.Given.{claimOf}
+use Rattle.writer.specs.Fields.{partsOf, fieldsOf, lengthOf}
 
 pub unmarked-length : (calls plays marked : ℕ) {a : ℕ} → marked ≡ 0 → a ≡ min calls 511 → (143 + (6 * a + plays)) / 8 ≡ lengthOf calls plays marked
 unfolding lengthOf

@@ -1,14 +1,5 @@
+pub mod Measuring
+pub mod CardsAlone
 pub mod Writing
 pub mod Lengths
-pub mod Turns
-pub mod CallTurns
-pub mod Items
-pub mod CardsAlone
-pub mod PlayTurns
-pub mod CardTurns
-pub mod RunTurns
-pub mod Checks
-pub mod Called
-pub mod Composing
-pub mod Contents
 pub mod Records

@@ -26,7 +26,7 @@ use Rattle.laws.proofs.Contents.{layout-fits}
 use Rattle.laws.proofs.ContentsLawful.{accepted-fits, accepted-lawful}
 use Rattle.laws.proofs.ContentsNumbered.{contents-numbered}
 use Rattle.packing.specs.Packed.{bytesPacked}
-use Rattle.writer.specs.Given.{eventsIn, partsOf, fieldsOf, lengthOf}
+use Rattle.writer.specs.Fields.{eventsIn, partsOf, fieldsOf, lengthOf}
 use Rattle.writer.proofs.Lengths.{length-encoded}
 use Rattle.writer.proofs.Writing.{writes-encoded}
 

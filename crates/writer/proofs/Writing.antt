@@ -18,8 +18,10 @@ use Rattle.packing.specs.declared.Packer.{Packer}
 use Rattle.packing.specs.Packed.{newPacker, packerAfter, bytesAfter, packerAfterAll, bytesAfterAll, bytesFinished, bytesPacked}
 use Rattle.packing.proofs.Fields.{Narrow, packed-over}
 use Rattle.packing.proofs.Sequences.{Puts, length-after-all, puts-one, puts-then, puts-whole}
-use Rattle.writer.specs.Given.{claimOf, eventsIn, codeFields, fieldsOf}
-use Rattle.writer.proofs.Items.{itemsAt, none-at, whole-code, whole-card, whole-behind, fields-card, fields-code}
+use Rattle.contents.specs.Given.{claimOf}
+use Rattle.writer.specs.Fields.{eventsIn, codeFields, fieldsOf}
+use Rattle.contents.proofs.Items.{itemsAt, none-at, whole-code, whole-card, whole-behind}
+use Rattle.writer.proofs.Measuring.{fields-card, fields-code}
 
 -- what a call that puts one field, or several, says of the packer and of the buffer
 abbrev One : Packer → List ℕ → Field → Packer → List ℕ → Type 0

@@ -1,6 +1,6 @@
 // The contents of a record written over the front of a lent buffer, whatever they are, and how many bytes they take.
-use crate::plays::count_cards;
-use crate::plays::has_code;
+use contents::count_cards;
+use contents::has_code;
 use packing::Packer;
 use penalty::begins_code;
 ghost use mathlib.Core.Path.{_≡_};
@@ -13,7 +13,8 @@ ghost use Rattle.laws.specs.Choice.{if_then_else_, some};
 ghost use Rattle.laws.specs.FlatPlay.{itemsOf, isBroken};
 ghost use Rattle.laws.specs.Record.{field, row, bits, claimFields, layout};
 ghost use Rattle.packing.specs.Packed.{packerAfterAll, bytesAfterAll, bytesPacked};
-ghost use Rattle.writer.specs.Given.{claimOf, partsOf, codeFields, fieldsOf, lengthOf};
+ghost use Rattle.contents.specs.Given.{claimOf};
+ghost use Rattle.writer.specs.Fields.{partsOf, codeFields, fieldsOf, lengthOf};
 
 // Board, table and the holder of each card.
 fn put_deal(p: Packer, out: &mut [u8], board: u32, table: u32, holders: &[u8]) -> Packer

@@ -5,7 +5,8 @@ use native.Mathlib.Omega.{arith}
 use lib.ListN.{length}
 use Rattle.laws.specs.Record.{Parts, bits, encode}
 use Rattle.laws.specs.Contents.{Given}
-use Rattle.writer.specs.Given.{given, partsOf, fieldsOf}
+use Rattle.contents.specs.Given.{given}
+use Rattle.writer.specs.Fields.{partsOf, fieldsOf}
 use Rattle.writer.proofs.Records.{record-refused, fits, none-broken, plays-low, bits-low, length-low, record-short, record-written, size-is}
 use borrow.Author.Needs.{needs}
 use Rattle.writer.proofs.judge_write_record.Statement.{statement}

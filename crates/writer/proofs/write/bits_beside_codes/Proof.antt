@@ -4,7 +4,7 @@ use mathlib.Core.Path.{_≡_, refl, sym, ap, _∙_}
 use native.Mathlib.Omega.{arith}
 use borrow.Author.Needs.{needs}
 use lib.ListN.{length, getD}
-use Rattle.writer.proofs.Items.{Measured, measure-begins, measure-ends, measure-card, measure-code}
+use Rattle.writer.proofs.Measuring.{Measured, measure-begins, measure-ends, measure-card, measure-code}
 use Rattle.writer.proofs.write.bits_beside_codes.Statement.{statement}
 use Rattle.writer.proofs.write.bits_beside_codes.Tie as tie
 

@@ -1,5 +1,5 @@
 -- `write_contents` meets its contract: the sections of the layout, and the end. Assumes nothing.
-use Rattle.writer.specs.Given.{fieldsOf}
+use Rattle.writer.specs.Fields.{fieldsOf}
 use Rattle.writer.proofs.Writing.{cards-among, sections}
 use borrow.Author.Needs.{needs}
 use Rattle.writer.proofs.write.write_contents.Statement.{statement}

@@ -1,0 +1,11 @@
+pub mod Turns
+pub mod CallTurns
+pub mod Items
+pub mod CardsAlone
+pub mod PlayTurns
+pub mod CardTurns
+pub mod RunTurns
+pub mod Checks
+pub mod Called
+pub mod Composing
+pub mod Contents
