@@ -34,25 +34,32 @@ pub struct Ending {
     pub side: u8,
 }
 
-/// Which cards may be played, who leads after a trick, and what the defenders pick: rules of play, right or wrong.
+/// Which cards may be played, who leads after a trick, what the defenders pick, and whether a defender who cannot follow suit has to discard: rules of play,
+/// right or wrong.
 pub struct Rules {
     pub follows: bool,
     pub trumps: bool,
     pub next_leader: fn(leader: u8, winner: u8) -> u8,
     pub defenders_help: bool,
     pub all_cards: bool,
+    pub defenders_discard: bool,
 }
 
-pub const RIGHT: Rules = Rules { follows: true, trumps: true, next_leader: |_, winner| winner, defenders_help: false, all_cards: true };
+pub const RIGHT: Rules =
+    Rules { follows: true, trumps: true, next_leader: |_, winner| winner, defenders_help: false, all_cards: true, defenders_discard: true };
 
-/// Wrong rules, each by its name; endings have to tell each from the right ones.
-pub const WRONG: [(&str, Rules); 6] = [
+/// What a defender puts on a trick who does not have to discard: no card, of no suit.
+const NO_CARD: u64 = 66;
+
+/// Wrong rules, each by its name; endings have to tell each from the right ones. Where the defenders do better if they need not discard, they are squeezed.
+pub const WRONG: [(&str, Rules); 7] = [
     ("the other side leads after a trick", Rules { next_leader: |_, winner| (winner + 1) & 3, ..RIGHT }),
     ("the same seat leads again", Rules { next_leader: |leader, _| leader, ..RIGHT }),
     ("suit is not followed", Rules { follows: false, ..RIGHT }),
     ("trumps are forgotten", Rules { trumps: false, ..RIGHT }),
     ("the defenders help", Rules { defenders_help: true, ..RIGHT }),
     ("only the highest and the lowest card are tried", Rules { all_cards: false, ..RIGHT }),
+    ("the defenders need not discard", Rules { defenders_discard: false, ..RIGHT }),
 ];
 
 impl Ending {
@@ -65,27 +72,45 @@ impl Ending {
         self.value(rules, &mut self.hands.clone(), self.leader, &mut Vec::with_capacity(4))
     }
 
+    /// Whether the side on lead does better if the seat after its leader leads: it would rather throw the other side in.
+    pub fn costs_to_lead(&self) -> bool {
+        let (ours, theirs) = (self.best(&RIGHT), Ending { leader: (self.leader + 1) & 3, ..self.clone() }.best(&RIGHT));
+        if self.leader & 1 == self.side {
+            ours < theirs
+        } else {
+            theirs < ours
+        }
+    }
+
     /// The tricks that declarer's side takes from here on, with these cards on the table.
     fn value(&self, rules: &Rules, hands: &mut Hands, leader: u8, trick: &mut Vec<u64>) -> u32 {
         let seat = (leader + trick.len() as u8) & 3;
         let hand = hands[usize::from(seat)];
-        if hand == 0 {
+        if trick.is_empty() && hands[usize::from(self.side)] == 0 {
             return 0;
         }
-        let takes_most = seat & 1 == self.side || rules.defenders_help;
+        let ours = seat & 1 == self.side;
+        let takes_most = ours || rules.defenders_help;
+        let led = trick.first().copied();
+        let mut left = may_play(rules, hand, led);
+        if !rules.defenders_discard && !ours && led.is_some_and(|card| !follows(hand, card)) {
+            left |= 1 << 63;
+        }
         let mut chosen = None;
-        let mut left = may_play(rules, hand, trick.first().copied());
         while left != 0 {
             let card = u64::from(left.trailing_zeros());
             left &= left - 1;
-            let here = self.after(rules, hands, leader, trick, seat, card);
+            let here = self.after(rules, hands, leader, trick, seat, if card == 63 { NO_CARD } else { card });
             chosen = Some(chosen.map_or(here, |so_far| if takes_most { here.max(so_far) } else { here.min(so_far) }));
         }
         chosen.expect("a card that may be played")
     }
 
     fn after(&self, rules: &Rules, hands: &mut Hands, leader: u8, trick: &mut Vec<u64>, seat: u8, card: u64) -> u32 {
-        hands[usize::from(seat)] &= !(1 << card);
+        let held = hands[usize::from(seat)];
+        if card != NO_CARD {
+            hands[usize::from(seat)] &= !(1 << card);
+        }
         trick.push(card);
         let tricks = if trick.len() < 4 {
             self.value(rules, hands, leader, trick)
@@ -94,14 +119,23 @@ impl Ending {
             u32::from(winner & 1 == self.side) + self.value(rules, hands, (rules.next_leader)(leader, winner), &mut Vec::with_capacity(4))
         };
         trick.pop();
-        hands[usize::from(seat)] |= 1 << card;
+        hands[usize::from(seat)] = held;
         tricks
     }
 }
 
+/// The cards of a hand of the suit of a card, and whether there is one.
+fn of_suit(hand: u64, card: u64) -> u64 {
+    hand & 0x1FFF << (13 * suit(card))
+}
+
+fn follows(hand: u64, card: u64) -> bool {
+    of_suit(hand, card) != 0
+}
+
 /// The cards of a hand that may be played, given the card led.
 fn may_play(rules: &Rules, hand: u64, led: Option<u64>) -> u64 {
-    let of_suit = led.map_or(0, |card| hand & 0x1FFF << (13 * suit(card)));
+    let of_suit = led.map_or(0, |card| of_suit(hand, card));
     let may = if rules.follows && of_suit != 0 { of_suit } else { hand };
     if rules.all_cards {
         return may;

@@ -2,6 +2,7 @@
 mod calls;
 mod cards;
 mod penalties;
+pub mod squeezes;
 
 use crate::auction::{Auction, Contract};
 use crate::deal::Hands;
@@ -144,11 +145,40 @@ pub fn with_calls(random: &mut Random, count: usize) -> Made {
     made
 }
 
+/// A record without a mark and without a claim: all 52 cards of a contract, or four passes.
+pub fn played_out(random: &mut Random) -> Made {
+    match random.below(12) {
+        0 => return passed_out(random),
+        1 => {
+            let made = most_revokes(random);
+            if made.parts.claim.is_none() {
+                return made;
+            }
+        }
+        2..=3 => {
+            let any = random.between(4, 319);
+            let count = *random.pick(&[any, any, any, 4, 319]);
+            return with_calls(random, count);
+        }
+        _ => {}
+    }
+    let (board, table) = place(random);
+    let (dealer, target, doubling) = (score::dealer(board as u8), random.between(3, 37) as u64, random.below(3) as u8);
+    let calls = match random.below(3) {
+        0 => calls::short(dealer, random.below(4) as u8, target, doubling),
+        _ => calls::towards(random, dealer, target, doubling),
+    };
+    let mut made = Made::new(board, table, cards::deal(random), calls);
+    cards::fill_up_to(random, &mut made, 52);
+    made
+}
+
 fn place(random: &mut Random) -> (u64, u64) {
     (random.between(1, 127) as u64, random.between(1, 511) as u64)
 }
 
-fn passed_out(random: &mut Random) -> Made {
+/// A record of four passes.
+pub fn passed_out(random: &mut Random) -> Made {
     let (board, table) = place(random);
     Made::new(board, table, cards::deal(random), vec![0; 4])
 }

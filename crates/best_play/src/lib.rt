@@ -66,7 +66,7 @@ fn is_ours(p: Play, side: u64) -> bool
 }
 
 // Declarer's side picks the most, with so many cards left. It is told as far as it lies from the floor to the ceiling: where it reaches the ceiling, no other
-// card is tried.
+// card is tried. That the ceiling is at most 1000 keeps every sum within 16 bits.
 fn most(p: Play, side: u64, left: u8, floor: u16, ceiling: u16) -> u16
     requires { ⌜ (floor ≤ ceiling) × (ceiling ≤ 1000) ⌝ }
     ensures { λ r. ⌜ (r ≡ within floor ceiling (mostIn side left p)) × (floor ≤ r) × (r ≤ ceiling) ⌝ }
@@ -128,7 +128,7 @@ fn least(p: Play, side: u64, left: u8, floor: u16, ceiling: u16) -> u16
     best
 }
 
-// The tricks that the side takes of those left by best play on both sides.
+// The tricks that the side takes of those left by best play on both sides. No value is above 65: the 13 of no card that may be played, and one for each card.
 pub fn best_play(p: Play, side: u64) -> u16
     ensures { λ r. ⌜ r ≡ bestIn side p ⌝ }
 {

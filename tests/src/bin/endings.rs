@@ -2,18 +2,25 @@
 //! refused.
 use outside::best::{self, best, Ending, WRONG};
 use outside::damage::{self, codes};
+use outside::judge;
 use outside::making::{self, Made};
 use outside::proved;
 use outside::random::Random;
 use outside::run::{output_of, stop, Words};
 use std::collections::BTreeMap;
 
-/// How often each kind of ending and of refusal has to occur, and each wrong rule has to give another number.
+/// How often each kind of ending and of refusal has to occur, and each wrong rule has to give another number; and how many endings there have to be in all.
 const LEAST: u64 = 100;
-/// The refusals up to the last card, and 31.
-const REFUSALS: [u32; 17] = [2, 3, 4, 5, 6, 7, 8, 9, 10, 11, 12, 23, 24, 25, 26, 27, 31];
-/// The program is run on one record of so many.
+const LEAST_ENDINGS: u64 = 20_000;
+/// The refusals up to the last card.
+const REFUSALS: [u32; 16] = [2, 3, 4, 5, 6, 7, 8, 9, 10, 11, 12, 23, 24, 25, 26, 27];
+/// The causes of 31.
+const NO_ENDING: [&str; 3] = ["passed out", "more than sixteen cards left", "not at a trick's end"];
+/// Endings, the sum of all numbers of tricks.
+const ALL: &str = "endings";
+/// The program is run on one record of so many, and one of so many has reached a squeeze.
 const RUN: u64 = 40;
+const SQUEEZE: u64 = 90;
 
 fn main() {
     let words = Words::given();
@@ -32,7 +39,8 @@ fn main() {
     }
     println!("{records} records, no difference; by kind:");
     println!("{}", kinds.iter().map(|(kind, n)| format!("  {kind}: {n}\n")).collect::<String>());
-    if let Some((kind, n)) = kinds.iter().find(|&(_, &n)| limit.counted() && n < LEAST) {
+    let least = |kind: &str| if kind == ALL { LEAST_ENDINGS } else { LEAST };
+    if let Some((kind, n)) = kinds.iter().find(|&(kind, &n)| limit.counted() && n < least(kind)) {
         stop(&format!("{kind} occurred only {n} times"));
     }
 }
@@ -40,8 +48,8 @@ fn main() {
 /// Answers by the tricks left, refusals, the cards' distribution, and the wrong rules that are told from the right ones.
 fn kinds() -> BTreeMap<String, u64> {
     let answers = (0..=4).flat_map(|left| (0..=left).map(move |tricks| answered(tricks, left)));
-    let refusals = REFUSALS.iter().map(|number| format!("refused {number:02}"));
-    let others = ["nobody can follow", "a ruff", "declarer's side leads", "the defenders lead"].map(String::from);
+    let refusals = REFUSALS.iter().map(|number| format!("refused {number:02}")).chain(NO_ENDING.map(no_ending));
+    let others = [ALL, "nobody can follow", "a ruff", "to lead costs a trick", "declarer's side leads", "the defenders lead"].map(String::from);
     let wrong = WRONG.iter().map(|(name, _)| format!("another number if {name}"));
     answers.chain(refusals).chain(others).chain(wrong).map(|kind| (kind, 0)).collect()
 }
@@ -50,13 +58,27 @@ fn answered(tricks: u32, left: u32) -> String {
     format!("{tricks} of {left} tricks")
 }
 
+fn no_ending(cause: &str) -> String {
+    format!("refused 31: {cause}")
+}
+
+/// Why there is no ending after a record's last card.
+fn cause(record: &[u8]) -> &'static str {
+    match judge::to_last_card(record) {
+        Ok(None) => NO_ENDING[0],
+        Ok(Some((_, _, count))) if count < 36 => NO_ENDING[1],
+        _ => NO_ENDING[2],
+    }
+}
+
 fn note(kinds: &mut BTreeMap<String, u64>, record: &[u8], due: u32) {
     let mut count = |kind: String| *kinds.get_mut(&kind).unwrap_or_else(|| stop(&format!("no such kind: {kind}"))) += 1;
     let Ok(Some(ending)) = best::ending(record) else {
-        return count(format!("refused {:02}", due / 1024));
+        return count(if due == best::NO_ENDING { no_ending(cause(record)) } else { format!("refused {:02}", due / 1024) });
     };
     let left = ending.tricks();
     count(answered(due, left));
+    count(ALL.to_string());
     if left == 0 {
         return;
     }
@@ -68,6 +90,9 @@ fn note(kinds: &mut BTreeMap<String, u64>, record: &[u8], due: u32) {
         count("a ruff".to_string());
     }
     if left <= 3 {
+        if ending.costs_to_lead() {
+            count("to lead costs a trick".to_string());
+        }
         for (name, _) in WRONG.iter().filter(|(_, rules)| ending.best(rules) != due) {
             count(format!("another number if {name}"));
         }
@@ -116,6 +141,9 @@ fn hex(record: &[u8]) -> String {
 
 /// Two of three are endings, a fifth of them with penalty cards; the others are damaged, ended at a byte, of any shape, or have bytes behind them.
 fn record(random: &mut Random, k: u64) -> Vec<u8> {
+    if k % SQUEEZE == 0 {
+        return making::squeezes::record(random).parts.bytes();
+    }
     if k % 3 != 2 {
         return ending(random, k);
     }
