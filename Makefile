@@ -1,8 +1,8 @@
 # make test      the whole gate; its last line is that of `rt ci`
-# make demo      judges the records in samples/, prints a sheet and a slip, and merges two sections both ways
+# make demo      judges the records in samples/, prints a sheet and a slip, reads a game in Portable Bridge Notation, and merges two sections both ways
 # make install   puts headers, archives and pkg-config files under PREFIX
 # make bench     the proved judge's speed beside the Rust judge's, and that of merges
-# make fuzz      compares on random records, contents, tallies, trees, sheets, slips, endings and team matches for FUZZ_SECONDS, from SEED where it is given
+# make fuzz      compares on random records, contents, texts, tallies, trees, sheets, slips, endings and team matches for FUZZ_SECONDS, from SEED where given
 # What is built beside the proofs stands in build/, since `rt ci` removes target/.
 .PHONY: test demo install install-files bench fuzz outside clean tools rt-tool FORCE
 
@@ -18,10 +18,12 @@ SHEETS = 3000
 SLIPS = 10000
 TEAMS = 3000
 ENDINGS = 32000
+PBNS = 120000
 BLOCKS = 20000
+PBN_BLOCKS = 5000
 
-# The archive that judges, writes and tells best play, a member for each; build/stand-in/libjudge.a has the Rust ones behind the same interface,
-# as build/stand-in/libtally.a has the Rust tally behind that of build/libtally.a.
+# The archive that judges, writes, tells best play and reads Portable Bridge Notation, a member for each; build/stand-in/libjudge.a has the Rust ones
+# behind the same interface, as build/stand-in/libtally.a has the Rust tally behind that of build/libtally.a.
 ARCHIVE = build/libjudge.a
 TALLY_ARCHIVE = build/libtally.a
 TREE = target/bin/tree
@@ -29,6 +31,7 @@ SHEET = target/bin/sheet
 CELLS = target/bin/cells
 SLIP = target/bin/slip
 BEST = target/bin/best
+PBN = target/bin/pbn
 TEAM = target/bin/team
 MERGES = target/bin/try_merges
 
@@ -55,15 +58,15 @@ rt-tool:
 tools: rt-tool
 	$(call need,$(CC) $(CXX) cargo valgrind)
 
-$(ARCHIVE) $(TALLY_ARCHIVE) $(TREE) $(SHEET) $(CELLS) $(SLIP) $(BEST) $(TEAM) $(MERGES): | rt-tool
+$(ARCHIVE) $(TALLY_ARCHIVE) $(TREE) $(SHEET) $(CELLS) $(SLIP) $(BEST) $(PBN) $(TEAM) $(MERGES): | rt-tool
 
 SOURCES = crates.txt $(shell find crates -name '*.rt' -o -name '*.antt')
 
 target/staticlib/lib%.a: $(SOURCES) | rt-tool
 	rt staticlib $*
 
-# Judge, writer and best play are compiled apart: docs/PERFORMANCE.md says why.
-build/libjudge.a: target/staticlib/libjudge.a target/staticlib/libwriter.a target/staticlib/libbest_record.a
+# Judge, writer, best play and the reader of texts are compiled apart: docs/PERFORMANCE.md says why.
+build/libjudge.a: target/staticlib/libjudge.a target/staticlib/libwriter_call.a target/staticlib/libbest_record.a target/staticlib/libpbn_record.a
 	$(call need,$(AR))
 	@mkdir -p build
 	@rm -f $@
@@ -100,7 +103,7 @@ build/standings: $(TALLY_ARCHIVE) $(wildcard scoring/* terminal/*) include/tally
 	@mkdir -p build
 	$(CC) $(CFLAGS) -Iinclude -Iterminal scoring/standings.c $(SCORING) $(TALLY_ARCHIVE) -o $@
 
-demo: build/terminal build/section build/standings $(SHEET) $(CELLS) $(SLIP) $(BEST)
+demo: build/terminal build/section build/standings $(SHEET) $(CELLS) $(SLIP) $(BEST) $(PBN)
 	@echo "Records that are accepted:"
 	@build/terminal $(sort $(filter-out samples/refused-%,$(wildcard samples/*.hex)))
 	@echo "Records that are refused:"
@@ -114,6 +117,15 @@ demo: build/terminal build/section build/standings $(SHEET) $(CELLS) $(SLIP) $(B
 	@echo "What best play would give from a record:"
 	@$(BEST) <crates/try_best/data/claim-best-play
 	@mkdir -p build/work/demo
+	@echo "The record of samples/pbn/ending.pbn, a game in Portable Bridge Notation, judged:"
+	@(echo 3; cat samples/pbn/ending.pbn) | $(PBN) >build/work/demo/ending
+	@build/terminal -b build/work/demo/ending
+	@echo "Its slip:"
+	@$(SLIP) <build/work/demo/ending
+	@echo "What best play would have given of its last four tricks:"
+	@build/terminal -w samples/claim-best-play.txt | $(BEST)
+	@echo "The same game as it was exported, with tags and words that are not of the subset:"
+	@(echo 3; cat samples/pbn/ending.export) | $(PBN)
 	@for text in samples/sections/*.txt; do build/terminal -w $$text >build/work/demo/$$(basename $$text .txt) || exit 1; done
 	@build/section build/work/demo/A build/work/demo/a-*
 	@build/section build/work/demo/B build/work/demo/b-*
@@ -142,7 +154,7 @@ install-files:
 build/rust-built: $(ARCHIVE) $(TALLY_ARCHIVE) FORCE | tools
 	$(CARGO) build --release --offline --locked --quiet
 
-outside: tools build/rust-built build/terminal build/section build/standings $(TREE) $(SHEET) $(CELLS) $(SLIP) $(BEST) $(TEAM)
+outside: tools build/rust-built build/terminal build/section build/standings $(TREE) $(SHEET) $(CELLS) $(SLIP) $(BEST) $(PBN) $(TEAM)
 	$(CC) $(CFLAGS) -Iinclude tests/c/header.c $(ARCHIVE) -o build/header-c
 	valgrind --quiet --error-exitcode=1 build/header-c
 	$(CXX) $(CXXFLAGS) -Iinclude -x c++ tests/c/header.c -x none $(ARCHIVE) -o build/header-c++
@@ -154,6 +166,8 @@ outside: tools build/rust-built build/terminal build/section build/standings $(T
 	tests/samples.sh $(RUST)/write_record
 	@mkdir -p build/work
 	tests/terminal.sh build/terminal build/work
+	tests/pbn.sh $(PBN) $(RUST)/write_record build/terminal build/work
+	tests/pbn.sh $(RUST)/read_pbn $(RUST)/write_record build/terminal build/work
 	@rm -rf build/work/sections
 	@mkdir -p build/work/sections/records
 	$(RUST)/sections $(or $(SEED),87) build/work/sections
@@ -162,7 +176,7 @@ outside: tools build/rust-built build/terminal build/section build/standings $(T
 	@$(MAKE) --no-print-directory install-files PREFIX=$(abspath build/installed)
 	tests/install.sh $(abspath build/installed) $(CC)
 	$(CARGO) test --release --offline --locked --quiet --test examples --test refusals --test faults --test write_refusals --test write_faults \
-	    --test penalty_cards --test penalty_bounds --test penalty_faults --test tally_bytes --test tally_faults
+	    --test penalty_cards --test penalty_bounds --test penalty_faults --test pbn_texts --test pbn_faults --test tally_bytes --test tally_faults
 	$(RUST)/records --count $(RECORDS) $(SEED_WORDS)
 	$(RUST)/penalties --count $(PENALTIES) $(SEED_WORDS)
 	$(RUST)/writes --count $(WRITES) $(SEED_WORDS)
@@ -171,6 +185,7 @@ outside: tools build/rust-built build/terminal build/section build/standings $(T
 	$(RUST)/sheets --program $(SHEET) --cells $(CELLS) --count $(SHEETS) $(SEED_WORDS)
 	$(RUST)/slips --program $(SLIP) --count $(SLIPS) $(SEED_WORDS)
 	$(RUST)/endings --program $(BEST) --count $(ENDINGS) $(SEED_WORDS)
+	$(RUST)/pbns --program $(PBN) --count $(PBNS) $(SEED_WORDS)
 	$(RUST)/teams --program $(TEAM) --count $(TEAMS) $(SEED_WORDS)
 	$(RUST)/blocks $(or $(SEED),64) $(BLOCKS) >build/blocks.records
 	$(CC) $(CFLAGS) -g -Iinclude tests/c/blocks.c $(ARCHIVE) -o build/blocks
@@ -178,15 +193,18 @@ outside: tools build/rust-built build/terminal build/section build/standings $(T
 	$(RUST)/write_blocks $(or $(SEED),64) $(BLOCKS) >build/blocks.contents
 	$(CC) $(CFLAGS) -g -Iinclude tests/c/write_blocks.c $(ARCHIVE) -o build/write_blocks
 	valgrind --quiet --error-exitcode=1 --leak-check=full build/write_blocks build/blocks.contents
+	$(RUST)/pbn_blocks $(or $(SEED),64) $(PBN_BLOCKS) >build/blocks.texts
+	$(CC) $(CFLAGS) -g -Iinclude tests/c/pbn_blocks.c $(ARCHIVE) -o build/pbn_blocks
+	valgrind --quiet --error-exitcode=1 --leak-check=full build/pbn_blocks build/blocks.texts
 	$(RUST)/tally_blocks $(or $(SEED),64) $(BLOCKS) >build/blocks.tallies
 	$(CC) $(CFLAGS) -g -Iinclude tests/c/tally_blocks.c $(TALLY_ARCHIVE) -o build/tally_blocks
 	valgrind --quiet --error-exitcode=1 --leak-check=full build/tally_blocks build/blocks.tallies
 	$(CC) $(CFLAGS) -Iinclude tests/c/stack.c $(ARCHIVE) -o build/stack
 	build/stack build/blocks.records
 
-# A tenth of the time each for records, records with penalty cards, contents, tallies, trees, sheets, slips, endings and team matches, and another for records.
-fuzz: build/rust-built $(TREE) $(SHEET) $(CELLS) $(SLIP) $(BEST) $(TEAM)
-	$(RUST)/records --seconds $$(($(FUZZ_SECONDS) / 5)) $(SEED_WORDS)
+# A tenth of the time each for records, records with penalty cards, contents, texts, tallies, trees, sheets, slips, endings and team matches.
+fuzz: build/rust-built $(TREE) $(SHEET) $(CELLS) $(SLIP) $(BEST) $(PBN) $(TEAM)
+	$(RUST)/records --seconds $$(($(FUZZ_SECONDS) / 10)) $(SEED_WORDS)
 	$(RUST)/penalties --seconds $$(($(FUZZ_SECONDS) / 10)) $(SEED_WORDS)
 	$(RUST)/writes --seconds $$(($(FUZZ_SECONDS) / 10)) $(SEED_WORDS)
 	$(RUST)/tallies --seconds $$(($(FUZZ_SECONDS) / 10)) $(SEED_WORDS)
@@ -194,6 +212,7 @@ fuzz: build/rust-built $(TREE) $(SHEET) $(CELLS) $(SLIP) $(BEST) $(TEAM)
 	$(RUST)/sheets --program $(SHEET) --cells $(CELLS) --seconds $$(($(FUZZ_SECONDS) / 10)) $(SEED_WORDS)
 	$(RUST)/slips --program $(SLIP) --seconds $$(($(FUZZ_SECONDS) / 10)) $(SEED_WORDS)
 	$(RUST)/endings --program $(BEST) --seconds $$(($(FUZZ_SECONDS) / 10)) $(SEED_WORDS)
+	$(RUST)/pbns --program $(PBN) --seconds $$(($(FUZZ_SECONDS) / 10)) $(SEED_WORDS)
 	$(RUST)/teams --program $(TEAM) --seconds $$(($(FUZZ_SECONDS) / 10)) $(SEED_WORDS)
 
 bench: build/rust-built $(MERGES)

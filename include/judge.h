@@ -1,10 +1,11 @@
-/* The judge and the writer of table records of duplicate bridge, and what best play would give from one, for C99 and C++.
+/* The judge and the writer of table records of duplicate bridge, what best play would give from one, and a record from a game in
+ * Portable Bridge Notation, for C99 and C++.
  *
- * The library libjudge.a has three functions, judge_record, judge_write_record and judge_best_play. docs/RULES.md has the record's
- * layout and the rules.
+ * The library libjudge.a has four functions, judge_record, judge_write_record, judge_best_play and judge_read_pbn. docs/RULES.md has
+ * the record's layout and the rules.
  *
- * Proved, of the library's source: what this header says that they return, write and leave, for every record, all contents and every
- * buffer. Not proved, and tried by tests: the compiler's work on that source, and all else in this header, which is plain C. */
+ * Proved, of the library's source: what this header says that they return, write and leave, for every record, all contents, every text
+ * and every buffer. Not proved, and tried by tests: the compiler's work on that source, and all else in this header, which is plain C. */
 #ifndef JUDGE_H
 #define JUDGE_H
 
@@ -13,7 +14,7 @@
 
 /* The version of this interface. A changed signature or size raises the first number, a function more the second. */
 #define JUDGE_VERSION_MAJOR 4
-#define JUDGE_VERSION_MINOR 1
+#define JUDGE_VERSION_MINOR 2
 
 #ifdef __cplusplus
 extern "C" {
@@ -80,10 +81,37 @@ uint32_t judge_write_record(uint32_t board, uint32_t table, const uint8_t *holde
  * length 0 is refused with 2. Nothing is written, and nothing is kept between calls. */
 uint32_t judge_best_play(const uint8_t *record, size_t record_len);
 
-/* The refusals by number. Calls and plays count from 0; a mark counts among the calls, and takes no turn; an exposure or a choice does not
+/* Writes the record of one game in Portable Bridge Notation, for the table given beside it. The text has to be of the subset of PBN 2.1
+ * that docs/RULES.md, 15, has line by line: the tags Board, Deal, Auction and its calls, and, unless passed out, Play and its cards, in
+ * this order, nothing else, each line ended by a newline. The Deal tag may start from any seat. Play has columns from its tag's seat on;
+ * the record has the cards in order of play.
+ *
+ * Returns the number of bytes written, 20 to 296: the record stands at the front of `record`, and the bytes behind it stay as they were.
+ * It is what judge_write_record writes for the same deal, calls and cards, without a mark, a code or a claim, so judge_record accepts it.
+ * Otherwise returns refusal * 1024 + place, and no byte is changed. So a number from 1024 on is a refusal, and one below it is not.
+ *
+ * One refusal is returned, the first that applies in this order:
+ *   - 32, for a text that is not of the subset, all of it. The place is the first line, from 1, up to which no text of the subset agrees,
+ *     a missing line included, and 1023 where that is more;
+ *   - 3, for a board from 128 to 999 (place 0), then for a table that is 0 or over 511 (place 1);
+ *   - 32 with place 3, where the Auction tag names another seat than the board's dealer;
+ *   - 4, for the first of N, E, S, W without thirteen cards, wherever the Deal tag starts;
+ *   - 33 with place 511, for more than 511 calls;
+ *   - for each call in turn 8, then 6 or 7; after the last call 9;
+ *   - 32, where there is a contract and no Play tag, or four passes and one, or it names another seat than the opening leader. The place
+ *     is the line after the last line of calls, where the tag stands or should;
+ *   - 12 or 23, for each card in turn, in order of play;
+ *   - 22, for a buffer that is too short.
+ * No other number occurs. 296 bytes have room for every record that a text can give.
+ *
+ * No text, no table and no length is trusted. What C has to see to is true lengths, and a buffer that is writable and apart from the
+ * text. A null pointer beside the length 0 is taken. Nothing is kept between calls. */
+uint32_t judge_read_pbn(const uint8_t *text, size_t text_len, uint32_t table, uint8_t *record, size_t record_len);
+
+/* The refusals by number. Calls and plays count from 0, lines from 1; a mark counts among the calls, and takes no turn; an exposure or a choice does not
  * count among the plays, and its place is that of the card that it stands before.
  *
- * The number is no rank. One refusal is returned, the first that applies in this order:
+ * The number is no rank. One refusal is returned, for a record the first that applies in this order:
  *   - the buffers: 1, for the answer, then for the revokes, then for the failures, then for the winners;
  *   - board and table: both are read (2 where the record ends), then 3, for the board, then for the table;
  *   - the deal: it is read whole (2), then 4;
@@ -112,14 +140,15 @@ enum judge_refusal {
     JUDGE_CLAIM_NOT_ALLOWED = 14,    /* Law 68: claim after no card or all 52, or passed out; place: the play count */
     JUDGE_CLAIM_TOO_HIGH = 15,       /* Law 68: more tricks than are left; place: the claim, at most 15 */
     JUDGE_NOT_ENDED = 16,            /* a padding bit is 1, or a byte follows; place 0 */
-    JUDGE_NO_ROOM_FOR_RECORD = 22,   /* judge_write_record alone: the buffer is too short for the record; place 0 */
+    JUDGE_NO_ROOM_FOR_RECORD = 22,   /* judge_write_record and judge_read_pbn: the buffer is too short for the record; place 0 */
     JUDGE_CARD_ALREADY_PLAYED = 23,  /* Law 44: card that this seat has played already; place: the play */
     JUDGE_MARK_NOT_ALLOWED = 24,     /* Law 27A: mark not followed by a bid at or below a last bid; place: the mark */
     JUDGE_EXPOSURE_NOT_ALLOWED = 25, /* Law 48: exposed is no card in a defender's hand, or is faced already; place: the play */
     JUDGE_CHOICE_NOT_OPEN = 26,      /* Law 50D2: choice for a lead that is not open; writing, a code that is broken or has no card after it; place: the play */
     JUDGE_TOO_MANY_CODES = 27,       /* more than 40 exposures and choices; place: the play */
     JUDGE_NO_ENDING = 31,            /* judge_best_play alone: passed out, more than 16 cards left, or not at a trick's end; place 0 */
-    JUDGE_TOO_MANY_CALLS = 33        /* judge_write_record alone: more than 511 codes of calls; place 511 */
+    JUDGE_OUTSIDE_SUBSET = 32,       /* judge_read_pbn alone: outside the subset; another dealer; Play's presence or leader; place: the line, at most 1023 */
+    JUDGE_TOO_MANY_CALLS = 33        /* judge_write_record and judge_read_pbn: more than 511 codes of calls; place 511 */
 };
 
 /* Whether what one of the functions returned is a refusal. */

@@ -104,6 +104,9 @@ void print_refusal(FILE *out, uint32_t number) {
     case JUDGE_CHOICE_NOT_OPEN: fprintf(out, "play %u: choice of a lead not open, or no card after an exposure or choice\n", place); return;
     case JUDGE_TOO_MANY_CODES: fprintf(out, "play %u: more than 40 exposures and choices\n", place); return;
     case JUDGE_NO_ENDING: fprintf(out, "passed out, more than 16 cards left, or not at a trick's end\n"); return;
+    case JUDGE_OUTSIDE_SUBSET:
+        fprintf(out, "line %u%s: text outside the subset, or its dealer, leader or Play tag is wrong\n", place, place < 1023 ? "" : " or later");
+        return;
     case JUDGE_TOO_MANY_CALLS: fprintf(out, "more than %u calls and marks\n", place); return;
     case JUDGE_CARD_ALREADY_PLAYED: fprintf(out, "play %u: card already played\n", place); return;
     case JUDGE_NOT_ENDED: fprintf(out, "a padding bit is 1, or a byte follows the record\n"); return;

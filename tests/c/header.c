@@ -1,5 +1,5 @@
 /* Tries include/judge.h as C99 and as C++: the helpers on bytes worked out by hand, null pointers, short buffers, the order of the
- * checks, the passed-out board of docs/RULES.md, judged and written, a record with a penalty card, and best play from an ending. */
+ * checks, the passed-out board of docs/RULES.md, judged, written and read, a record with a penalty card, and best play from an ending. */
 #include "judge.h"
 
 #include <stdio.h>
@@ -99,6 +99,7 @@ static void unpacks_a_number(void) {
     expect("a choice that is not open", JUDGE_CHOICE_NOT_OPEN, 26);
     expect("too many exposures and choices", JUDGE_TOO_MANY_CODES, 27);
     expect("no ending", JUDGE_NO_ENDING, 31);
+    expect("outside the subset", JUDGE_OUTSIDE_SUBSET, 32);
     expect("too many calls", JUDGE_TOO_MANY_CALLS, 33);
     expect("the list of revokes", JUDGE_REVOKE_BYTES, 48);
     expect("the list of failures", JUDGE_FAILURE_BYTES, 52);
@@ -107,7 +108,7 @@ static void unpacks_a_number(void) {
     expect("a length is no refusal", judge_is_refusal(1023), 0);
     expect("a refusal", judge_is_refusal(3 * 1024), 1);
     expect("the version's first number", JUDGE_VERSION_MAJOR, 4);
-    expect("the version's second number", JUDGE_VERSION_MINOR >= 1, 1);
+    expect("the version's second number", JUDGE_VERSION_MINOR >= 2, 1);
 }
 
 /* N all clubs, E diamonds, S hearts, W spades, four passes; and a byte that is no part of it. */
@@ -290,6 +291,38 @@ static void asks_best_play(void) {
     expect("null record for best play", (long)judge_best_play(NULL, 0), 2 * 1024);
 }
 
+/* The passed-out board in Portable Bridge Notation, its four lines apart. */
+#define BOARD "[Board \"1\"]\n"
+#define DEAL "[Deal \"N:...AKQJT98765432 ..AKQJT98765432. .AKQJT98765432.. AKQJT98765432...\"]\n"
+#define AUCTION "[Auction \"N\"]\n"
+#define PASSES "Pass Pass Pass Pass\n"
+
+/* Reads a text for a table into a buffer of so many bytes. */
+static long read_text(const char *text, uint32_t table, size_t room) {
+    return (long)judge_read_pbn((const uint8_t *)text, strlen(text), table, record, room);
+}
+
+static void reads_a_text(void) {
+    fill_to_write();
+    expect("the example read", read_text(BOARD DEAL AUCTION PASSES, 1, 20), 20);
+    expect("its bytes", memcmp(record, PASSED_OUT, 20), 0);
+    expect("the bytes behind it", memcmp(record + 20, all_fives, 20), 0);
+    fill_to_write();
+    expect("a text without its last newline", read_text(BOARD DEAL AUCTION "Pass Pass Pass Pass", 1, 40), 32 * 1024 + 4);
+    expect("a text without calls", read_text(BOARD DEAL AUCTION, 0, 0), 32 * 1024 + 4);
+    expect("table 0", read_text(BOARD DEAL AUCTION PASSES, 0, 40), 3 * 1024 + 1);
+    expect("table 512", read_text(BOARD DEAL AUCTION PASSES, 512, 40), 3 * 1024 + 1);
+    expect("the greatest table", read_text(BOARD DEAL AUCTION PASSES, UINT32_MAX, 40), 3 * 1024 + 1);
+    expect("another dealer", read_text(BOARD DEAL "[Auction \"S\"]\n" PASSES, 1, 40), 32 * 1024 + 3);
+    expect("five passes", read_text(BOARD DEAL AUCTION PASSES "Pass\n", 1, 40), 8 * 1024 + 4);
+    expect("three passes", read_text(BOARD DEAL AUCTION "Pass Pass Pass\n", 1, 40), 9 * 1024 + 3);
+    expect("no Play", read_text(BOARD DEAL AUCTION "1C Pass Pass Pass\n", 1, 40), 32 * 1024 + 5);
+    expect("a buffer of 19", read_text(BOARD DEAL AUCTION PASSES, 1, 19), 22 * 1024);
+    expect("null text", (long)judge_read_pbn(NULL, 0, 1, record, 40), 32 * 1024 + 1);
+    expect("a null buffer", (long)judge_read_pbn((const uint8_t *)BOARD DEAL AUCTION PASSES, strlen(BOARD DEAL AUCTION PASSES), 1, NULL, 0), 22 * 1024);
+    expect("the buffer after a refused text", memcmp(record, all_fives, sizeof record), 0);
+}
+
 int main(void) {
     unpacks_the_answer();
     unpacks_the_largest();
@@ -306,5 +339,6 @@ int main(void) {
     writes_a_code();
     refuses_to_write();
     asks_best_play();
+    reads_a_text();
     return failed;
 }

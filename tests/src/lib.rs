@@ -1,6 +1,6 @@
-//! A judge, a writer, best play from an ending, a tally, a sheet, a slip and a team match for duplicate bridge, written from docs/RULES.md alone, and what is
-//! needed to compare the proved library with them: records of all shapes, damaged records, their contents, endings, tallies in bytes and forged ones, trees
-//! of tally calls, sheets, team matches.
+//! A judge, a writer, best play from an ending, a reader of Portable Bridge Notation, a tally, a sheet, a slip and a team match for duplicate bridge, written
+//! from docs/RULES.md alone, and what is needed to compare the proved library with them: records of all shapes, damaged records, their contents, endings,
+//! texts, tallies in bytes and forged ones, trees of tally calls, sheets, team matches.
 
 pub mod auction;
 pub mod best;
@@ -13,6 +13,9 @@ pub mod kinds;
 pub mod law64;
 pub mod making;
 pub mod parts;
+pub mod pbn;
+pub mod pbn_texts;
+pub mod pbn_trial;
 pub mod penalty;
 pub mod penalty_trial;
 pub mod play;

@@ -1,4 +1,4 @@
-//! The proved judge, writer and best play, as the archive exports them.
+//! The proved judge, writer, best play and reader of Portable Bridge Notation, as the archive exports them.
 use crate::contents::Contents;
 use crate::judge::Lent;
 
@@ -30,6 +30,7 @@ extern "C" {
         record_len: usize,
     ) -> u32;
     fn judge_best_play(record: *const u8, record_len: usize) -> u32;
+    fn judge_read_pbn(text: *const u8, text_len: usize, table: u32, record: *mut u8, record_len: usize) -> u32;
 }
 
 /// The proved judge on slices. Rust's slices keep what its C interface trusts: true lengths and no overlap.
@@ -74,4 +75,9 @@ pub fn write(c: &Contents, record: &mut [u8]) -> u32 {
 /// The proved best play on a slice.
 pub fn best(record: &[u8]) -> u32 {
     unsafe { judge_best_play(record.as_ptr(), record.len()) }
+}
+
+/// The proved reader of Portable Bridge Notation on slices.
+pub fn read_pbn(text: &[u8], table: u32, record: &mut [u8]) -> u32 {
+    unsafe { judge_read_pbn(text.as_ptr(), text.len(), table, record.as_mut_ptr(), record.len()) }
 }

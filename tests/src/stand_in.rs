@@ -1,4 +1,5 @@
-//! The judge, the writer and the calls on tallies written here behind the C interfaces of the proved ones, to try the C side with others.
+//! The judge, the writer, best play, the reader of Portable Bridge Notation and the calls on tallies written here, behind the C interfaces of the proved
+//! ones, to try the C side with others.
 use crate::contents::Contents;
 use crate::judge::Lent;
 use crate::tally_calls;
@@ -50,6 +51,13 @@ pub unsafe extern "C" fn judge_write_record(
 #[no_mangle]
 pub unsafe extern "C" fn judge_best_play(record: *const u8, record_len: usize) -> u32 {
     crate::best::best(given(record, record_len))
+}
+
+/// # Safety
+/// As for `judge_record`.
+#[no_mangle]
+pub unsafe extern "C" fn judge_read_pbn(text: *const u8, text_len: usize, table: u32, record: *mut u8, record_len: usize) -> u32 {
+    crate::pbn::read(given(text, text_len), table, lent(record, record_len))
 }
 
 unsafe fn given<'a>(at: *const u8, length: usize) -> &'a [u8] {

@@ -7,10 +7,14 @@ use crate::penalty::{Code, CHOICE, EXPOSED, MOST_CODES};
 use crate::play::{Play, NO_CARD};
 use crate::score;
 
+mod packing;
+
+pub use packing::length;
+
 /// A writer as C sees it: contents, and the buffer for the record.
 pub type Writer = fn(&Contents, &mut [u8]) -> u32;
 
-type Refused = u32;
+pub(crate) type Refused = u32;
 
 /// The most codes of calls and marks that a record can have.
 const MOST_CALLS: usize = 511;
@@ -19,18 +23,23 @@ const MOST_CALLS: usize = 511;
 const MOST_CARDS: usize = 63;
 const MOST_CLAIM: u32 = 15;
 
-fn refused(number: u32, place: usize) -> Refused {
+pub(crate) fn refused(number: u32, place: usize) -> Refused {
     number * 1024 + place as u32
 }
 
 /// Writes a record: the number of its bytes and the bytes over the front of the buffer, or a refusal and nothing written.
 pub fn write(contents: &Contents, record: &mut [u8]) -> u32 {
-    if let Err(number) = check(contents) {
-        return number;
+    match check(contents) {
+        Ok(()) => fill(contents, record),
+        Err(number) => number,
     }
+}
+
+/// Writes a record that would be accepted, where there is room.
+pub(crate) fn fill(contents: &Contents, record: &mut [u8]) -> u32 {
     let length = length(contents);
     match record.get_mut(..length) {
-        Some(room) => pack(contents, room),
+        Some(room) => packing::pack(contents, room),
         None => return refused(22, 0),
     }
     length as u32
@@ -38,12 +47,7 @@ pub fn write(contents: &Contents, record: &mut [u8]) -> u32 {
 
 /// Whether a record of these contents would be accepted.
 fn check(c: &Contents) -> Result<(), Refused> {
-    if !(1..=127).contains(&c.board) {
-        return Err(refused(3, 0));
-    }
-    if !(1..=511).contains(&c.table) {
-        return Err(refused(3, 1));
-    }
+    place(c.board, c.table)?;
     let hands = hands(&c.holders)?;
     let contract = calls(&c.calls, score::dealer(c.board as u8))?;
     let count = cards_in(&c.cards);
@@ -60,7 +64,18 @@ fn check(c: &Contents) -> Result<(), Refused> {
     }
 }
 
-fn hands(holders: &[u8]) -> Result<Hands, Refused> {
+/// Board and table.
+pub(crate) fn place(board: u32, table: u32) -> Result<(), Refused> {
+    if !(1..=127).contains(&board) {
+        return Err(refused(3, 0));
+    }
+    if !(1..=511).contains(&table) {
+        return Err(refused(3, 1));
+    }
+    Ok(())
+}
+
+pub(crate) fn hands(holders: &[u8]) -> Result<Hands, Refused> {
     if holders.len() != 52 {
         return Err(refused(4, 4));
     }
@@ -74,7 +89,8 @@ fn hands(holders: &[u8]) -> Result<Hands, Refused> {
     }
 }
 
-fn calls(codes: &[u8], dealer: u8) -> Result<Option<Contract>, Refused> {
+/// The contract of an auction, nothing where it was passed out.
+pub(crate) fn calls(codes: &[u8], dealer: u8) -> Result<Option<Contract>, Refused> {
     if codes.len() > MOST_CALLS {
         return Err(refused(33, MOST_CALLS));
     }
@@ -144,7 +160,8 @@ pub fn cards_in(list: &[u8]) -> usize {
     items(list).filter(|item| matches!(item, Item::Card(_))).count()
 }
 
-fn cards(list: &[u8], count: usize, hands: &Hands, contract: &Contract) -> Result<(), Refused> {
+/// So many cards with the codes among them.
+pub(crate) fn cards(list: &[u8], count: usize, hands: &Hands, contract: &Contract) -> Result<(), Refused> {
     if count > 52 {
         return Err(refused(10, count.min(MOST_CARDS)));
     }
@@ -221,81 +238,4 @@ fn claim(marked: u32, claim: u32, played: usize) -> Result<(), Refused> {
         return Err(refused(15, claim.min(MOST_CLAIM) as usize));
     }
     Ok(())
-}
-
-/// How many bytes a record takes.
-pub fn length(c: &Contents) -> usize {
-    let claim = if c.marked == 0 { 1 } else { 5 };
-    let width = |item: Item| item.widths().iter().sum::<u32>() as usize;
-    let cards = if plain(&c.cards) { 6 * c.cards.len() } else { items(&c.cards).map(width).sum() };
-    (7 + 9 + 2 * c.holders.len() + 9 + 6 * c.calls.len() + 6 + cards + claim).div_ceil(8)
-}
-
-/// The record's bytes, which fill the room.
-fn pack(c: &Contents, room: &mut [u8]) {
-    let mut out = Packer { room, at: 0, window: 0, held: 0 };
-    out.put(c.board, 7);
-    out.put(c.table, 9);
-    out.row(&c.holders, 2);
-    out.put(c.calls.len() as u32, 9);
-    out.row(&c.calls, 6);
-    out.put(cards_in(&c.cards) as u32, 6);
-    if plain(&c.cards) {
-        out.row(&c.cards, 6);
-    } else {
-        items(&c.cards).for_each(|item| out.item(item));
-    }
-    if c.marked == 0 {
-        out.put(0, 1);
-    } else {
-        out.put(1, 1);
-        out.put(c.claim, 4);
-    }
-    out.finish();
-}
-
-/// Bits on their way into the room, stored four bytes at a time.
-struct Packer<'a> {
-    room: &'a mut [u8],
-    at: usize,
-    window: u64,
-    held: u32,
-}
-
-impl Packer<'_> {
-    #[inline]
-    fn put(&mut self, value: u32, width: u32) {
-        self.window = self.window << width | u64::from(value);
-        self.held += width;
-        if self.held >= 32 {
-            self.held -= 32;
-            let word = (self.window >> self.held) as u32;
-            self.room[self.at..self.at + 4].copy_from_slice(&word.to_be_bytes());
-            self.at += 4;
-        }
-    }
-
-    fn row(&mut self, values: &[u8], width: u32) {
-        for &value in values {
-            self.put(u32::from(value), width);
-        }
-    }
-
-    fn item(&mut self, item: Item) {
-        match item {
-            Item::Card(card) => self.put(u32::from(card), 6),
-            Item::Code(first, behind) => {
-                for (&number, width) in [first].iter().chain(behind).zip(item.widths()) {
-                    self.put(u32::from(number), width);
-                }
-            }
-        }
-    }
-
-    /// The bytes that are left, the last one filled up with zero bits.
-    fn finish(self) {
-        let last = ((self.window << (32 - self.held)) as u32).to_be_bytes();
-        let left = self.held.div_ceil(8) as usize;
-        self.room[self.at..self.at + left].copy_from_slice(&last[..left]);
-    }
 }

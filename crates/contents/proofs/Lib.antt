@@ -1,7 +1,7 @@
 pub mod Turns
 pub mod CallTurns
 pub mod Items
-pub mod CardsAlone
+pub mod CodesSeen
 pub mod PlayTurns
 pub mod CardTurns
 pub mod RunTurns

@@ -143,3 +143,20 @@ pub as-in-record : (trump opening : ℕ) (deal : List ℕ) (e : List Event) (v :
     → itemRefusal trump opening deal e (event v) rest ≡ eventRefusal trump opening deal e v
 unfolding itemRefusal
 as-in-record trump opening deal e v rest n = rw n
+
+-- ---- without a code each number is a card
+pub items-alone : (l : List ℕ) → some beginsCode l ≡ false → itemsOf l ≡ map (λ (c : ℕ). event (played c)) l
+unfolding itemsOf some
+items-alone [] e = refl
+items-alone (c ∷ l) e =
+    card-first c l (or-left (beginsCode c) (some beginsCode l) e)
+    ∙ ap (λ (m : List Item). event (played c) ∷ m) (items-alone l (or-right (beginsCode c) (some beginsCode l) e))
+
+cards-all : (l : List ℕ) → howMany isCard (map (λ (c : ℕ). event (played c)) l) ≡ length l
+unfolding howMany isCard
+cards-all [] = refl
+cards-all (c ∷ l) = omega (arith, cards-all l)
+
+pub cards-alone : (l : List ℕ) → some beginsCode l ≡ false → length l ≡ cardsIn l
+unfolding cardsIn
+cards-alone l e = rw (items-alone l e) (sym (cards-all l))

@@ -69,3 +69,4 @@ pub mod PbnWhole
 pub mod PbnPlace
 pub mod PbnRecord
 pub mod PbnSame
+pub mod PbnNumbers

@@ -54,7 +54,7 @@ fair-more s t more (refused n place) f = at-place (more n (f .number)) (f .place
 fair-more s t more (found a at) f = tt
 
 module _ (test : ℕ → Bool) {B : Type 0} where
-  fair-on : {A : Type 0} (r : Reading A) (next : A → ℕ → Reading B) → Fair test r → ((a : A) (m : ℕ) → r ≡ found a m → Fair test (next a m))
+  pub fair-on : {A : Type 0} (r : Reading A) (next : A → ℕ → Reading B) → Fair test r → ((a : A) (m : ℕ) → r ≡ found a m → Fair test (next a m))
       → Fair test (onward r next)
   fair-on (refused n place) next f g = f
   fair-on (found a m) next f g = g a m refl

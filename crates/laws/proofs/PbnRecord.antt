@@ -4,7 +4,7 @@ use native.Mathlib.Omega.{arith}
 use mathlib.Core.Path.{_≡_, refl, sym, ap, ap₂, _∙_}
 use mathlib.Core.Bool.{Bool, true, false, not}
 use mathlib.Core.List.{List, [], _∷_, reverse, reverseAux}
-use borrow.Author.Tests.{eq-eqb, ne-eqb, eqb-true, not-false}
+use borrow.Author.Tests.{eq-eqb, ne-eqb, eqb-true, ltb-false, not-false}
 use lib.Dec.{ltb, eqb}
 use lib.ListN.{length}
 use Rattle.laws.specs.Refusals.{tooManyCalls, auctionUnfinished, outsideSubset}
@@ -16,11 +16,12 @@ use Rattle.laws.specs.Law68.{none}
 use Rattle.laws.specs.Record.{Parts}
 use Rattle.laws.specs.Reading.{Reading, Reading.refused, Reading.found, onward, refuse}
 use Rattle.laws.specs.Judge.{outcome, Outcome.accepted}
+use Rattle.laws.specs.Lawful.{Lawful}
 use Rattle.laws.specs.Contents.{Given, takeHeading, takeDeal, takeEach, takeCalls, takeCards, takeClaim, takeParts, contentsOf}
 use Rattle.laws.specs.PbnText.{Game}
 use Rattle.laws.specs.Pbn.{playLine, playStands, cardsListed, takeGame, contentsIn, TagsStand}
 use Rattle.laws.proofs.Readings.{first-of, first-test, test-is, test-stops}
-use Rattle.laws.proofs.ContentsLawful.{each-kept}
+use Rattle.laws.proofs.ContentsLawful.{each-kept, accepted-fits, accepted-lawful}
 use Rattle.laws.proofs.ContentsStop.{each-passes, found-refused}
 
 -- what follows a reading that is found
@@ -41,6 +42,11 @@ calls-history d calls from {h} {m} e =
     let each = each-kept (callPlace d) (callRefusal d) calls [] from (r .2) in
     let all = each-passes (callPlace d) (callRefusal d) calls [] from each in
     sym (found-same (o .1)) ∙ found-same (sym (r .2) ∙ all)
+
+-- calls that are taken can be counted
+pub calls-few : (d : ℕ) (calls : List ℕ) (from : ℕ) {h : List ℕ} {m : ℕ} → takeCalls d calls [] from ≡ found h m → length calls ≤ 511
+unfolding takeCalls
+calls-few d calls from e = ltb-false 511 (length calls) (first-test tooManyCalls 511 (ltb 511 (length calls)) [] from _ e .0)
 
 -- where the tags stand, the checks are those of the contents
 pub game-taken : (x : Game) (table : ℕ) → TagsStand x → takeGame x table [] 0 ≡ takeParts (contentsIn x table) [] 0
@@ -71,6 +77,13 @@ tags-stand x table e =
       play = ap (λ h. playStands d h (x .play)) (sym h) ∙ not-false _ (listed .0);
     }
 
+-- and gives lawful parts
+pub game-lawful : (x : Game) (table : ℕ) {p : Parts} {m : ℕ} → takeGame x table [] 0 ≡ found p m → Lawful p
+unfolding contentsOf
+game-lawful x table {p} taken =
+    let accept : contentsOf (contentsIn x table) ≡ accepted p = ap outcome (sym (game-taken x table (tags-stand x table taken)) ∙ taken) in
+    accepted-lawful p .0 (ap contentsOf (sym (accepted-fits (contentsIn x table) accept .0)) ∙ accept)
+
 -- ---- refusals in their order
 -- the checks up to the calls, without those of the tags
 unfoldable pub callsChecked : Game → ℕ → Reading (Unit {0})
@@ -90,7 +103,7 @@ dealer-refused x table {m = m} e other =
     rw (e, test-stops outsideSubset 3 [] m test)
 
 -- a reading that stops as another does
-stops-alike : {A B C : Type 0} {n place : ℕ} (r : Reading A) (f : A → ℕ → Reading B) (g : A → ℕ → Reading C)
+pub stops-alike : {A B C : Type 0} {n place : ℕ} (r : Reading A) (f : A → ℕ → Reading B) (g : A → ℕ → Reading C)
     → ((a : A) (m : ℕ) → f a m ≡ refused n place → g a m ≡ refused n place) → onward r f ≡ refused n place → onward r g ≡ refused n place
 stops-alike (refused n place) f g alike e = cc
 stops-alike (found a m) f g alike e = alike a m e

@@ -68,7 +68,7 @@ module _ (n trump first : ℕ) (some : 0 < n) where
       let row = relisted-each n leader first a b c d some (h .0, (h .1 .0, (h .1 .1 .0, (h .1 .1 .1 .0, tt)))) in
       (row .0, (row .1 .0, (row .1 .1 .0, (row .1 .1 .1 .0, columns-each _ cards (h .1 .1 .1 .1)))))
 
-columns-length : (trump first leader : ℕ) (cards : List ℕ) → length (columnsFrom trump first leader cards) ≡ length cards
+pub columns-length : (trump first leader : ℕ) (cards : List ℕ) → length (columnsFrom trump first leader cards) ≡ length cards
 unfolding columnsFrom relisted
 columns-length trump first leader [] = refl
 columns-length trump first leader (a ∷ []) = refl
@@ -218,7 +218,7 @@ listed-back d h (columns seat cards) ok e =
     let leads : seat ≡ openingAfter d h = eqb-true _ _ (and-right (not (passedOut h)) _ e) in
     rw (bid, ← leads) (ap (columns seat) (in-columns (trumpAfter h) seat (ok .0) seat (ok .0) cards))
 
-listed-each : (trump : ℕ) (play : Listed) → Listable play → EachBelow 52 (cardsListed trump play)
+pub listed-each : (trump : ℕ) (play : Listed) → Listable play → EachBelow 52 (cardsListed trump play)
 unfolding cardsListed EachBelow
 listed-each trump absent ok = tt
 listed-each trump (columns seat cards) ok = order-each 52 trump seat (lit< tt) seat cards (ok .2)

@@ -50,3 +50,4 @@ pub mod PbnText
 pub mod PbnOrder
 pub mod PbnReading
 pub mod Pbn
+pub mod PbnInput

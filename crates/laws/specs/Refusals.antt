@@ -27,7 +27,7 @@ refusalNumber n place = n * 1024 + place
 abbrev pub accepted : ℕ
 accepted = 0
 
--- a lent buffer is too short: the answer's, place 0, the list's, place 1, or that of the plays against 50C or 50D1, place 2
+-- a lent buffer is too short: the answer's, place 0, the list's, place 1, that of the plays against 50C or 50D1, place 2, or the winners', place 3
 abbrev pub shortBuffer : ℕ
 shortBuffer = 1
 
@@ -174,3 +174,15 @@ refusesBehind n = eqb n recordEnds || (leb 13 n && leb n 16)
 -- the numbers that contents are refused with when a record is written from them: 3 to 15, 22 to 27, and 33
 abbrev pub refusesContents : ℕ → Bool
 refusesContents n = (leb 3 n && leb n 15) || ((leb 22 n && leb n 27) || eqb n tooManyCalls)
+
+-- the numbers that a text of Portable Bridge Notation is refused with before its record is written: 3, 4, 6 to 9, 12, 23, 32 and 33
+abbrev pub refusesGame : ℕ → Bool
+refusesGame n =
+    (eqb n noBoardOrTable || eqb n notThirteen)
+    || ((leb 6 n && leb n 9)
+    || ((eqb n cardNotHeld || eqb n cardAlreadyPlayed)
+    || (leb 32 n && leb n 33)))
+
+-- and 22 where there is no room for it
+abbrev pub refusesText : ℕ → Bool
+refusesText n = refusesGame n || eqb n shortRecordBuffer

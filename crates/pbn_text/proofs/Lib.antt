@@ -14,3 +14,4 @@ pub mod WholeText
 pub mod TextTurns
 pub mod TrickWon
 pub mod Ordered
+pub mod Told

@@ -5,3 +5,4 @@ pub mod DealOn
 pub mod Kept
 pub mod TextOf
 pub mod ParsedAs
+pub mod GameIn

@@ -6,7 +6,7 @@ ghost use Prim.Native.Nat.{ℕ, _≤_};
 ghost use lib.ListN.{take};
 ghost use Rattle.pbn_text.specs.Kept.{keptOf};
 
-pub(crate) struct Numbers {
+pub struct Numbers {
     pub count: usize,
     pub numbers: [u8; 511],
 }

@@ -76,13 +76,13 @@ fn places_to(from: u8, seat: u8) -> usize
     ((seat + 4 - from) % 4) as usize
 }
 
-// Cards in their order of play.
-pub(crate) struct Order {
+// The cards of a whole play.
+pub struct Cards {
     pub cards: [u8; 52],
 }
 
 // The order of play of cards in columns from a seat, which leads first.
-pub(crate) fn order_of(cards: [u8; 52], trump: u8, first: u8) -> Order
+pub(crate) fn order_of(cards: [u8; 52], trump: u8, first: u8) -> Cards
     requires { ⌜ first < 4 ⌝ }
     ensures { λ r. ⌜ r .cards ≡ orderOfPlay trump first cards ⌝ }
 {
@@ -101,5 +101,5 @@ pub(crate) fn order_of(cards: [u8; 52], trump: u8, first: u8) -> Order
         leader = winner(trump, leader, a, b, c, d);
         at += 4;
     }
-    Order { cards: order }
+    Cards { cards: order }
 }

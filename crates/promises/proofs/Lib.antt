@@ -34,3 +34,4 @@ pub mod TallyBytes
 pub mod Demand3Bytes
 pub mod Reduction
 pub mod Pbn
+pub mod PbnProgram

@@ -1,36 +1,43 @@
 -- Portable Bridge Notation, proved. Assumes nothing.
-use Prim.Native.Nat.{ℕ, suc, _+_, _/_, _≤_, _<_, min}
+use Prim.Native.Nat.{ℕ, zero, suc, _≤_, _<_, min}
 use native.Mathlib.Omega.{arith}
 use mathlib.Core.Path.{_≡_, refl, sym, ap, _∙_}
-use mathlib.Core.Logic.{_⊎_, inl, inr}
-use mathlib.Core.Bool.{true, false}
-use mathlib.Core.List.{List, [], reverse}
-use borrow.Author.Tests.{le-ltb, ltb-false, eqb-true, eqb-false}
+use mathlib.Core.Logic.{_⊎_, _↔_, inl, inr}
+use mathlib.Core.Bool.{true, false, _||_}
+use mathlib.Core.List.{List, [], _∷_}
+use borrow.Author.Tests.{le-ltb, ltb-false}
 use lib.Dec.{ltb, eqb}
-use lib.ListN.{length}
-use Rattle.laws.specs.Refusals.{shortRecordBuffer, outsideSubset, tooManyCalls, refusesContents}
-use Rattle.laws.specs.Law2.{dealer}
+use lib.ListN.{length, take, drop}
+use Rattle.laws.specs.Refusals.{shortRecordBuffer, outsideSubset, refusesGame, refusesText}
 use Rattle.laws.specs.Record.{Parts, encode}
-use Rattle.laws.specs.Reading.{Reading, Reading.refused as stopped, Reading.found as passed, onward}
-use Rattle.laws.specs.Judge.{Outcome.refused as declined, Outcome.accepted, Rooms, Enough, judgeOf, outcome}
+use Rattle.laws.specs.Reading.{Reading, Reading.refused as stopped, Reading.found as passed}
+use Rattle.laws.specs.Judge.{Outcome, Outcome.refused as declined, Outcome.accepted, Rooms, Enough, judgeOf, outcome}
 use Rattle.laws.specs.Lawful.{Lawful}
-use Rattle.laws.specs.Contents.{Given, givenOf, takeHeading, takeDeal, takeCalls, contentsOf}
-use Rattle.laws.specs.Writing.{Written, refused, written, writeBy, writeOf}
-use Rattle.laws.specs.PbnText.{Game, Sayable, OfSubset, text}
+use Rattle.laws.specs.Lengths.{NoMark}
+use Rattle.laws.specs.Contents.{Given, contentsOf}
+use Rattle.laws.specs.Writing.{Written, refused, written, writeBy, writeOf, numberOf, recordLeft}
+use Rattle.laws.specs.PbnText.{Game, EachBelow, Sayable, OfSubset, text}
 use Rattle.laws.specs.PbnReading.{Parsed, parse, game, outside, StopsAt}
-use Rattle.laws.specs.Pbn.{lastPlace, playLine, playStands, takeGame, pbnOutcome, readPbn, contentsIn, TagsStand, gameOf, Plain}
-use Rattle.laws.proofs.Tests.{by-test}
-use Rattle.laws.proofs.Readings.{first-of, first-test}
-use Rattle.laws.proofs.ContentsNumbered.{Sound, sound-heading, sound-deal, sound-calls, contents-numbered}
+use Rattle.laws.specs.Pbn.{lastPlace, takeGame, pbnOutcome, readPbn, contentsIn, TagsStand, gameOf, Plain}
+use Rattle.laws.proofs.Tests.{by-test, not-both}
+use Rattle.laws.proofs.Lengths.{at-most-296}
 use Rattle.laws.proofs.ContentsLawful.{accepted-fits, accepted-lawful, judged-alike, lawful-fit}
 use Rattle.laws.proofs.PbnOrder.{order}
 use Rattle.laws.proofs.PbnParse.{only-so}
 use Rattle.laws.proofs.PbnWhole.{read-back}
 use Rattle.laws.proofs.PbnPlace.{stops-at}
-use Rattle.laws.proofs.PbnRecord.{game-taken, tags-stand, heading-refused, dealer-refused, calls-refused, play-refused, callsChecked}
+use Rattle.laws.proofs.PbnRecord.{game-taken, tags-stand, game-lawful, heading-refused, dealer-refused, calls-refused, play-refused, callsChecked}
 use Rattle.laws.proofs.PbnSame.{plain-sayable, plain-tags, plain-contents, given-plain, given-said}
-use Rattle.promises.specs.Writing.{heading, calls, checksTo}
+use Rattle.laws.proofs.PbnNumbers.{said-refused}
+use Rattle.promises.specs.Writing.{checksTo}
 use Rattle.promises.specs.Pbn.{GivesRecord, InOrder, Pbn}
+use Rattle.promises.proofs.Demand1.{front-is, behind-is, length-over}
+
+-- calls below 38 have no mark
+no-mark : (l : List ℕ) → EachBelow 38 l → NoMark l
+unfolding EachBelow NoMark
+no-mark [] each = tt
+no-mark (c ∷ l) each = ((λ e. omega (arith, each .0)), no-mark l (each .1))
 
 -- what is said of a game's text is what is said of the game
 module _ (x : Game) (ok : Sayable x) (table room : ℕ) where
@@ -86,7 +93,7 @@ module _ (t : List ℕ) (table room : ℕ) (bytes : List ℕ) where
         parts = p;
         first = x .first;
         seat = so .0 .first;
-        lawful = accepted-lawful p .0 (ap contentsOf (sym given) ∙ accept);
+        lawful = game-lawful x table taken;
         plain = given-plain x table (so .0) tags p given;
         says = so .1 ∙ ap text said;
         at-table = sym (ap (λ (c : Given). c .table) given);
@@ -143,93 +150,79 @@ judged t table room bytes e rooms enough =
 same-refusal : {n m place at : ℕ} → _≡_ {A = Written} (refused n place) (refused m at) → (n ≡ m) × (place ≡ at)
 same-refusal e = (cc, cc)
 
-play-line : (l : List ℕ) → length l ≤ 511 → playLine l < 1024
-unfolding playLine
-play-line l few = omega arith
-
-record Numbered (n place : ℕ) : Type 0 where
-  number : (n ≡ outsideSubset) ⊎ (refusesContents n ≡ true)
-  place-lt : place < 1024
-
-sound-on : {A B : Type 0} (r : Reading A) (next : A → ℕ → Reading B) → Sound r → ((a : A) (m : ℕ) → Sound (next a m)) → Sound (onward r next)
-sound-on (stopped n place) next f g = f
-sound-on (passed a m) next f g = g a m
-
-same-stop : {A : Type 0} {n m place at : ℕ} → _≡_ {A = Reading A} (stopped n place) (stopped m at) → (n ≡ m) × (place ≡ at)
-same-stop e = (cc, cc)
-
--- a refusal is numbered as one that it is
-numbered-as : {n m place at : ℕ} → _≡_ {A = Reading Parts} (stopped n place) (stopped m at) → Numbered n place → Numbered m at
-numbered-as e f = let s = same-stop e in rw (← (s .0), ← (s .1)) f
-
-module _ (x : Game) (table n place : ℕ) (e : takeGame x table [] 0 ≡ stopped n place) where
-  abbrev d : ℕ
-  d = dealer (x .board)
-
-  other-dealer : (x .caller ≡ d → ⊥) → Numbered n place
-  other-dealer other = go (takeHeading (x .board) table [] 0) refl (sound-heading (x .board) table 0)
+module _ (t : List ℕ) (table room : ℕ) where
+  numbers : (n place : ℕ) → readPbn t table room ≡ refused n place → (refusesText n ≡ true) × (place < 1024)
+  unfolding readPbn
+  numbers n place e = go (pbnOutcome (parse t) table) refl e
     where
-      go : (r : Reading (Unit {0})) → takeHeading (x .board) table [] 0 ≡ r → Sound r → Numbered n place
-      go (stopped m at) h f = numbered-as (sym (heading-refused x table m at h) ∙ e) (record { number = inr (f .number); place-lt = f .place-lt })
-      go (passed u m) h f = numbered-as (sym (dealer-refused x table h other) ∙ e) (record { number = inl refl; place-lt = omega arith })
+      go : (o : Outcome) → pbnOutcome (parse t) table ≡ o → writeBy o room ≡ refused n place → (refusesText n ≡ true) × (place < 1024)
+      go (declined m at) q w =
+          let f = said-refused t table q in
+          let s = same-refusal w in
+          rw (← (s .0), ← (s .1)) (ap (λ b. b || eqb m shortRecordBuffer) (f .number), f .place-lt)
+      go (accepted p) q w =
+          by-test (ltb room (length (encode p)))
+          (λ (r : ltb room (length (encode p)) ≡ true).
+          let s = same-refusal (let z : refused shortRecordBuffer 0 ≡ refused n place = rw r at w in z) in
+          rw (← (s .0), ← (s .1)) (refl, omega arith))
+          (λ (r : ltb room (length (encode p)) ≡ false). clash (sym (let z : written (encode p) ≡ refused n place = rw r at w in z)))
 
-  checked-sound : Sound (callsChecked x table)
-  unfolding callsChecked
-  checked-sound =
-      sound-on (takeHeading (x .board) table [] 0) _ (sound-heading (x .board) table 0)
-      (λ u m. sound-on (takeDeal (x .holders) [] m) _ (sound-deal (x .holders) m)
-      (λ v k. sound-on (takeCalls d (x .calls) [] k) _ (sound-calls d (x .calls) k) (λ h j. tt)))
+  short : (bytes : List ℕ) → readPbn t table room ≡ written bytes → length bytes ≤ 296
+  short bytes e =
+      let r = same t table room bytes e in
+      rw (r .record-of) (at-most-296 (r .parts) (r .lawful) (r .plain .plays) (no-mark (r .parts .calls) (r .plain .calls)))
 
-  few-calls : {j : ℕ} → callsChecked x table ≡ passed tt j → length (x .calls) ≤ 511
-  unfolding callsChecked takeCalls
-  few-calls c =
-      let top = first-of (takeHeading (x .board) table [] 0) _ c in
-      let dealt = first-of (takeDeal (x .holders) [] (top .1)) _ (top .3) in
-      let called = first-of (takeCalls d (x .calls) [] (dealt .1)) _ (dealt .3) in
-      ltb-false 511 _ (first-test tooManyCalls 511 (ltb 511 (length (x .calls))) [] (dealt .1) _ (called .2) .0)
-
-  no-play : x .caller ≡ d → playStands d (reverse (x .calls)) (x .play) ≡ false → Numbered n place
-  no-play mine absent = go (callsChecked x table) refl checked-sound
+  number : (numberOf (readPbn t table room) < 1024) ↔ ((bytes : List ℕ) × (readPbn t table room ≡ written bytes))
+  number = (go (readPbn t table room) refl, λ (bytes, e). rw e (omega (arith, short bytes e)))
     where
-      go : (r : Reading (Unit {0})) → callsChecked x table ≡ r → Sound r → Numbered n place
-      go (stopped m at) h f = numbered-as (sym (calls-refused x table mine m at h) ∙ e) (record { number = inr (f .number); place-lt = f .place-lt })
-      go (passed tt m) h f =
-          numbered-as (sym (play-refused x table mine h absent) ∙ e) (record { number = inl refl; place-lt = play-line (x .calls) (few-calls h) })
+      from-1 : (n : ℕ) → refusesText n ≡ true → 1 ≤ n
+      from-1 zero e = not-both false e refl
+      from-1 (suc n) e = omega arith
 
-  numbered : Numbered n place
-  unfolding contentsOf
-  numbered =
-      by-test (eqb (x .caller) d)
-      (λ (q : eqb (x .caller) d ≡ true).
-      by-test (playStands d (reverse (x .calls)) (x .play))
-      (λ (r : playStands d (reverse (x .calls)) (x .play) ≡ true).
-      let tags : TagsStand x = record { auction = eqb-true _ _ q; play = r } in
-      let f = contents-numbered (contentsIn x table) (ap outcome (sym (game-taken x table tags) ∙ e)) in
-      record { number = inr (f .number); place-lt = f .place-lt })
-      (λ (r : playStands d (reverse (x .calls)) (x .play) ≡ false). no-play (eqb-true _ _ q) r))
-      (λ (q : eqb (x .caller) d ≡ false). other-dealer (eqb-false _ _ q))
+      go : (w : Written) → readPbn t table room ≡ w → numberOf w < 1024 → (bytes : List ℕ) × (w ≡ written bytes)
+      go (refused n place) e l = absurd (omega (arith, from-1 n (numbers n place e .0)))
+      go (written bytes) e l = (bytes, refl)
 
-numbers : (t : List ℕ) (table room n place : ℕ) → readPbn t table room ≡ refused n place
-    → ((n ≡ outsideSubset) ⊎ (refusesContents n ≡ true)) × (place < 1024)
-unfolding readPbn pbnOutcome
-numbers t table room n place e = by-parse (parse t) e
+-- with room for every record 22 is not said
+pub enough : (t : List ℕ) (table room place : ℕ) → 296 ≤ room → readPbn t table room ≡ refused shortRecordBuffer place → ⊥
+unfolding readPbn
+enough t table room place roomy e = go (pbnOutcome (parse t) table) refl e
   where
-    by-taken : (x : Game) (r : Reading Parts) → takeGame x table [] 0 ≡ r → writeBy (outcome r) room ≡ refused n place
-        → ((n ≡ outsideSubset) ⊎ (refusesContents n ≡ true)) × (place < 1024)
-    by-taken x (stopped m at) taken w =
-        let f = numbered x table m at taken in
-        let s = same-refusal w in
-        rw (← (s .0), ← (s .1)) (f .number, f .place-lt)
-    by-taken x (passed p m) taken w =
-        by-test (ltb room (length (encode p)))
-        (λ (q : ltb room (length (encode p)) ≡ true).
-        let s = same-refusal (let z : refused shortRecordBuffer 0 ≡ refused n place = rw q at w in z) in
-        rw (← (s .0), ← (s .1)) (inr refl, omega arith))
-        (λ (q : ltb room (length (encode p)) ≡ false). clash (sym (let z : written (encode p) ≡ refused n place = rw q at w in z)))
+    other : (n : ℕ) → refusesGame n ≡ true → n ≡ shortRecordBuffer → ⊥
+    other n f q = not-both false (rw q at f) refl
 
-    by-parse : (r : Parsed) → writeBy (pbnOutcome r table) room ≡ refused n place → ((n ≡ outsideSubset) ⊎ (refusesContents n ≡ true)) × (place < 1024)
-    by-parse (outside line) w = let s = same-refusal w in rw (← (s .0), ← (s .1)) (inl refl, omega arith)
-    by-parse (game x) w = by-taken x (takeGame x table [] 0) refl w
+    go : (o : Outcome) → pbnOutcome (parse t) table ≡ o → writeBy o room ≡ refused shortRecordBuffer place → ⊥
+    go (declined n at) q w = other n (said-refused t table q .number) (same-refusal w .0)
+    go (accepted p) q w =
+        let whole : readPbn t table (length (encode p)) ≡ written (encode p)
+        = ap (λ o. writeBy o (length (encode p))) q ∙ rw (le-ltb (length (encode p)) (length (encode p)) (omega arith)) in
+        let few = short t table (length (encode p)) (encode p) whole in
+        clash (sym (let z : written (encode p) ≡ refused shortRecordBuffer place = rw (le-ltb room (length (encode p)) (omega arith)) at w in z))
+
+-- ---- the buffer
+module _ (t : List ℕ) (table : ℕ) (old : List ℕ) where
+  abbrev left : List ℕ
+  left = recordLeft (readPbn t table (length old)) old
+
+  front : (bytes : List ℕ) → readPbn t table (length old) ≡ written bytes → take (length bytes) left ≡ bytes
+  unfolding recordLeft
+  front bytes e = rw e (front-is bytes old)
+
+  behind : (bytes : List ℕ) → readPbn t table (length old) ≡ written bytes → drop (length bytes) left ≡ drop (length bytes) old
+  unfolding recordLeft
+  behind bytes e = rw e (behind-is bytes old)
+
+  untouched : (n place : ℕ) → readPbn t table (length old) ≡ refused n place → left ≡ old
+  unfolding recordLeft
+  untouched n place e = rw e
+
+  same-length : length left ≡ length old
+  unfolding recordLeft
+  same-length = go (readPbn t table (length old)) refl
+    where
+      go : (w : Written) → readPbn t table (length old) ≡ w → length (recordLeft w old) ≡ length old
+      go (refused n place) e = refl
+      go (written bytes) e = let r = same t table (length old) bytes e in length-over bytes old (rw (r .record-of) (r .enough))
 
 pub pbn : Pbn
 pbn =
@@ -245,4 +238,12 @@ pbn =
       in-order = in-order;
       judged = judged;
       numbers = numbers;
+      number = number;
+      count = λ t table room bytes e. rw e;
+      short = short;
+      enough = enough;
+      front = front;
+      behind = behind;
+      untouched = untouched;
+      same-length = same-length;
     }

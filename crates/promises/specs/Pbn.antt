@@ -1,24 +1,31 @@
--- What is promised of Portable Bridge Notation: which texts give a record, which record, and what is said of the others. It is said of `readPbn`, of a text,
--- a table and the length of a buffer; no function that answers it is exported.
+-- What is promised of Portable Bridge Notation: which texts give a record, which record, and what is said of the others. `judge_read_pbn` returns
+-- `numberOf (readPbn t table room)` and leaves `recordLeft (readPbn t table room) old`, old being the buffer as it is lent and room its length; the program
+-- prints `pbnPrinted input`.
 -- Assumes nothing.
 use Prim.Native.Nat.{ℕ, _≤_, _<_, min}
 use mathlib.Core.Path.{_≡_}
-use mathlib.Core.Logic.{_⊎_}
+use mathlib.Core.Logic.{_⊎_, _↔_}
 use mathlib.Core.Bool.{true, false}
-use mathlib.Core.List.{List, [], reverse}
-use lib.ListN.{length}
-use Rattle.laws.specs.Refusals.{outsideSubset, refusesContents}
+use mathlib.Core.List.{List, [], _∷_, _++_, reverse}
+use lib.Dec.{eqb}
+use lib.ListN.{length, take, drop}
+use Rattle.laws.specs.Choice.{some}
+use Rattle.laws.specs.Refusals.{outsideSubset, shortRecordBuffer, refusesText}
 use Rattle.laws.specs.Law2.{dealer}
 use Rattle.laws.specs.Record.{Parts, encode}
 use Rattle.laws.specs.Reading.{Reading.refused as stopped, Reading.found as passed}
 use Rattle.laws.specs.Judge.{Outcome.accepted, Rooms, Enough, judgeOf}
 use Rattle.laws.specs.Lawful.{Lawful}
 use Rattle.laws.specs.Contents.{takeHeading}
-use Rattle.laws.specs.Writing.{refused, written, writeOf}
+use Rattle.laws.specs.Writing.{refused, written, writeOf, numberOf, recordLeft}
+use Rattle.laws.specs.Decimal.{decimal}
+use Rattle.laws.specs.Sheet.{newline}
+use Rattle.laws.specs.Slip.{refusalLine}
 use Rattle.laws.specs.PbnText.{Game, Sayable, OfSubset, text}
 use Rattle.laws.specs.PbnOrder.{orderOfPlay, columnsOf}
 use Rattle.laws.specs.PbnReading.{parse, game, StopsAt}
-use Rattle.laws.specs.Pbn.{lastPlace, playLine, playStands, readPbn, contentsIn, TagsStand, gameOf, Plain}
+use Rattle.laws.specs.Pbn.{lastPlace, playLine, playStands, pbnOutcome, readPbn, contentsIn, TagsStand, gameOf, Plain}
+use Rattle.laws.specs.PbnInput.{tableOn, printed, mostInput, overLine, pbnPrinted}
 use Rattle.promises.specs.Writing.{Section, heading, calls, checksTo}
 
 -- a text that gives a record: it is the text of lawful parts of that table, whichever seat its Deal tag starts from, and the record is theirs
@@ -67,6 +74,35 @@ pub record Pbn : Type 0 where
   -- the judge accepts the record, as these parts
   pub judged : (t : List ℕ) (table room : ℕ) (bytes : List ℕ) → readPbn t table room ≡ written bytes → (rooms : Rooms) → Enough rooms
       → (r : GivesRecord t table room bytes) × (judgeOf bytes rooms ≡ accepted (r .parts))
-  -- a refusal's number is 32 or one of the writer's, and its place is below 1024
-  pub numbers : (t : List ℕ) (table room n place : ℕ) → readPbn t table room ≡ refused n place
-      → ((n ≡ outsideSubset) ⊎ (refusesContents n ≡ true)) × (place < 1024)
+  -- a refusal's number is 3, 4, 6 to 9, 12, 22, 23, 32 or 33, and its place is below 1024
+  pub numbers : (t : List ℕ) (table room n place : ℕ) → readPbn t table room ≡ refused n place → (refusesText n ≡ true) × (place < 1024)
+  -- the number returned is below 1024 exactly where bytes were written, and is then how many: at most 296, so that a buffer of 296 is always long enough
+  pub number : (t : List ℕ) (table room : ℕ) → (numberOf (readPbn t table room) < 1024) ↔ ((bytes : List ℕ) × (readPbn t table room ≡ written bytes))
+  pub count : (t : List ℕ) (table room : ℕ) (bytes : List ℕ) → readPbn t table room ≡ written bytes → numberOf (readPbn t table room) ≡ length bytes
+  pub short : (t : List ℕ) (table room : ℕ) (bytes : List ℕ) → readPbn t table room ≡ written bytes → length bytes ≤ 296
+  pub enough : (t : List ℕ) (table room place : ℕ) → 296 ≤ room → readPbn t table room ≡ refused shortRecordBuffer place → ⊥
+  -- the buffer keeps its bytes past the record; refused, all of them, and its length stays
+  pub front : (t : List ℕ) (table : ℕ) (old bytes : List ℕ) → readPbn t table (length old) ≡ written bytes
+      → take (length bytes) (recordLeft (readPbn t table (length old)) old) ≡ bytes
+  pub behind : (t : List ℕ) (table : ℕ) (old bytes : List ℕ) → readPbn t table (length old) ≡ written bytes
+      → drop (length bytes) (recordLeft (readPbn t table (length old)) old) ≡ drop (length bytes) old
+  pub untouched : (t : List ℕ) (table : ℕ) (old : List ℕ) (n place : ℕ) → readPbn t table (length old) ≡ refused n place
+      → recordLeft (readPbn t table (length old)) old ≡ old
+  pub same-length : (t : List ℕ) (table : ℕ) (old : List ℕ) → length (recordLeft (readPbn t table (length old)) old) ≡ length old
+
+-- what the program prints of its input
+pub record PbnProgram : Type 0 where
+  -- of a line and a text behind it, what is said of the text at the line's table: the record's bytes, or the refusal
+  pub prints : (line t : List ℕ) → some (λ b. eqb b newline) line ≡ false → length (line ++ (newline ∷ t)) ≤ mostInput
+      → pbnPrinted (line ++ (newline ∷ t)) ≡ printed (pbnOutcome (parse t) (tableOn line))
+  pub record-printed : (t : List ℕ) (table room : ℕ) (bytes : List ℕ) → readPbn t table room ≡ written bytes → printed (pbnOutcome (parse t) table) ≡ bytes
+  pub refusal-printed : (t : List ℕ) (table n place : ℕ) → readPbn t table 296 ≡ refused n place
+      → printed (pbnOutcome (parse t) table) ≡ refusalLine n place
+  -- a table's number stands as a board's does
+  pub tables : (table : ℕ) → table ≤ 999 → tableOn (decimal table) ≡ table
+  -- without a newline there is no text
+  pub no-line : (input : List ℕ) → some (λ b. eqb b newline) input ≡ false → length input ≤ mostInput → pbnPrinted input ≡ refusalLine outsideSubset 1
+  -- more bytes than are held are told; so the first 65,537 decide, and at most 505 bytes are printed
+  pub too-long : (input : List ℕ) → mostInput < length input → pbnPrinted input ≡ overLine
+  pub first-bytes : (input : List ℕ) → pbnPrinted (take 65537 input) ≡ pbnPrinted input
+  pub few-bytes : (input : List ℕ) → length (pbnPrinted input) ≤ 505

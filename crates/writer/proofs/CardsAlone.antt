@@ -9,7 +9,7 @@ use Rattle.laws.specs.Events.{played, beginsCode}
 use Rattle.laws.specs.FlatPlay.{event, eventsAmong}
 use Rattle.laws.specs.Record.{Field, field, row, bits, eventFields, playFields}
 use Rattle.laws.proofs.Lengths.{bits-row}
-use Rattle.contents.proofs.CardsAlone.{items-alone}
+use Rattle.laws.proofs.FlatPlay.{items-alone}
 use Rattle.writer.specs.Fields.{fieldsOf}
 
 fields-all : (l : List ℕ) → playFields (eventsAmong (map (λ (c : ℕ). event (played c)) l)) ≡ row 6 l

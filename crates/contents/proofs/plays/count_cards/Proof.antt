@@ -1,7 +1,7 @@
 -- `count_cards` meets its contract: without a code each number is a card. Assumes nothing.
 use mathlib.Core.Path.{sym, _∙_}
 use borrow.Author.Needs.{needs}
-use Rattle.contents.proofs.CardsAlone.{cards-alone}
+use Rattle.laws.proofs.FlatPlay.{cards-alone}
 use Rattle.contents.proofs.plays.count_cards.Statement.{statement}
 use Rattle.contents.proofs.plays.count_cards.Tie as tie
 

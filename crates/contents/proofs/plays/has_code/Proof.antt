@@ -7,7 +7,7 @@ use lib.ListN.{length, take}
 use Rattle.laws.specs.Choice.{some}
 use Rattle.laws.specs.Events.{beginsCode}
 use Rattle.play.specs.Words.{bitOf}
-use Rattle.contents.proofs.CardsAlone.{seen-more, seen-all}
+use Rattle.contents.proofs.CodesSeen.{seen-more, seen-all}
 use Rattle.contents.proofs.plays.has_code.Statement.{statement}
 use Rattle.contents.proofs.plays.has_code.Tie as tie
 

@@ -1,18 +1,15 @@
--- A flat list of plays without a code: each number is a card. Assumes nothing.
+-- Whether some number of a flat list begins a code: a bit that is set once. Assumes nothing.
 use Prim.Native.Nat.{ℕ, suc, _≤_, _<_, _+_}
 use native.Mathlib.Omega.{arith}
 use mathlib.Core.Path.{_≡_, refl, sym, ap, _∙_}
 use mathlib.Core.Bool.{Bool, true, false, not, _||_}
-use mathlib.Core.List.{List, [], _∷_, _++_, map}
+use mathlib.Core.List.{List, [], _∷_, _++_}
 use lib.Bits.{bitOr}
 use lib.Dec.{eqb}
 use lib.ListN.{length, getD, take}
 use lib.Seq.{take-suc, take-all}
-use Rattle.laws.specs.Choice.{some, howMany}
-use Rattle.laws.specs.Events.{played, beginsCode}
-use Rattle.laws.specs.FlatPlay.{Item, event, itemsOf, isCard, cardsIn}
-use Rattle.laws.proofs.Tests.{or-left, or-right}
-use Rattle.laws.proofs.FlatPlay.{card-first}
+use Rattle.laws.specs.Choice.{some}
+use Rattle.laws.specs.Events.{beginsCode}
 use Rattle.play.specs.Words.{bitOf}
 
 -- ---- a bit for whether some number so far passes a test
@@ -51,20 +48,3 @@ seen-all l i h k e = rw (e, take-all i l k) (bit-set (some beginsCode l))
     bit-set : (b : Bool) → not (eqb (bitOf b) 0) ≡ b
     bit-set true = refl
     bit-set false = refl
-
--- ---- without a code
-pub items-alone : (l : List ℕ) → some beginsCode l ≡ false → itemsOf l ≡ map (λ (c : ℕ). event (played c)) l
-unfolding itemsOf some
-items-alone [] e = refl
-items-alone (c ∷ l) e =
-    card-first c l (or-left (beginsCode c) (some beginsCode l) e)
-    ∙ ap (λ (m : List Item). event (played c) ∷ m) (items-alone l (or-right (beginsCode c) (some beginsCode l) e))
-
-cards-all : (l : List ℕ) → howMany isCard (map (λ (c : ℕ). event (played c)) l) ≡ length l
-unfolding howMany isCard
-cards-all [] = refl
-cards-all (c ∷ l) = omega (arith, cards-all l)
-
-pub cards-alone : (l : List ℕ) → some beginsCode l ≡ false → length l ≡ cardsIn l
-unfolding cardsIn
-cards-alone l e = rw (items-alone l e) (sym (cards-all l))

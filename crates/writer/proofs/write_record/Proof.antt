@@ -1,4 +1,4 @@
--- `judge_write_record` meets its contract: a law of Records for each way out. Assumes nothing.
+-- `write_record` meets its contract: a law of Records for each way out. Assumes nothing.
 use mathlib.Core.Path.{_≡_, _∙_}
 use mathlib.Core.List.{[]}
 use native.Mathlib.Omega.{arith}
@@ -9,8 +9,8 @@ use Rattle.contents.specs.Given.{given}
 use Rattle.writer.specs.Fields.{partsOf, fieldsOf}
 use Rattle.writer.proofs.Records.{record-refused, fits, none-broken, plays-low, bits-low, length-low, record-short, record-written, size-is}
 use borrow.Author.Needs.{needs}
-use Rattle.writer.proofs.judge_write_record.Statement.{statement}
-use Rattle.writer.proofs.judge_write_record.Tie as tie
+use Rattle.writer.proofs.write_record.Statement.{statement}
+use Rattle.writer.proofs.write_record.Tie as tie
 
 -- the contents that the function was given, and the parts that they are
 abbrev contents : tie.Start → Given
@@ -84,8 +84,8 @@ returns-3 c =
     record-written (contents (start-of r)) _ _ (r .contents-refusal .ensures) (l .before .before .if1 .left) _ (size-of l) (w .before .before .if2 .left) _
     (w .write-contents .ensures)
 
-pub judge-write-record-spec : {M : Type 1} → statement M
-judge-write-record-spec =
+pub write-record-spec : {M : Type 1} → statement M
+write-record-spec =
     tie.close
     (tie.spec
     contents-refusal-requires

@@ -1,0 +1,3 @@
+pub mod Auctions
+pub mod Tagged
+pub mod Written
