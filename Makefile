@@ -4,7 +4,7 @@
 # make bench     the proved judge's speed beside the Rust judge's, and that of merges
 # make fuzz      compares on random records, contents, texts, tallies, trees, sheets, slips, endings and team matches for FUZZ_SECONDS, from SEED where given
 # What is built beside the proofs stands in build/, since `rt ci` removes target/.
-.PHONY: test demo install install-files bench fuzz outside clean tools rt-tool FORCE
+.PHONY: test demo install install-files bench fuzz outside proved clean tools rt-tool FORCE
 
 PREFIX = /usr/local
 FUZZ_SECONDS = 60
@@ -154,7 +154,11 @@ install-files:
 build/rust-built: $(ARCHIVE) $(TALLY_ARCHIVE) FORCE | tools
 	$(CARGO) build --release --offline --locked --quiet
 
-outside: tools build/rust-built build/terminal build/section build/standings $(TREE) $(SHEET) $(CELLS) $(SLIP) $(BEST) $(PBN) $(TEAM)
+# What is tried from outside, proved all at once, so that crates that do not depend on each other are proved side by side.
+proved: rt-tool
+	rt check judge writer_call best_record pbn_record tally_calls $(notdir $(TREE) $(SHEET) $(CELLS) $(SLIP) $(BEST) $(PBN) $(TEAM))
+
+outside: tools proved build/rust-built build/terminal build/section build/standings $(TREE) $(SHEET) $(CELLS) $(SLIP) $(BEST) $(PBN) $(TEAM)
 	$(CC) $(CFLAGS) -Iinclude tests/c/header.c $(ARCHIVE) -o build/header-c
 	valgrind --quiet --error-exitcode=1 build/header-c
 	$(CXX) $(CXXFLAGS) -Iinclude -x c++ tests/c/header.c -x none $(ARCHIVE) -o build/header-c++
