@@ -1,16 +1,16 @@
--- What is printed of an input, by the way out of the code; how long it is, and which of the first bytes decide it. Assumes nothing.
+-- What is printed of an input, by the way out of the code, and how long it is. Assumes nothing.
 use Prim.Native.Nat.{ℕ, zero, suc, _+_, _*_, _/_, _%_, _≤_, _<_}
 use native.Mathlib.Omega.{arith}
 use mathlib.Core.Path.{_≡_, refl, sym, ap, ap₂, _∙_}
 use mathlib.Core.Bool.{Bool, true, false, _&&_}
 use mathlib.Core.List.{List, [], _∷_, _++_}
-use borrow.Author.Tests.{eq-eqb, ne-eqb, lt-ltb, le-ltb, leb-true, leb-false, le-leb, lt-leb}
+use borrow.Author.Tests.{eqb-true, eq-eqb, ne-eqb, lt-ltb, le-ltb, leb-true, leb-false, le-leb, lt-leb}
 use lib.Dec.{eqb, ltb, leb, lit≤}
 use lib.ListN.{length, getD, take, drop, length-append, length-take}
-use lib.Seq.{take-at, take-all, length-take-le}
+use lib.Seq.{take-at}
 use Rattle.laws.specs.Choice.{if_then_else_}
 use Rattle.laws.specs.Refusals.{outsideSubset, refusesGame}
-use Rattle.laws.specs.Decimal.{startsWith, isNumber, value}
+use Rattle.laws.specs.Decimal.{decimal, lastDigits, startsWith, allDigits, isNumber, value, valueAfter}
 use Rattle.laws.specs.Record.{Parts, encode}
 use Rattle.laws.specs.Judge.{Outcome, Outcome.refused as declined, Outcome.accepted}
 use Rattle.laws.specs.Writing.{writeBy, numberOf, recordLeft}
@@ -21,6 +21,7 @@ use Rattle.laws.specs.PbnReading.{parse}
 use Rattle.laws.specs.Pbn.{pbnOutcome, readPbn}
 use Rattle.laws.specs.PbnInput.{firstLine, endsLine, behindLine, tableOn, printed, mostInput, overLine, pbnPrinted}
 use Rattle.laws.proofs.Tests.{by-test, not-both, and-left}
+use Rattle.laws.proofs.Counts.{everyBelow, every-below}
 use Rattle.laws.proofs.Numbered.{Numbered}
 use Rattle.laws.proofs.Lengths.{at-most-505}
 use Rattle.laws.proofs.PbnNumbers.{said-refused, said-lawful}
@@ -75,6 +76,18 @@ module _ (line : List ℕ) where
       pub table-is : (getD line 0 0 ≡ 48 → ⊥) → value line ≡ tableOn line
       unfolding tableOn
       table-is e = rw (number, le-leb (length line) 3 few, starts-is 48 line (some-byte line number), ne-eqb (getD line 0 0) 48 e)
+
+-- a table's number in decimal is read as that number: a test that the checker computes
+tellsTable : ℕ → Bool
+tellsTable n = eqb (tableOn (decimal n)) n
+
+all-told : everyBelow 1000 tellsTable ≡ true
+unfolding tellsTable tableOn decimal lastDigits startsWith allDigits isNumber valueAfter
+all-told = refl
+
+pub tables : (table : ℕ) → table ≤ 999 → tableOn (decimal table) ≡ table
+unfolding tellsTable
+tables n h = eqb-true _ _ (every-below 1000 tellsTable all-told n (omega arith))
 
 -- ---- a text at a table
 from-1 : (n : ℕ) → refusesGame n ≡ true → 1 ≤ n
@@ -157,7 +170,7 @@ module _ (s : List ℕ) where
           let ends : length (firstLine s) < length s = omega (arith, end-within, ee) in
           rw (le-ltb 65536 (length s) held, lt-ltb (length (firstLine s)) (length s) ends, eb, here, rest)
 
--- ---- how long it is, and what decides it
+-- ---- how long it is
 refusal-short : (n place : ℕ) → n < 100 → place < 1024 → length (refusalLine n place) ≤ 8
 unfolding refusalLine
 refusal-short n place h l = simp length-append (omega (arith, length-by 1 n h, length-by 3 place (omega arith)))
@@ -198,12 +211,3 @@ enough s =
     (λ (q : ltb 65536 (length s) ≡ false). rw q (by-test (endsLine s)
     (λ (r : endsLine s ≡ true). rw r (said-short (behindLine s) (tableOn (firstLine s)) _ refl))
     (λ (r : endsLine s ≡ false). rw r (omega (arith, refusal-short 32 1 (omega arith) (omega arith))))))
-
-pub decided : (s : List ℕ) → pbnPrinted (take 65537 s) ≡ pbnPrinted s
-decided s =
-    by-test (leb (length s) 65536)
-    (λ (q : leb (length s) 65536 ≡ true). ap pbnPrinted (take-all 65537 s (omega (arith, leb-true (length s) 65536 q))))
-    (λ (q : leb (length s) 65536 ≡ false).
-    let high = leb-false (length s) 65536 q in
-    let n : length (take 65537 s) ≡ 65537 = length-take-le 65537 s (omega arith) in
-    held-not (take 65537 s) (omega arith) ∙ sym (held-not s high))

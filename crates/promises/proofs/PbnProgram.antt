@@ -2,26 +2,23 @@
 use Prim.Native.Nat.{ℕ, suc, _+_, _≤_, _<_}
 use native.Mathlib.Omega.{arith}
 use mathlib.Core.Path.{_≡_, refl, sym, ap, _∙_}
-use mathlib.Core.Bool.{Bool, true, false, _||_}
+use mathlib.Core.Bool.{true, false, _||_}
 use mathlib.Core.List.{List, [], _∷_, _++_}
-use borrow.Author.Tests.{eqb-true, le-ltb, lt-ltb}
-use lib.Dec.{eqb, ltb}
-use lib.ListN.{length, drop, length-append}
-use lib.Seq.{drop-at}
+use borrow.Author.Tests.{le-ltb, lt-ltb, leb-true, leb-false}
+use lib.Dec.{eqb, ltb, leb}
+use lib.ListN.{length, take, drop, length-append}
+use lib.Seq.{take-all, length-take-le}
 use Rattle.laws.specs.Choice.{if_then_else_, some}
 use Rattle.laws.specs.Refusals.{outsideSubset, shortRecordBuffer}
 use Rattle.laws.specs.Record.{Parts, encode}
 use Rattle.laws.specs.Judge.{Outcome, Outcome.refused as declined, Outcome.accepted}
 use Rattle.laws.specs.Writing.{Written, refused, written, writeBy}
-use Rattle.laws.specs.Decimal.{decimal, lastDigits, startsWith, allDigits, isNumber, valueAfter}
 use Rattle.laws.specs.Sheet.{newline}
 use Rattle.laws.specs.Slip.{refusalLine}
 use Rattle.laws.specs.PbnReading.{parse}
 use Rattle.laws.specs.Pbn.{pbnOutcome, readPbn}
-use Rattle.laws.specs.PbnInput.{firstLine, endsLine, behindLine, tableOn, printed, mostInput, pbnPrinted}
+use Rattle.laws.specs.PbnInput.{firstLine, endsLine, behindLine, tableOn, printed, mostInput, overLine, pbnPrinted}
 use Rattle.laws.proofs.Tests.{by-test, or-left, or-right}
-use Rattle.laws.proofs.Counts.{everyBelow, every-below}
-use Rattle.pbn_output.proofs.Printed.{held-not, enough, decided}
 use Rattle.promises.specs.Pbn.{PbnProgram}
 use Rattle.promises.proofs.Pbn as Text
 
@@ -56,17 +53,19 @@ no-line : (input : List ℕ) → some (λ b. eqb b newline) input ≡ false → 
 unfolding pbnPrinted endsLine
 no-line s e held = rw (le-ltb mostInput (length s) held, no-end s e, le-ltb (length s) (length s) (omega arith))
 
--- ---- the table
-tellsTable : ℕ → Bool
-tellsTable n = eqb (tableOn (decimal n)) n
+-- ---- more bytes than are held
+too-long : (input : List ℕ) → mostInput < length input → pbnPrinted input ≡ overLine
+unfolding pbnPrinted
+too-long s h = rw (lt-ltb mostInput (length s) h)
 
-all-told : everyBelow 1000 tellsTable ≡ true
-unfolding tellsTable tableOn decimal lastDigits startsWith allDigits isNumber valueAfter
-all-told = refl
-
-tables : (table : ℕ) → table ≤ 999 → tableOn (decimal table) ≡ table
-unfolding tellsTable
-tables n h = eqb-true _ _ (every-below 1000 tellsTable all-told n (omega arith))
+first-bytes : (input : List ℕ) → pbnPrinted (take 65537 input) ≡ pbnPrinted input
+first-bytes s =
+    by-test (leb (length s) mostInput)
+    (λ (q : leb (length s) mostInput ≡ true). ap pbnPrinted (take-all 65537 s (omega (arith, leb-true (length s) mostInput q))))
+    (λ (q : leb (length s) mostInput ≡ false).
+    let high = leb-false (length s) mostInput q in
+    let n : length (take 65537 s) ≡ 65537 = length-take-le 65537 s (omega arith) in
+    too-long (take 65537 s) (omega arith) ∙ sym (too-long s high))
 
 -- ---- what is said of a text
 record-printed : (t : List ℕ) (table room : ℕ) (bytes : List ℕ) → readPbn t table room ≡ written bytes → printed (pbnOutcome (parse t) table) ≡ bytes
@@ -104,9 +103,7 @@ pbn-program =
       prints = prints;
       record-printed = record-printed;
       refusal-printed = refusal-printed;
-      tables = tables;
       no-line = no-line;
-      too-long = held-not;
-      first-bytes = decided;
-      few-bytes = enough;
+      too-long = too-long;
+      first-bytes = first-bytes;
     }

@@ -18,7 +18,6 @@ use Rattle.laws.specs.Judge.{Outcome.accepted, Rooms, Enough, judgeOf}
 use Rattle.laws.specs.Lawful.{Lawful}
 use Rattle.laws.specs.Contents.{takeHeading}
 use Rattle.laws.specs.Writing.{refused, written, writeOf, numberOf, recordLeft}
-use Rattle.laws.specs.Decimal.{decimal}
 use Rattle.laws.specs.Sheet.{newline}
 use Rattle.laws.specs.Slip.{refusalLine}
 use Rattle.laws.specs.PbnText.{Game, Sayable, OfSubset, text}
@@ -98,11 +97,8 @@ pub record PbnProgram : Type 0 where
   pub record-printed : (t : List ℕ) (table room : ℕ) (bytes : List ℕ) → readPbn t table room ≡ written bytes → printed (pbnOutcome (parse t) table) ≡ bytes
   pub refusal-printed : (t : List ℕ) (table n place : ℕ) → readPbn t table 296 ≡ refused n place
       → printed (pbnOutcome (parse t) table) ≡ refusalLine n place
-  -- a table's number stands as a board's does
-  pub tables : (table : ℕ) → table ≤ 999 → tableOn (decimal table) ≡ table
   -- without a newline there is no text
   pub no-line : (input : List ℕ) → some (λ b. eqb b newline) input ≡ false → length input ≤ mostInput → pbnPrinted input ≡ refusalLine outsideSubset 1
-  -- more bytes than are held are told; so the first 65,537 decide, and at most 505 bytes are printed
+  -- more bytes than are held are told; so the first 65,537 decide
   pub too-long : (input : List ℕ) → mostInput < length input → pbnPrinted input ≡ overLine
   pub first-bytes : (input : List ℕ) → pbnPrinted (take 65537 input) ≡ pbnPrinted input
-  pub few-bytes : (input : List ℕ) → length (pbnPrinted input) ≤ 505
