@@ -7,14 +7,7 @@ program=$1
 writer=$2
 terminal=$3
 work=$4
-failed=0
-
-# same WHAT WROTE DUE
-same() {
-    [ "$2" = "$3" ] && return
-    failed=1
-    printf '%s: wrote\n%s\nto be\n%s\n' "$1" "$2" "$3"
-}
+. tests/same.sh
 
 # digits FILE: the bytes of a file in hexadecimal
 digits() { od -An -v -tx1 "$1" | tr -d ' \n' | tr a-f A-F; }

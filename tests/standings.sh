@@ -7,14 +7,7 @@ section=$1
 standings=$2
 terminal=$3
 work=$4
-failed=0
-
-# same WHAT WROTE DUE
-same() {
-    [ "$2" = "$3" ] && return
-    failed=1
-    printf '%s: wrote\n%s\nto be\n%s\n' "$1" "$2" "$3"
-}
+. tests/same.sh
 
 # same_file WHAT WROTE DUE
 same_file() { cmp -s "$2" "$3" || same "$1" "other bytes" "those of $3"; }

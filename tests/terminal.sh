@@ -4,14 +4,7 @@
 set -u
 terminal=$1
 work=$2
-failed=0
-
-# same WHAT WROTE DUE
-same() {
-    [ "$2" = "$3" ] && return
-    failed=1
-    printf '%s: wrote\n%s\nto be\n%s\n' "$1" "$2" "$3"
-}
+. tests/same.sh
 
 # bytes HEX-FILE: the record as bytes
 bytes() {

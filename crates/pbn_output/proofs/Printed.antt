@@ -8,7 +8,6 @@ use borrow.Author.Tests.{eqb-true, eq-eqb, ne-eqb, lt-ltb, le-ltb, leb-true, leb
 use lib.Dec.{eqb, ltb, leb, lit≤}
 use lib.ListN.{length, getD, take, drop, length-append, length-take}
 use lib.Seq.{take-at}
-use Rattle.laws.specs.Choice.{if_then_else_}
 use Rattle.laws.specs.Refusals.{outsideSubset, refusesGame}
 use Rattle.laws.specs.Decimal.{decimal, lastDigits, startsWith, allDigits, isNumber, value, valueAfter}
 use Rattle.laws.specs.Record.{Parts, encode}
@@ -19,10 +18,9 @@ use Rattle.laws.specs.Sheet.{newline}
 use Rattle.laws.specs.Slip.{refusalLine}
 use Rattle.laws.specs.PbnReading.{parse}
 use Rattle.laws.specs.Pbn.{pbnOutcome, readPbn}
-use Rattle.laws.specs.PbnInput.{firstLine, endsLine, behindLine, tableOn, printed, mostInput, overLine, pbnPrinted}
+use Rattle.laws.specs.PbnInput.{firstLine, endsLine, behindLine, tableOn, printed, overLine, pbnPrinted}
 use Rattle.laws.proofs.Tests.{by-test, not-both, and-left}
 use Rattle.laws.proofs.Counts.{everyBelow, every-below}
-use Rattle.laws.proofs.Numbered.{Numbered}
 use Rattle.laws.proofs.Lengths.{at-most-505}
 use Rattle.laws.proofs.PbnNumbers.{said-refused, said-lawful}
 use Rattle.pbn_text.specs.WordNumbers.{partLength}

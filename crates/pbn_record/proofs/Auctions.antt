@@ -2,14 +2,14 @@
 use Prim.Native.Nat.{ℕ, _+_, _/_, _≤_, _<_, min}
 use native.Mathlib.Omega.{arith}
 use mathlib.Core.Path.{_≡_, refl, sym, ap, _∙_}
-use mathlib.Core.Bool.{Bool, true, false, not, _&&_}
+use mathlib.Core.Bool.{Bool, true, false, not}
 use mathlib.Core.List.{List, [], _++_}
-use borrow.Author.Tests.{lt-ltb, eq-eqb, ne-eqb}
-use lib.Dec.{ltb, eqb}
+use borrow.Author.Tests.{lt-ltb}
+use lib.Dec.{eqb}
 use lib.ListN.{length, take, replicate}
 use lib.Seq.{take-take, take-at}
 use Rattle.laws.specs.Refusals.{refusalNumber, tooManyCalls, outsideSubset}
-use Rattle.laws.specs.Cards.{noSeat, clockwise}
+use Rattle.laws.specs.Cards.{clockwise}
 use Rattle.laws.specs.Auction.{passedOut, trumpAfter, openingAfter}
 use Rattle.laws.specs.Reading.{Reading, Reading.refused, Reading.found, onward, refuse}
 use Rattle.laws.specs.Contents.{takeCalls}
@@ -62,22 +62,13 @@ module _ (a : Auction) (d : ℕ) (h : List ℕ) (ea : a ≡ positionOf d h) (out
       rw (sym passed ∙ o, e, led)
 
 -- ---- the calls that are kept
-module _ (d : ℕ) (l : List ℕ) (listed : Listed) (calls : Numbers) (ec : calls ≡ keptOf l) where
-  abbrev tagged : Tags
-  tagged = tagsBy (takeAuction d l listed [] 0)
-
-  count-is : calls .count ≡ min (length l) 512
+module _ (l : List ℕ) (calls : Numbers) (ec : calls ≡ keptOf l) where
+  pub count-is : calls .count ≡ min (length l) 512
   unfolding keptOf
   count-is = ap (λ (k : Numbers). k .count) ec
 
-  pub too-many : 511 < calls .count → noTags (refusalNumber tooManyCalls 511) ≡ tagsBy (takeAuction d l listed [] 0)
-  unfolding takeAuction takeCalls refuse
-  too-many h =
-      let many : 511 < length l = omega (arith, count-is) in
-      rw (lt-ltb 511 (length l) many)
-
   module _ (few : calls .count ≤ 511) where
-    pub count-all : calls .count ≡ length l
+    count-all : calls .count ≡ length l
     count-all = omega (arith, count-is)
 
     pub calls-are : take (calls .count) (calls .numbers) ≡ l
@@ -87,9 +78,17 @@ module _ (d : ℕ) (l : List ℕ) (listed : Listed) (calls : Numbers) (ec : call
         ∙ take-take (calls .count) 511 (l ++ replicate 511 0) few
         ∙ take-at l (replicate 511 0) (calls .count) (sym count-all)
 
+module _ (d : ℕ) (l : List ℕ) (listed : Listed) (calls : Numbers) (ec : calls ≡ keptOf l) where
+  pub too-many : 511 < calls .count → noTags (refusalNumber tooManyCalls 511) ≡ tagsBy (takeAuction d l listed [] 0)
+  unfolding takeAuction takeCalls refuse
+  too-many h =
+      let many : 511 < length l = omega (arith, count-is l calls ec) in
+      rw (lt-ltb 511 (length l) many)
+
+  module _ (few : calls .count ≤ 511) where
     module _ (part : List ℕ) (ep : part ≡ take (calls .count) (calls .numbers)) (k : Calls) (ek : k ≡ callsBy d (takeCalls d part [] 0)) where
       told : k ≡ callsBy d (takeCalls d l [] 0)
-      told = ek ∙ ap (λ (m : List ℕ). callsBy d (takeCalls d m [] 0)) (ep ∙ calls-are)
+      told = ek ∙ ap (λ (m : List ℕ). callsBy d (takeCalls d m [] 0)) (ep ∙ calls-are l calls ec few)
 
       number-of : (r : Reading (List ℕ)) → callsBy d r .refusal ≡ refusalIn r
       number-of (refused n place) = refl
@@ -118,7 +117,7 @@ module _ (d : ℕ) (l : List ℕ) (listed : Listed) (calls : Numbers) (ec : call
               → noTags (refusalNumber outsideSubset line) ≡ tagsBy (takeAuction d l listed [] 0)
           unfolding takeAuction playLine
           play-refused none line el =
-              let at : line ≡ 4 + (length l + 3) / 4 = el ∙ ap (λ (n : ℕ). 4 + (n + 3) / 4) count-all in
+              let at : line ≡ 4 + (length l + 3) / 4 = el ∙ ap (λ (n : ℕ). 4 + (n + 3) / 4) (count-all l calls ec few) in
               let test : not (playStands d (called .0) listed) ≡ true = ap not (sym eb ∙ none) in
               rw (called .1, test-stops outsideSubset (4 + (length l + 3) / 4) [] 0 test, at)
 

@@ -2,14 +2,13 @@
 use Prim.Native.Nat.{ℕ, _≤_, _<_}
 use native.Mathlib.Omega.{arith}
 use mathlib.Core.Path.{_≡_, refl, sym, ap, _∙_}
-use mathlib.Core.Bool.{Bool, true, false, not}
+use mathlib.Core.Bool.{true, false, not}
 use mathlib.Core.List.{List, [], reverse}
-use borrow.Author.Tests.{eq-eqb, ne-eqb, eqb-true, not-false, ltb-false}
-use lib.Dec.{ltb, eqb}
+use borrow.Author.Tests.{eq-eqb, ne-eqb, eqb-true, not-false}
+use lib.Dec.{eqb}
 use lib.ListN.{length}
-use Rattle.laws.specs.Refusals.{refusalNumber, tooManyCalls, outsideSubset}
+use Rattle.laws.specs.Refusals.{refusalNumber, outsideSubset}
 use Rattle.laws.specs.Law2.{dealer}
-use Rattle.laws.specs.Auction.{trumpAfter}
 use Rattle.laws.specs.Reading.{Reading, Reading.refused, Reading.found, onward, refuse}
 use Rattle.laws.specs.Contents.{takeHeading, takeDeal, takeCalls}
 use Rattle.laws.specs.PbnText.{Game}
@@ -39,7 +38,20 @@ module _ (board table top : ℕ) (et : top ≡ refusalIn (takeHeading board tabl
   pub board-low : board < 256
   board-low = omega (arith, heading-kept board table 0 (headed .1) .0)
 
+-- what is told of a game
 module _ (g : Told.Game) (x : Game) (eg : g ≡ gameIn (game x)) where
+  pub board-told : g .board ≡ x .board
+  unfolding gameIn
+  board-told = ap (λ (t : Told.Game). t .board) eg
+
+  caller-told : g .caller ≡ x .caller
+  unfolding gameIn
+  caller-told = ap (λ (t : Told.Game). t .caller) eg
+
+  pub holders-told : g .holders ≡ x .holders
+  unfolding gameIn
+  holders-told = ap (λ (t : Told.Game). t .holders) eg
+
   pub calls-told : g .calls ≡ keptOf (x .calls)
   unfolding gameIn
   calls-told = ap (λ (t : Told.Game). t .calls) eg
@@ -49,18 +61,6 @@ module _ (g : Told.Game) (x : Game) (eg : g ≡ gameIn (game x)) where
   seat-told = ap (λ (t : Told.Game). t .seat) eg
 
 module _ (g : Told.Game) (x : Game) (eg : g ≡ gameIn (game x)) (table : ℕ) where
-  board-is : g .board ≡ x .board
-  unfolding gameIn
-  board-is = ap (λ (t : Told.Game). t .board) eg
-
-  caller-is : g .caller ≡ x .caller
-  unfolding gameIn
-  caller-is = ap (λ (t : Told.Game). t .caller) eg
-
-  holders-are : g .holders ≡ x .holders
-  unfolding gameIn
-  holders-are = ap (λ (t : Told.Game). t .holders) eg
-
   abbrev afterSeat : ℕ → Reading (List ℕ)
   afterSeat m = onward (takeDeal (x .holders) [] m) (λ u k. takeAuction (dealer (x .board)) (x .calls) (x .play) [] k)
 
@@ -73,14 +73,14 @@ module _ (g : Told.Game) (x : Game) (eg : g ≡ gameIn (game x)) (table : ℕ) w
 
   module _ (top : ℕ) (et : top ≡ refusalIn (takeHeading (g .board) table [] 0)) where
     top-is : top ≡ refusalIn (takeHeading (x .board) table [] 0)
-    top-is = et ∙ ap (λ (n : ℕ). refusalIn (takeHeading n table [] 0)) board-is
+    top-is = et ∙ ap (λ (n : ℕ). refusalIn (takeHeading n table [] 0)) (board-told g x eg)
 
     pub heading-refused : (top ≡ 0 → ⊥) → noTags top ≡ tagsBy (takeTags x table [] 0)
     heading-refused h = stopped (takeHeading (x .board) table [] 0) (λ u m. afterHeading m) top top-is h ∙ ap tagsBy (sym whole)
 
     module _ (z : top ≡ 0) (seat : ℕ) (es : seat ≡ dealer (g .board)) where
       seat-is : seat ≡ dealer (x .board)
-      seat-is = es ∙ ap dealer board-is
+      seat-is = es ∙ ap dealer (board-told g x eg)
 
       whole-seat : takeTags x table [] 0 ≡ afterHeading 0
       whole-seat = whole ∙ rw (headed (x .board) table top top-is z .1)
@@ -88,14 +88,14 @@ module _ (g : Told.Game) (x : Game) (eg : g ≡ gameIn (game x)) (table : ℕ) w
       pub dealer-refused : (g .caller ≡ seat → ⊥) → noTags (refusalNumber outsideSubset 3) ≡ tagsBy (takeTags x table [] 0)
       dealer-refused h =
           let other : not (eqb (x .caller) (dealer (x .board))) ≡ true
-          = rw (ne-eqb (x .caller) (dealer (x .board)) (λ q. h (caller-is ∙ q ∙ sym seat-is))) in
+          = rw (ne-eqb (x .caller) (dealer (x .board)) (λ q. h ((caller-told g x eg) ∙ q ∙ sym seat-is))) in
           rw (whole-seat, test-stops outsideSubset 3 [] 0 other)
 
       module _ (mine : g .caller ≡ seat) (t : Deal) (ed : t ≡ dealBy (g .holders) (takeDeal (g .holders) [] 0)) where
         whole-deal : takeTags x table [] 0 ≡ afterSeat 0
         whole-deal =
             let own : not (eqb (x .caller) (dealer (x .board))) ≡ false
-            = rw (eq-eqb (x .caller) (dealer (x .board)) (sym caller-is ∙ mine ∙ seat-is)) in
+            = rw (eq-eqb (x .caller) (dealer (x .board)) (sym (caller-told g x eg) ∙ mine ∙ seat-is)) in
             whole-seat ∙ rw (test-is outsideSubset 3 [] 0 own)
 
         number-of : (l : List ℕ) (r : Reading (Unit {0})) → dealBy l r .refusal ≡ refusalIn r
@@ -106,7 +106,7 @@ module _ (g : Told.Game) (x : Game) (eg : g ≡ gameIn (game x)) (table : ℕ) w
         refusal-is =
             ap (λ (y : Deal). y .refusal) ed
             ∙ number-of (g .holders) (takeDeal (g .holders) [] 0)
-            ∙ ap (λ (l : List ℕ). refusalIn (takeDeal l [] 0)) holders-are
+            ∙ ap (λ (l : List ℕ). refusalIn (takeDeal l [] 0)) (holders-told g x eg)
 
         pub deal-refused : (t .refusal ≡ 0 → ⊥) → noTags (t .refusal) ≡ tagsBy (takeTags x table [] 0)
         deal-refused h = stopped (takeDeal (x .holders) [] 0) _ (t .refusal) refusal-is h ∙ ap tagsBy (sym whole-deal)

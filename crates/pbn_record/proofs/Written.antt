@@ -1,21 +1,19 @@
 -- What is said of a text, by the way out of the code. Assumes nothing.
 use Prim.Native.Nat.{ℕ, _%_, _≤_, _<_, min}
 use native.Mathlib.Omega.{arith}
-use mathlib.Core.Path.{_≡_, refl, sym, ap, ap₂, subst, _∙_}
-use mathlib.Core.Bool.{Bool, true, false, not}
+use mathlib.Core.Path.{_≡_, refl, sym, ap, subst, _∙_}
+use mathlib.Core.Bool.{false, not}
 use mathlib.Core.List.{List, [], _++_, reverse}
-use borrow.Author.Tests.{eq-eqb, ne-eqb}
+use borrow.Author.Tests.{ne-eqb}
 use lib.Dec.{eqb}
 use lib.ListN.{length, take, replicate}
 use lib.Seq.{take-take, take-at, take-all}
 use Rattle.laws.specs.Refusals.{refusalNumber, outsideSubset, refusesGame}
 use Rattle.laws.specs.Law2.{dealer}
 use Rattle.laws.specs.Auction.{trumpAfter}
-use Rattle.laws.specs.Law68.{none}
-use Rattle.laws.specs.Record.{Parts}
-use Rattle.laws.specs.Reading.{Reading, Reading.refused, Reading.found, onward, refuse}
+use Rattle.laws.specs.Reading.{Reading, Reading.refused, Reading.found, refuse}
 use Rattle.laws.specs.Judge.{outcome}
-use Rattle.laws.specs.Contents.{Given, takeHeading, takeDeal, takeCalls, contentsOf}
+use Rattle.laws.specs.Contents.{takeHeading, takeDeal, takeCalls, contentsOf}
 use Rattle.laws.specs.Writing.{Written, writeBy, writeOf, numberOf, recordLeft}
 use Rattle.laws.specs.PbnText.{Listed, absent, columns, Game, Listable, Sayable}
 use Rattle.laws.specs.PbnOrder.{orderOfPlay}
@@ -33,7 +31,8 @@ use Rattle.pbn_text.specs.TextOf.{seatOf, listedOf}
 use Rattle.pbn_text.specs.GameIn.{gameIn}
 use Rattle.pbn_record.specs.declared.tags.Tags.{Tags}
 use Rattle.pbn_record.specs.Tags.{tagsBy, takeAuction, takeTags, cardsIn}
-use Rattle.pbn_record.proofs.Tagged.{Stand, tags-taken}
+use Rattle.pbn_record.proofs.Auctions.{count-is, calls-are}
+use Rattle.pbn_record.proofs.Tagged.{board-told, holders-told, calls-told, seat-told, Stand, tags-taken}
 
 -- a number and a buffer are what is said
 abbrev pub Says : Written → List ℕ → ℕ → List ℕ → Type 0
@@ -120,34 +119,10 @@ module _ (t : List ℕ) (table room : ℕ) (old : List ℕ) (x : Game) (read : p
     written-as = said-is ∙ ap (λ r. writeBy (outcome r) room) (game-taken x table (stands .tags))
 
     pub count-low : (g : Told.Game) → g ≡ gameIn (game x) → g .calls .count ≤ 511
-    unfolding gameIn keptOf
-    count-low g e =
-        let n : g .calls .count ≡ min (length (x .calls)) 512 = ap (λ (s : Told.Game). s .calls .count) e in
-        omega (arith, stands .few)
+    count-low g e = omega (arith, count-is (x .calls) (g .calls) (calls-told g x e), stands .few)
 
 -- ---- what is given to the writer
 module _ (x : Game) (ok : Sayable x) (g : Told.Game) (eg : g ≡ gameIn (game x)) (table trump : ℕ) (et : trump ≡ trumpAfter (reverse (x .calls))) where
-  board-is : g .board ≡ x .board
-  unfolding gameIn
-  board-is = ap (λ (s : Told.Game). s .board) eg
-
-  holders-are : g .holders ≡ x .holders
-  unfolding gameIn
-  holders-are = ap (λ (s : Told.Game). s .holders) eg
-
-  seat-is : g .seat ≡ seatOf (x .play)
-  unfolding gameIn
-  seat-is = ap (λ (s : Told.Game). s .seat) eg
-
-  calls-are : g .calls .count ≤ 511 → take (g .calls .count) (g .calls .numbers) ≡ x .calls
-  unfolding gameIn keptOf
-  calls-are low =
-      let n : g .calls .count ≡ min (length (x .calls)) 512 = ap (λ (s : Told.Game). s .calls .count) eg in
-      let all : length (x .calls) ≡ g .calls .count = omega arith in
-      ap (λ (s : Told.Game). take (g .calls .count) (s .calls .numbers)) eg
-      ∙ take-take (g .calls .count) 511 (x .calls ++ replicate 511 0) low
-      ∙ take-at (x .calls) (replicate 511 0) (g .calls .count) all
-
   cards-from : (play : Listed) → Listable play → (seat : ℕ) → seat ≡ seatOf play → (cards : List ℕ) → cards ≡ take 52 (keptOf (listedOf play) .numbers)
       → (order : List ℕ) → order ≡ orderOfPlay trump (seat % 4) cards → length order ≡ 52 → take (cardsIn seat) order ≡ cardsListed trump play
   unfolding cardsListed keptOf cardsIn
@@ -167,6 +142,6 @@ module _ (x : Game) (ok : Sayable x) (g : Told.Game) (eg : g ≡ gameIn (game x)
     unfolding contentsIn gameIn
     given-is =
         let cards : take (cardsIn (g .seat)) order ≡ cardsListed (trumpAfter (reverse (x .calls))) (x .play)
-        = cards-from (x .play) (ok .play) (g .seat) seat-is (g .cards) (ap (λ (s : Told.Game). s .cards) eg) order eo n
+        = cards-from (x .play) (ok .play) (g .seat) (seat-told g x eg) (g .cards) (ap (λ (s : Told.Game). s .cards) eg) order eo n
         ∙ ap (λ k. cardsListed k (x .play)) et in
-        rw (board-is, eh ∙ holders-are, ec ∙ calls-are low, ep ∙ cards)
+        rw (board-told g x eg, eh ∙ holders-told g x eg, ec ∙ calls-are (x .calls) (g .calls) (calls-told g x eg) low, ep ∙ cards)

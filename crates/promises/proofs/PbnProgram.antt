@@ -2,17 +2,17 @@
 use Prim.Native.Nat.{ℕ, suc, _+_, _≤_, _<_}
 use native.Mathlib.Omega.{arith}
 use mathlib.Core.Path.{_≡_, refl, sym, ap, _∙_}
-use mathlib.Core.Bool.{true, false, _||_}
+use mathlib.Core.Bool.{true, false}
 use mathlib.Core.List.{List, [], _∷_, _++_}
 use borrow.Author.Tests.{le-ltb, lt-ltb, leb-true, leb-false}
 use lib.Dec.{eqb, ltb, leb}
 use lib.ListN.{length, take, drop, length-append}
 use lib.Seq.{take-all, length-take-le}
-use Rattle.laws.specs.Choice.{if_then_else_, some}
+use Rattle.laws.specs.Choice.{some}
 use Rattle.laws.specs.Refusals.{outsideSubset, shortRecordBuffer}
-use Rattle.laws.specs.Record.{Parts, encode}
+use Rattle.laws.specs.Record.{encode}
 use Rattle.laws.specs.Judge.{Outcome, Outcome.refused as declined, Outcome.accepted}
-use Rattle.laws.specs.Writing.{Written, refused, written, writeBy}
+use Rattle.laws.specs.Writing.{refused, written, writeBy}
 use Rattle.laws.specs.Sheet.{newline}
 use Rattle.laws.specs.Slip.{refusalLine}
 use Rattle.laws.specs.PbnReading.{parse}

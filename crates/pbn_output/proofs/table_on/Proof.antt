@@ -1,7 +1,6 @@
 -- `table_on` meets its contract: a law of Printed for each way out. Assumes nothing.
 use mathlib.Core.Path.{_≡_, sym, _∙_}
 use mathlib.Core.Bool.{true}
-use native.Mathlib.Omega.{arith}
 use borrow.Author.Needs.{needs}
 use Rattle.laws.specs.Decimal.{isNumber, value}
 use Rattle.decimal.proofs.Scores.{is-number, no-number}

@@ -1,9 +1,9 @@
 -- `write` meets its contract: a law of Printed for each way out. Assumes nothing.
 use Prim.Native.Nat.{_+_, _≤_, _<_}
 use native.Mathlib.Omega.{arith}
-use mathlib.Core.Path.{_≡_, refl, sym, ap, _∙_}
+use mathlib.Core.Path.{refl, sym}
 use borrow.Author.Needs.{needs}
-use lib.ListN.{length, take}
+use lib.ListN.{length}
 use lib.Seq.{length-take-le}
 use Rattle.decimal.proofs.Scores.{rest-is}
 use Rattle.pbn_output.proofs.Printed.{held-not, no-text, end-within, of-text}

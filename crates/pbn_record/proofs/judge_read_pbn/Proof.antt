@@ -1,10 +1,9 @@
 -- `judge_read_pbn` meets its contract: a law of Written for each way out. Assumes nothing.
-use mathlib.Core.Path.{_≡_, refl, sym, ap, _∙_}
+use mathlib.Core.Path.{sym, ap, _∙_}
 use mathlib.Core.List.{[]}
 use borrow.Author.Needs.{needs}
 use lib.ListN.{length}
 use Rattle.laws.specs.Refusals.{refusalNumber, outsideSubset}
-use Rattle.laws.specs.PbnReading.{parse}
 use Rattle.laws.specs.Writing.{numberOf, recordLeft}
 use Rattle.pbn_record.proofs.Written.{line-low, outside-told, Stood, stood, tags-refused, trump-is, written-as, count-low}
 use Rattle.pbn_record.proofs.judge_read_pbn.Statement.{statement}

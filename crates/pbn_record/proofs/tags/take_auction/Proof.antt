@@ -4,9 +4,8 @@ use native.Mathlib.Omega.{arith}
 use mathlib.Core.Path.{_≡_, refl, sym, ap, _∙_}
 use borrow.Author.Needs.{needs}
 use borrow.Author.Tests.{not-true, not-false}
-use lib.ListN.{length, take}
+use lib.ListN.{length}
 use lib.Seq.{length-take-le}
-use Rattle.laws.specs.Refusals.{refusalNumber, outsideSubset}
 use Rattle.pbn_record.specs.Tags.{noTags}
 use Rattle.pbn_record.proofs.Auctions.{too-many, calls-refused, play-refused, play-taken}
 use Rattle.pbn_record.proofs.tags.take_auction.Statement.{statement}
