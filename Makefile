@@ -1,10 +1,29 @@
-# make test      the whole gate; its last line is that of `rt ci`
-# make demo      judges the records in samples/, prints a sheet and a slip, reads a game in Portable Bridge Notation, and merges two sections both ways
-# make install   puts headers, archives and pkg-config files under PREFIX
-# make bench     the proved judge's speed beside the Rust judge's, and that of merges
-# make fuzz      compares on random records, contents, texts, tallies, trees, sheets, slips, endings and team matches for FUZZ_SECONDS, from SEED where given
-# What is built beside the proofs stands in build/, since `rt ci` removes target/.
-.PHONY: test demo install install-files bench fuzz outside proved clean tools rt-tool FORCE
+# `make` says what there is to do. What is built beside the proofs stands in build/, since `rt ci` removes target/; what each step printed, in build/log/.
+.PHONY: help test demo demo-proved install install-files bench fuzz outside proved clean tools rt-tool FORCE
+ifndef V
+.SILENT:
+endif
+
+help:
+	echo "make test      the whole gate: layout, every proof from nothing, the edits that must be refused, every program, and the library tried from outside;"
+	echo "               about 35 minutes on two cores, the last line is 'N passed, 0 failed'"
+	echo "make demo      proves what it shows (about 6 minutes, once), judges the records in samples/, prints a sheet and a slip, reads a game in Portable"
+	echo "               Bridge Notation, and merges two sections both ways"
+	echo "make install   headers, archives and pkg-config files under PREFIX; 5 minutes where nothing is proved yet"
+	echo "make bench     the speed of the proved judge, writer and merges beside Rust's; 2 minutes once built"
+	echo "make fuzz      compares on random input for FUZZ_SECONDS (60), from SEED where given"
+	echo "make clean     removes build/ and target/"
+	echo "V=1 shows each command."
+
+# The seconds that each line of progress tells are counted from here, also in a make that this one calls.
+BEGAN := $(or $(BEGAN),$(shell date +%s))
+export BEGAN
+RT = make/progress.py rt
+STEP = make/progress.py step
+
+# Crates and edits that are tried at a time: more than there are processors, so that none is idle while the last of a batch ends.
+RT_JOBS ?= $(shell expr 3 \* $$(nproc))
+export RT_JOBS
 
 PREFIX = /usr/local
 FUZZ_SECONDS = 60
@@ -45,9 +64,13 @@ RUST = build/rust/release
 CARGO = cd tests && JUDGE_ARCHIVE=$(abspath $(ARCHIVE)) TALLY_ARCHIVE=$(abspath $(TALLY_ARCHIVE)) CARGO_TARGET_DIR=$(abspath build/rust) cargo
 SEED_WORDS = $(if $(SEED),--seed $(SEED))
 
-test: outside
-	rt fmt --check
-	rt ci
+# Everything is proved once, by `rt ci`; what is tried from outside uses what it left in target/.
+test: tools
+	rm -f build/log/passed
+	$(STEP) layout rt fmt --check
+	$(RT) ci ci
+	$(MAKE) --no-print-directory outside
+	cat build/log/passed
 
 # A tool that is missing is named, and nothing is skipped.
 need = @for tool in $(1); do command -v $$tool >/dev/null || { echo "make: the command $$tool is missing; README.md says what is needed"; exit 1; }; done
@@ -56,14 +79,16 @@ rt-tool:
 	$(call need,rt)
 
 tools: rt-tool
-	$(call need,$(CC) $(CXX) cargo valgrind)
+	$(call need,$(CC) $(CXX) $(AR) cargo python3 valgrind)
 
 $(ARCHIVE) $(TALLY_ARCHIVE) $(TREE) $(SHEET) $(CELLS) $(SLIP) $(BEST) $(PBN) $(TEAM) $(MERGES): | rt-tool
 
 SOURCES = crates.txt $(shell find crates -name '*.rt' -o -name '*.antt')
 
+# Each exporting crate is proved again where its archive is made, one after the other, since they share the stamps of what they stand on.
+.NOTPARALLEL:
 target/staticlib/lib%.a: $(SOURCES) | rt-tool
-	rt staticlib $*
+	$(STEP) archive-$* rt staticlib $*
 
 # Judge, writer, best play and the reader of texts are compiled apart: docs/PERFORMANCE.md says why.
 build/libjudge.a: target/staticlib/libjudge.a target/staticlib/libwriter_call.a target/staticlib/libbest_record.a target/staticlib/libpbn_record.a
@@ -78,7 +103,7 @@ build/libtally.a: target/staticlib/libtally_calls.a
 	cp $< $@
 
 target/bin/%: $(SOURCES)
-	rt check $*
+	$(RT) check-$* check $*
 
 build/stand-in/libjudge.a build/stand-in/libtally.a: FORCE
 	$(CARGO) rustc --release --offline --locked --quiet --lib --crate-type staticlib --features stand_in
@@ -103,7 +128,7 @@ build/standings: $(TALLY_ARCHIVE) $(wildcard scoring/* terminal/*) include/tally
 	@mkdir -p build
 	$(CC) $(CFLAGS) -Iinclude -Iterminal scoring/standings.c $(SCORING) $(TALLY_ARCHIVE) -o $@
 
-demo: build/terminal build/section build/standings $(SHEET) $(CELLS) $(SLIP) $(BEST) $(PBN)
+demo: demo-proved build/terminal build/section build/standings $(SHEET) $(CELLS) $(SLIP) $(BEST) $(PBN)
 	@echo "Records that are accepted:"
 	@build/terminal $(sort $(filter-out samples/refused-%,$(wildcard samples/*.hex)))
 	@echo "Records that are refused:"
@@ -154,57 +179,65 @@ install-files:
 build/rust-built: $(ARCHIVE) $(TALLY_ARCHIVE) FORCE | tools
 	$(CARGO) build --release --offline --locked --quiet
 
-# What is tried from outside, proved all at once, so that crates that do not depend on each other are proved side by side.
+# What is shown, and what is tried from outside, each proved all at once, so that crates that do not depend on each other are proved side by side.
+EXPORTING = judge writer_call best_record pbn_record tally_calls
+
+demo-proved: rt-tool
+	$(RT) check-demo check $(EXPORTING) $(notdir $(SHEET) $(CELLS) $(SLIP) $(BEST) $(PBN))
+
 proved: rt-tool
-	rt check judge writer_call best_record pbn_record tally_calls $(notdir $(TREE) $(SHEET) $(CELLS) $(SLIP) $(BEST) $(PBN) $(TEAM))
+	$(RT) check-outside check $(EXPORTING) $(notdir $(TREE) $(SHEET) $(CELLS) $(SLIP) $(BEST) $(PBN) $(TEAM))
 
 outside: tools proved build/rust-built build/terminal build/section build/standings $(TREE) $(SHEET) $(CELLS) $(SLIP) $(BEST) $(PBN) $(TEAM)
+	mkdir -p build/work
 	$(CC) $(CFLAGS) -Iinclude tests/c/header.c $(ARCHIVE) -o build/header-c
-	valgrind --quiet --error-exitcode=1 build/header-c
+	$(STEP) header-c valgrind --quiet --error-exitcode=1 build/header-c
 	$(CXX) $(CXXFLAGS) -Iinclude -x c++ tests/c/header.c -x none $(ARCHIVE) -o build/header-c++
-	build/header-c++
+	$(STEP) header-c++ build/header-c++
 	$(CC) $(CFLAGS) -Iinclude tests/c/tally_header.c $(TALLY_ARCHIVE) -o build/tally-header-c
-	valgrind --quiet --error-exitcode=1 build/tally-header-c
+	$(STEP) tally-header-c valgrind --quiet --error-exitcode=1 build/tally-header-c
 	$(CXX) $(CXXFLAGS) -Iinclude -x c++ tests/c/tally_header.c -x none $(TALLY_ARCHIVE) -o build/tally-header-c++
-	build/tally-header-c++
-	tests/samples.sh $(RUST)/write_record
-	@mkdir -p build/work
-	tests/terminal.sh build/terminal build/work
-	tests/pbn.sh $(PBN) $(RUST)/write_record build/terminal build/work
-	tests/pbn.sh $(RUST)/read_pbn $(RUST)/write_record build/terminal build/work
-	@rm -rf build/work/sections
-	@mkdir -p build/work/sections/records
+	$(STEP) tally-header-c++ build/tally-header-c++
+	$(STEP) samples tests/samples.sh $(RUST)/write_record
+	$(STEP) terminal tests/terminal.sh build/terminal build/work
+	$(STEP) pbn tests/pbn.sh $(PBN) $(RUST)/write_record build/terminal build/work
+	$(STEP) pbn-rust tests/pbn.sh $(RUST)/read_pbn $(RUST)/write_record build/terminal build/work
+	rm -rf build/work/sections
+	mkdir -p build/work/sections/records
 	$(RUST)/sections $(or $(SEED),87) build/work/sections
-	tests/standings.sh build/section build/standings build/terminal build/work/sections
+	$(STEP) standings tests/standings.sh build/section build/standings build/terminal build/work/sections
 	rm -rf build/installed
-	@$(MAKE) --no-print-directory install-files PREFIX=$(abspath build/installed)
-	tests/install.sh $(abspath build/installed) $(CC)
-	$(CARGO) test --release --offline --locked --quiet --test examples --test refusals --test faults --test write_refusals --test write_faults \
-	    --test penalty_cards --test penalty_bounds --test penalty_faults --test pbn_texts --test pbn_faults --test tally_bytes --test tally_faults
-	$(RUST)/records --count $(RECORDS) $(SEED_WORDS)
-	$(RUST)/penalties --count $(PENALTIES) $(SEED_WORDS)
-	$(RUST)/writes --count $(WRITES) $(SEED_WORDS)
-	$(RUST)/tallies --count $(TALLIES) $(SEED_WORDS)
-	$(RUST)/trees --program $(TREE) --count $(TREES) $(SEED_WORDS)
-	$(RUST)/sheets --program $(SHEET) --cells $(CELLS) --count $(SHEETS) $(SEED_WORDS)
-	$(RUST)/slips --program $(SLIP) --count $(SLIPS) $(SEED_WORDS)
-	$(RUST)/endings --program $(BEST) --count $(ENDINGS) $(SEED_WORDS)
-	$(RUST)/pbns --program $(PBN) --count $(PBNS) $(SEED_WORDS)
-	$(RUST)/teams --program $(TEAM) --count $(TEAMS) $(SEED_WORDS)
+	$(MAKE) --no-print-directory install-files PREFIX=$(abspath build/installed)
+	$(STEP) install tests/install.sh $(abspath build/installed) $(CC)
+	$(STEP) examples-and-faults sh -c '$(CARGO) test --release --offline --locked --quiet $(TESTS:%=--test %)'
+	$(STEP) records $(RUST)/records --count $(RECORDS) $(SEED_WORDS)
+	$(STEP) penalties $(RUST)/penalties --count $(PENALTIES) $(SEED_WORDS)
+	$(STEP) writes $(RUST)/writes --count $(WRITES) $(SEED_WORDS)
+	$(STEP) tallies $(RUST)/tallies --count $(TALLIES) $(SEED_WORDS)
+	$(STEP) trees $(RUST)/trees --program $(TREE) --count $(TREES) $(SEED_WORDS)
+	$(STEP) sheets $(RUST)/sheets --program $(SHEET) --cells $(CELLS) --count $(SHEETS) $(SEED_WORDS)
+	$(STEP) slips $(RUST)/slips --program $(SLIP) --count $(SLIPS) $(SEED_WORDS)
+	$(STEP) endings $(RUST)/endings --program $(BEST) --count $(ENDINGS) $(SEED_WORDS)
+	$(STEP) pbns $(RUST)/pbns --program $(PBN) --count $(PBNS) $(SEED_WORDS)
+	$(STEP) teams $(RUST)/teams --program $(TEAM) --count $(TEAMS) $(SEED_WORDS)
 	$(RUST)/blocks $(or $(SEED),64) $(BLOCKS) >build/blocks.records
-	$(CC) $(CFLAGS) -g -Iinclude tests/c/blocks.c $(ARCHIVE) -o build/blocks
-	valgrind --quiet --error-exitcode=1 --leak-check=full build/blocks build/blocks.records
+	$(call blocks,blocks,$(ARCHIVE),records)
 	$(RUST)/write_blocks $(or $(SEED),64) $(BLOCKS) >build/blocks.contents
-	$(CC) $(CFLAGS) -g -Iinclude tests/c/write_blocks.c $(ARCHIVE) -o build/write_blocks
-	valgrind --quiet --error-exitcode=1 --leak-check=full build/write_blocks build/blocks.contents
+	$(call blocks,write_blocks,$(ARCHIVE),contents)
 	$(RUST)/pbn_blocks $(or $(SEED),64) $(PBN_BLOCKS) >build/blocks.texts
-	$(CC) $(CFLAGS) -g -Iinclude tests/c/pbn_blocks.c $(ARCHIVE) -o build/pbn_blocks
-	valgrind --quiet --error-exitcode=1 --leak-check=full build/pbn_blocks build/blocks.texts
+	$(call blocks,pbn_blocks,$(ARCHIVE),texts)
 	$(RUST)/tally_blocks $(or $(SEED),64) $(BLOCKS) >build/blocks.tallies
-	$(CC) $(CFLAGS) -g -Iinclude tests/c/tally_blocks.c $(TALLY_ARCHIVE) -o build/tally_blocks
-	valgrind --quiet --error-exitcode=1 --leak-check=full build/tally_blocks build/blocks.tallies
+	$(call blocks,tally_blocks,$(TALLY_ARCHIVE),tallies)
 	$(CC) $(CFLAGS) -Iinclude tests/c/stack.c $(ARCHIVE) -o build/stack
-	build/stack build/blocks.records
+	$(STEP) stack build/stack build/blocks.records
+
+TESTS = examples refusals faults write_refusals write_faults penalty_cards penalty_bounds penalty_faults pbn_texts pbn_faults tally_bytes tally_faults
+
+# A program of tests/c that calls an archive on slices of blocks of their own, each as long as it says, under valgrind.
+define blocks
+$(CC) $(CFLAGS) -g -Iinclude tests/c/$(1).c $(2) -o build/$(1)
+	$(STEP) $(1) valgrind --quiet --error-exitcode=1 --leak-check=full build/$(1) build/blocks.$(3)
+endef
 
 # A tenth of the time each for records, records with penalty cards, contents, texts, tallies, trees, sheets, slips, endings and team matches.
 fuzz: build/rust-built $(TREE) $(SHEET) $(CELLS) $(SLIP) $(BEST) $(PBN) $(TEAM)
