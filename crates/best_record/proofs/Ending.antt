@@ -20,8 +20,8 @@ use Rattle.laws.proofs.LastCard.{last-card-found}
 use Rattle.auction.proofs.Laws.{contract-is}
 use Rattle.play.proofs.Stands.{stands}
 use Rattle.play.proofs.Thirteen.{at-most-52}
-use Rattle.penalty.proofs.AtMost.{cards-allowed}
-use Rattle.penalty.proofs.TableStands.{play-is}
+use Rattle.position.proofs.AtMost.{cards-allowed}
+use Rattle.position.proofs.TableStands.{play-is}
 use Rattle.best_play.specs.Search.{bestIn}
 use Rattle.best_play.proofs.Laws.{best-is}
 use Rattle.last_card.specs.declared.reached.Reached.{Reached}

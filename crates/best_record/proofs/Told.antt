@@ -16,7 +16,7 @@ use Rattle.laws.specs.BestRecord.{trumpIn, openingIn, sideIn, cardsIn, cardsLef
 use Rattle.laws.proofs.Tests.{by-test, not-both, and-left, and-right}
 use Rattle.laws.proofs.Numbered.{Fair, fair-last-card}
 use Rattle.laws.proofs.LastCard.{last-card-found}
-use Rattle.penalty.proofs.AtMost.{cards-allowed}
+use Rattle.position.proofs.AtMost.{cards-allowed}
 use Rattle.best_play.proofs.SomeCard.{at-most-left}
 use Rattle.last_card.proofs.Standing.{events-played}
 use Rattle.best_record.proofs.Ending.{rest, said-is}

@@ -24,10 +24,10 @@ use Rattle.play.specs.declared.Play.{Play}
 use Rattle.play.specs.Position.{startOf, step, verdictOf, verdictNumber}
 use Rattle.play.specs.History.{positionOf, AllPlayed}
 use Rattle.play.proofs.Verdicts.{verdict-law}
-use Rattle.penalty.specs.declared.table.Table.{Table}
-use Rattle.penalty.specs.Table.{tableWith}
-use Rattle.penalty.specs.History.{ThirteenEach, OfEvents}
-use Rattle.penalty.proofs.TableStands.{alone-is, none-alone}
+use Rattle.position.specs.declared.table.Table.{Table}
+use Rattle.position.specs.Table.{tableWith}
+use Rattle.position.specs.History.{ThirteenEach, OfEvents}
+use Rattle.position.proofs.TableStands.{alone-is, none-alone}
 use Rattle.contents.specs.Checked.{refusalIn}
 use Rattle.contents.proofs.Items.{itemsAt, none-at, card-at}
 

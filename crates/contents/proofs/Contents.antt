@@ -12,7 +12,7 @@ use Rattle.laws.specs.Events.{Event, cardsOf}
 use Rattle.laws.specs.Contents.{Given, takeHeading, takeDeal, takeCalls, takeCards, takeClaim, takeParts, contentsOf}
 use Rattle.laws.proofs.ContentsStop.{heading-stays, deal-stays, calls-stay}
 use Rattle.laws.proofs.ContentsLawful.{heading-kept, deal-thirteen}
-use Rattle.penalty.specs.History.{ThirteenEach}
+use Rattle.position.specs.History.{ThirteenEach}
 use Rattle.laws.proofs.ContentsNumbered.{sound-heading, sound-deal, sound-calls}
 use Rattle.deal.specs.Hands.{wordsOf}
 use Rattle.auction.specs.Position.{positionOf}

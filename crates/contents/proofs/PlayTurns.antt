@@ -21,10 +21,10 @@ use Rattle.laws.specs.Contents.{takeItems}
 use Rattle.laws.proofs.Tests.{by-test, not-both}
 use Rattle.laws.proofs.ItemsTaken.{placed-number, placed, some-many}
 use Rattle.play.specs.Position.{verdictOf, verdictNumber}
-use Rattle.penalty.specs.declared.table.Table.{Table}
-use Rattle.penalty.specs.Table.{fullIn, exposureIn, choiceIn, afterExposed, afterChoice, afterPlay}
-use Rattle.penalty.specs.History.{OfEvents, positionOf}
-use Rattle.penalty.proofs.Refusing.{card-law, full-law, exposure-law, choice-law}
+use Rattle.position.specs.declared.table.Table.{Table}
+use Rattle.position.specs.Table.{fullIn, exposureIn, choiceIn, afterExposed, afterChoice, afterPlay}
+use Rattle.position.specs.History.{OfEvents, positionOf}
+use Rattle.position.proofs.Refusing.{card-law, full-law, exposure-law, choice-law}
 use Rattle.contents.specs.Checked.{refusalIn}
 use Rattle.contents.proofs.Items.{itemsAt, none-at, card-at, code-at, cut-at, code-no-card}
 

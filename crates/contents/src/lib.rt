@@ -21,7 +21,7 @@ ghost use Rattle.laws.specs.Contents.{contentsOf};
 ghost use Rattle.laws.specs.Judge as Judge;
 ghost use Rattle.deal.specs.Hands.{wordsOf};
 ghost use Rattle.auction.specs.Position.{positionOf};
-ghost use Rattle.penalty.specs.History.{ThirteenEach};
+ghost use Rattle.position.specs.History.{ThirteenEach};
 ghost use Rattle.contents.specs.Checked.{afterCalls};
 ghost use Rattle.contents.specs.Given.{claimOf, given};
 

@@ -4,7 +4,7 @@ use laws::CHOICE_NOT_OPEN;
 use laws::TOO_MANY_CARDS;
 use laws::TOO_MANY_CODES;
 use laws::refusal_number;
-use penalty::Table;
+use position::Table;
 use penalty::begins_code;
 use play::Play;
 ghost use mathlib.Core.Path.{_≡_};
@@ -19,7 +19,7 @@ ghost use Rattle.laws.specs.FlatPlay.{Item, codeItem, itemsOf, isCard, cardsIn,
 ghost use Rattle.laws.specs.Contents.{takeItems};
 ghost use Rattle.deal.specs.Hands.{wordsOf};
 ghost use Rattle.play.specs.Words.{bitOf};
-ghost use Rattle.penalty.specs.History.{ThirteenEach, OfEvents, positionOf};
+ghost use Rattle.position.specs.History.{ThirteenEach, OfEvents, positionOf};
 ghost use Rattle.contents.specs.Checked.{refusalIn, cardsBy};
 
 // 1 where a number begins a code, else 0.

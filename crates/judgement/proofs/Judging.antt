@@ -36,14 +36,14 @@ use Rattle.play.specs.Told.{tricksIn}
 use Rattle.play.specs.History.{tricksOf, positionOf}
 use Rattle.play.proofs.Thirteen.{at-most-52}
 use Rattle.play.proofs.Complete.{tricks-law}
-use Rattle.penalty.specs.declared.table.Table.{Table}
-use Rattle.penalty.specs.declared.listed.Listed.{Listed}
-use Rattle.penalty.specs.Listed.{revokesIn}
-use Rattle.penalty.specs.Told.{failureBytesIn}
-use Rattle.penalty.proofs.AtMost.{cards-allowed}
-use Rattle.penalty.proofs.TableStands.{TableStands, play-is, table-stands}
-use Rattle.penalty.proofs.ListedBytes.{revokes-law}
-use Rattle.penalty.proofs.FailureBytes.{failure-bytes}
+use Rattle.position.specs.declared.table.Table.{Table}
+use Rattle.position.specs.declared.listed.Listed.{Listed}
+use Rattle.position.specs.Listed.{revokesIn}
+use Rattle.position.specs.Told.{failureBytesIn}
+use Rattle.position.proofs.AtMost.{cards-allowed}
+use Rattle.position.proofs.TableStands.{TableStands, play-is, table-stands}
+use Rattle.position.proofs.ListedBytes.{revokes-law}
+use Rattle.position.proofs.FailureBytes.{failure-bytes}
 use Rattle.transfer.specs.Inputs.{claimedBy, transferredIn}
 use Rattle.transfer.proofs.History.{seats-told, listedFor, revokes-back, transferred-law, plain-bytes}
 use Rattle.judgement.specs.Settled.{headFields, wonIn, afterIn, stakeIn, settledFields}

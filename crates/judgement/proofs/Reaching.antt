@@ -14,8 +14,8 @@ use Rattle.laws.specs.LastCard.{ToLastCard, readToLastCard, readBehind}
 use Rattle.laws.proofs.Numbered.{Fair, not-0, fair-last-card}
 use Rattle.laws.proofs.LastCard.{record-is, last-card-found}
 use Rattle.auction.proofs.Laws.{contract-is}
-use Rattle.penalty.proofs.AtMost.{cards-allowed}
-use Rattle.penalty.proofs.TableStands.{play-is}
+use Rattle.position.proofs.AtMost.{cards-allowed}
+use Rattle.position.proofs.TableStands.{play-is}
 use Rattle.play.proofs.Stands.{stands}
 use Rattle.play.proofs.Thirteen.{at-most-52}
 use Rattle.last_card.specs.declared.reached.Reached.{Reached}

@@ -21,7 +21,7 @@ use Rattle.laws.proofs.Integers.{mag-le-size}
 use Rattle.laws.specs.Law2.{vulnerable}
 use Rattle.laws.specs.Law77.{declarerScore, nsScore}
 use Rattle.play.specs.declared.Tricks.{Tricks}
-use Rattle.penalty.specs.declared.listed.Listed.{Listed}
+use Rattle.position.specs.declared.listed.Listed.{Listed}
 use Rattle.transfer.specs.Inputs.{revokesIn, transferredIn}
 use Rattle.judgement.specs.Settled.{headFields, playFields, wonIn, afterIn, settledFields}
 

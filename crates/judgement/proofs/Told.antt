@@ -22,7 +22,7 @@ use Rattle.laws.proofs.LastCard.{record-is, last-card-found}
 use Rattle.play.specs.Told.{noTrick}
 use Rattle.play.specs.History.{toldOf, lawOf}
 use Rattle.play.proofs.Thirteen.{at-most-52}
-use Rattle.penalty.proofs.AtMost.{cards-allowed, at-most-48}
+use Rattle.position.proofs.AtMost.{cards-allowed, at-most-48}
 use Rattle.transfer.proofs.History.{few-tricks}
 use Rattle.last_card.proofs.Composing.{found-same}
 use Rattle.last_card.proofs.Standing.{events-played}

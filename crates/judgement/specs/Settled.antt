@@ -11,7 +11,7 @@ use Rattle.laws.specs.Record.{Field, field}
 use Rattle.laws.specs.Judgement.{twosComplement}
 use Rattle.auction.specs.declared.Contract.{Contract}
 use Rattle.play.specs.declared.Tricks.{Tricks}
-use Rattle.penalty.specs.declared.listed.Listed.{Listed}
+use Rattle.position.specs.declared.listed.Listed.{Listed}
 use Rattle.transfer.specs.Inputs.{revokesIn, transferredIn}
 
 -- board and table, with the 40 bits behind them zero

@@ -23,12 +23,12 @@ use Rattle.play.specs.declared.Tricks.{Tricks}
 use Rattle.play.specs.Words.{bitOf}
 use Rattle.play.specs.Told.{noTrick, tricksOf}
 use Rattle.play.specs.History.{toldOf}
-use Rattle.penalty.specs.declared.listed.Listed.{Listed}
-use Rattle.penalty.specs.declared.table.Table.{Table}
-use Rattle.penalty.specs.History.{positionOf}
+use Rattle.position.specs.declared.listed.Listed.{Listed}
+use Rattle.position.specs.declared.table.Table.{Table}
+use Rattle.position.specs.History.{positionOf}
 use Rattle.judgement.specs.declared.claim.Claim.{Claim}
 use Rattle.judgement.specs.declared.whole.Judged.{Judged}
-use Rattle.penalty.specs.History.{ThirteenEach}
+use Rattle.position.specs.History.{ThirteenEach}
 use Rattle.judgement.specs.Settled.{headFields, settledFields}
 
 -- ---- what follows the cards

@@ -2,7 +2,7 @@
 use crate::law77::Stake;
 use crate::law77::declarer_score;
 use auction::Contract;
-use penalty::Listed;
+use position::Listed;
 use play::Tricks;
 ghost use mathlib.Core.Path.{_≡_};
 ghost use Prim.Native.Nat.{_<_, _^_};

@@ -23,7 +23,7 @@ use Rattle.last_card.specs.declared.reading.Heading.{Heading}
 use Rattle.last_card.specs.declared.reading.Deal.{Deal}
 use Rattle.last_card.specs.declared.reading.Calls.{Calls}
 use Rattle.last_card.specs.declared.reached.Reached.{Reached}
-use Rattle.penalty.specs.History.{ThirteenEach}
+use Rattle.position.specs.History.{ThirteenEach}
 use Rattle.last_card.specs.Sections.{headingOf, dealOf, callsOf}
 use Rattle.last_card.specs.Reached.{OfCalls, afterCalls, afterDeal, noneReached, reachedOf}
 use Rattle.last_card.proofs.Composing.{found-same, calls-next}

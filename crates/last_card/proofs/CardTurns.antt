@@ -21,11 +21,11 @@ use Rattle.play.specs.declared.Play.{Play}
 use Rattle.play.specs.Position.{startOf, step, verdictOf, verdictNumber}
 use Rattle.play.specs.History.{positionOf, AllPlayed}
 use Rattle.play.proofs.Verdicts.{verdict-law}
-use Rattle.penalty.specs.declared.table.Table.{Table}
-use Rattle.penalty.specs.Table.{tableWith}
-use Rattle.penalty.proofs.TableStands.{alone-is, none-alone}
+use Rattle.position.specs.declared.table.Table.{Table}
+use Rattle.position.specs.Table.{tableWith}
+use Rattle.position.proofs.TableStands.{alone-is, none-alone}
 use Rattle.last_card.specs.declared.plays.Cards.{Cards}
-use Rattle.penalty.specs.History.{ThirteenEach, OfEvents}
+use Rattle.position.specs.History.{ThirteenEach, OfEvents}
 use Rattle.last_card.specs.Sections.{noCards, playsBy, cardsOf as told}
 use Rattle.last_card.proofs.PlayTurns.{turn-short, turn-card}
 
@@ -54,7 +54,7 @@ module _ (bytes deal : List ℕ) (trump opening at n : ℕ) where
     abbrev events : List Event
     events = asEvents (r .cards)
 
-    table-is : {t : Table} → t ≡ tableWith p opening → t ≡ Rattle.penalty.specs.History.positionOf deal trump opening events
+    table-is : {t : Table} → t ≡ tableWith p opening → t ≡ Rattle.position.specs.History.positionOf deal trump opening events
     table-is e = e ∙ ap (λ (x : Play). tableWith x opening) (r .position) ∙ sym (alone-is deal trump opening (r .cards))
 
     pub card-ends : n ≤ i → (t : Table) → t ≡ tableWith p opening → record { refusal = 0; next = here; after = t } ≡ whole

@@ -11,13 +11,13 @@ use Rattle.laws.specs.Events.{Event, exposed, choice}
 use Rattle.laws.specs.CodeRefusal.{codesFull, exposureRefusal, choiceRefusal}
 use Rattle.laws.specs.Reading.{Reading, Reading.refused, Reading.found, read, refuse}
 use Rattle.laws.specs.Plays.{playPlace, readExposed, readChoice, readCode}
-use Rattle.penalty.specs.declared.table.Table.{Table}
+use Rattle.position.specs.declared.table.Table.{Table}
 use Rattle.penalty.specs.Position.{withExposed, withKind, withChoice}
-use Rattle.penalty.specs.Table.{fullIn, exposureIn, choiceIn, afterExposed, afterChoice}
-use Rattle.penalty.specs.History.{positionOf}
-use Rattle.penalty.proofs.Refusing.{full-law, exposure-law, choice-law}
+use Rattle.position.specs.Table.{fullIn, exposureIn, choiceIn, afterExposed, afterChoice}
+use Rattle.position.specs.History.{positionOf}
+use Rattle.position.proofs.Refusing.{full-law, exposure-law, choice-law}
 use Rattle.last_card.specs.declared.plays.Cards.{Cards}
-use Rattle.penalty.specs.History.{OfEvents}
+use Rattle.position.specs.History.{OfEvents}
 use Rattle.last_card.specs.Sections.{noCards, cardsOf, codeBy}
 
 -- a code counts

@@ -19,13 +19,13 @@ use Rattle.laws.proofs.Readings.{first-test}
 use Rattle.laws.proofs.Numbered.{Fair, at-place, fair-test, not-0, fair-code}
 use Rattle.laws.proofs.CodesRead.{code-turn, code-found}
 use Rattle.play.specs.Position.{verdictOf, verdictNumber}
-use Rattle.penalty.specs.declared.table.Table.{Table}
+use Rattle.position.specs.declared.table.Table.{Table}
 use Rattle.penalty.specs.Position.{afterCard}
-use Rattle.penalty.specs.Table.{afterPlay}
-use Rattle.penalty.specs.History.{positionOf}
-use Rattle.penalty.proofs.Refusing.{card-law}
+use Rattle.position.specs.Table.{afterPlay}
+use Rattle.position.specs.History.{positionOf}
+use Rattle.position.proofs.Refusing.{card-law}
 use Rattle.last_card.specs.declared.plays.Cards.{Cards}
-use Rattle.penalty.specs.History.{OfEvents}
+use Rattle.position.specs.History.{OfEvents}
 use Rattle.last_card.specs.Sections.{noCards, codeBy, playsBy, cardsOf as told}
 
 -- ---- one turn of the reading, with a card to come

@@ -7,7 +7,7 @@ use Rattle.laws.specs.Kept.{NoneRefused}
 use Rattle.laws.specs.LastCard.{ToLastCard}
 use Rattle.laws.proofs.LastCard.{Standing}
 use Rattle.laws.proofs.Plays.{none-refused}
-use Rattle.penalty.specs.History.{ThirteenEach}
+use Rattle.position.specs.History.{ThirteenEach}
 
 module _ {bytes : List ℕ} {r : ToLastCard} {at : ℕ} (s : Standing bytes r at) where
   pub thirteen-each : ThirteenEach (r .deal)

@@ -13,7 +13,7 @@ use Rattle.laws.specs.LastCard.{ToLastCard}
 use Rattle.auction.specs.declared.Auction.{Auction}
 use Rattle.auction.specs.Asked.{contractOf}
 use Rattle.auction.specs.Position as Calls
-use Rattle.penalty.specs.History.{ThirteenEach, positionOf}
+use Rattle.position.specs.History.{ThirteenEach, positionOf}
 use Rattle.last_card.specs.declared.reached.Reached.{Reached}
 use Rattle.last_card.specs.Sections.{noTable}
 

@@ -16,9 +16,9 @@ use Rattle.auction.specs.Position as Auction
 use Rattle.deal.specs.Hands.{wordsOf}
 use Rattle.play.specs.declared.Play.{Play}
 use Rattle.play.specs.Position.{startOf, step, verdictOf, verdictNumber}
-use Rattle.penalty.specs.declared.table.Table.{Table}
-use Rattle.penalty.specs.Table.{tableWith}
-use Rattle.penalty.specs.History.{positionOf}
+use Rattle.position.specs.declared.table.Table.{Table}
+use Rattle.position.specs.Table.{tableWith}
+use Rattle.position.specs.History.{positionOf}
 use Rattle.last_card.specs.declared.reading.Heading.{Heading}
 use Rattle.last_card.specs.declared.reading.Calls.{Calls}
 use Rattle.last_card.specs.declared.reading.Deal.{Deal}

@@ -8,7 +8,7 @@ use crate::runs::read_run;
 use field::Field;
 use laws::RECORD_ENDS;
 use laws::TOO_MANY_CARDS;
-use penalty::Table;
+use position::Table;
 use penalty::begins_code;
 use play::Play;
 ghost use mathlib.Core.Path.{_≡_};
@@ -18,7 +18,7 @@ ghost use Rattle.laws.specs.Choice.{if_then_else_};
 ghost use Rattle.laws.specs.CodeRefusal.{mostCodes};
 ghost use Rattle.laws.specs.Plays.{readPlays};
 ghost use Rattle.deal.specs.Hands.{wordsOf};
-ghost use Rattle.penalty.specs.History.{ThirteenEach};
+ghost use Rattle.position.specs.History.{ThirteenEach};
 ghost use Rattle.last_card.specs.Sections.{cardsOf, cardsBy};
 
 // So many cards from a bit on, each judged on those before it; `hands` are those of the deal.

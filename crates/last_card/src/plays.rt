@@ -5,7 +5,7 @@ use field::Field;
 use laws::RECORD_ENDS;
 use laws::TOO_MANY_CODES;
 use laws::refusal_number;
-use penalty::Table;
+use position::Table;
 use penalty::begins_code;
 use play::Play;
 ghost use mathlib.Core.Path.{_≡_};
@@ -13,7 +13,7 @@ ghost use mathlib.Core.List.{List};
 ghost use Prim.Native.Nat.{ℕ, _+_, _-_, _%_, _<_, _≤_};
 ghost use Rattle.laws.specs.Events.{Event};
 ghost use Rattle.laws.specs.Plays.{readExposed, readChoice};
-ghost use Rattle.penalty.specs.History.{OfEvents};
+ghost use Rattle.position.specs.History.{OfEvents};
 ghost use Rattle.last_card.specs.Sections.{noTable, noCards, cardsOf, codeBy, playsBy};
 
 // The position after the plays and the bit behind them; or the number of their refusal, 0 where there is none.

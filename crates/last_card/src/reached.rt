@@ -6,13 +6,13 @@ use crate::reading::read_deal;
 use crate::reading::read_heading;
 use auction::Auction;
 use auction::Contract;
-use penalty::Table;
+use position::Table;
 ghost use mathlib.Core.Path.{_≡_};
 ghost use mathlib.Core.List.{List};
 ghost use Prim.Native.Nat.{ℕ, _<_, _≤_};
 ghost use Rattle.laws.specs.LastCard.{readToLastCard};
 ghost use Rattle.deal.specs.Hands.{wordsOf};
-ghost use Rattle.penalty.specs.History.{ThirteenEach};
+ghost use Rattle.position.specs.History.{ThirteenEach};
 ghost use Rattle.last_card.specs.Reached.{noneReached, reachedOf, OfCalls, afterCalls};
 
 // Board and table, whether the board was passed out, the contract, the position after the last card and the bit behind it; or the number of the refusal, 0

@@ -2,12 +2,4 @@ pub mod Sets
 pub mod Tests
 pub mod Stands
 pub mod Stepping
-pub mod AtMost
 pub mod Marking
-pub mod FoundWords
-pub mod FoundStands
-pub mod TableStands
-pub mod Refusing
-pub mod FailureBytes
-pub mod Listing
-pub mod ListedBytes

@@ -1,14 +1,7 @@
 // Penalty cards and lead choices, an event of the play at a time: by value, stepping and returning itself.
 // Cards, hands and suits are sets of cards: a word with a bit for each of the 52 cards.
-mod found;
-mod listed;
-mod table;
-mod told;
 mod words;
 
-pub use crate::found::Found;
-pub use crate::listed::Listed;
-pub use crate::table::Table;
 use crate::words::card_word;
 use crate::words::meets;
 use crate::words::suit_word;

@@ -26,7 +26,7 @@ use Rattle.laws.proofs.FirstBytes.{first-to-last-card}
 use Rattle.laws.proofs.LastCard.{record-is, last-card-found}
 use Rattle.laws.proofs.Numbered.{Fair, fair-last-card, fair-behind}
 use Rattle.play.specs.History.{AllPlayed}
-use Rattle.penalty.proofs.AtMost.{cards-allowed}
+use Rattle.position.proofs.AtMost.{cards-allowed}
 use Rattle.last_card.proofs.Standing.{events-played}
 use Rattle.best_record.proofs.Ending.{rest, said-is}
 use Rattle.best_record.proofs.Told.{Tricks, Refusal, at-most, told}

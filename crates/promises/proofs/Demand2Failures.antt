@@ -18,7 +18,7 @@ use Rattle.laws.proofs.Padded.{padded-at}
 use Rattle.laws.proofs.Plays.{none-refused}
 use Rattle.laws.proofs.CardRefusals.{to-play-lt}
 use Rattle.laws.proofs.FailuresInFull.{failure-exactly}
-use Rattle.penalty.proofs.AtMost.{card-held, failure-early, at-most-24}
+use Rattle.position.proofs.AtMost.{card-held, failure-early, at-most-24}
 use Rattle.promises.proofs.Demand1.{failures-long}
 use Rattle.promises.proofs.PlaysInOrder.{in-order-by, once}
 use Rattle.promises.proofs.Demand2Judgement.{demand-2-judgement}

@@ -22,7 +22,7 @@ use Rattle.play.proofs.Winning.{winning-played}
 use Rattle.play.proofs.Worth.{winner-low}
 use Rattle.play.proofs.Stands.{played-low}
 use Rattle.play.proofs.Complete.{answers-count}
-use Rattle.penalty.proofs.AtMost.{cards-allowed}
+use Rattle.position.proofs.AtMost.{cards-allowed}
 use Rattle.promises.specs.Demand2Winners.{complete, inOrder, cardsBefore, trickAt, PairOf, oneNotrump, Demand2Winners}
 use Rattle.promises.proofs.Demand2Records.{judged}
 use Rattle.promises.proofs.Demand2Accepts.{by-judging}

@@ -12,9 +12,9 @@ use Rattle.laws.specs.Judgement.{trumpOf, openingOf}
 use Rattle.laws.proofs.Plays.{none-refused}
 use Rattle.laws.proofs.KeptCards.{kept-cards}
 use Rattle.laws.proofs.KeptChoices.{kept-choices}
-use Rattle.penalty.specs.History.{ThirteenEach}
+use Rattle.position.specs.History.{ThirteenEach}
 use Rattle.penalty.proofs.Sets.{word-has}
-use Rattle.penalty.proofs.TableStands.{table-stands}
+use Rattle.position.proofs.TableStands.{table-stands}
 use Rattle.promises.proofs.Demand2Revokes.{none-behind}
 use Rattle.promises.specs.PenaltyCards.{Kept, Position, PenaltyCards}
 

@@ -17,7 +17,7 @@ use Rattle.laws.specs.Record.{Parts}
 use Rattle.laws.specs.Judgement.{playOf, trumpOf, openingOf}
 use Rattle.laws.specs.Lawful.{Lawful}
 use Rattle.penalty.specs.Words.{cardWord, meets}
-use Rattle.penalty.specs.History.{ThirteenEach, positionOf}
+use Rattle.position.specs.History.{ThirteenEach, positionOf}
 
 -- what is kept of both
 abbrev pub Kept : ℕ → ℕ → List ℕ → List Event → Type 0

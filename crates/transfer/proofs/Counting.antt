@@ -17,7 +17,7 @@ use Rattle.laws.proofs.Counts.{many-le}
 use Rattle.play.specs.declared.Tricks.{Tricks}
 use Rattle.play.specs.declared.Won.{Won}
 use Rattle.play.specs.Told.{seatsOf}
-use Rattle.penalty.specs.declared.listed.Listed.{Listed}
+use Rattle.position.specs.declared.listed.Listed.{Listed}
 use Rattle.transfer.specs.Inputs.{countedAt, revokesIn, winnersIn, claimedBy, earlier, totalFrom}
 use Rattle.transfer.proofs.Lists.{next-revoke, revokes-end}
 

@@ -29,9 +29,9 @@ use Rattle.play.specs.History.{toldOf, tricksOf, byteOf}
 use Rattle.play.proofs.Holders.{turn-seat}
 use Rattle.play.proofs.Thirteen.{at-most-52}
 use Rattle.play.proofs.Complete.{answers-count}
-use Rattle.penalty.specs.declared.listed.Listed.{Listed}
-use Rattle.penalty.specs.Listed.{listedOf}
-use Rattle.penalty.proofs.AtMost.{cards-allowed, card-held, at-most-48}
+use Rattle.position.specs.declared.listed.Listed.{Listed}
+use Rattle.position.specs.Listed.{listedOf}
+use Rattle.position.proofs.AtMost.{cards-allowed, card-held, at-most-48}
 use Rattle.transfer.specs.Inputs.{countedOf, countedIn, revokesIn, winnersIn, claimedBy, transferredIn}
 
 -- ---- a revoke whose parts fit their bits is read back from its byte

@@ -19,7 +19,7 @@ use Rattle.laws.proofs.Counts.{any-default}
 use Rattle.play.specs.declared.Tricks.{Tricks}
 use Rattle.play.specs.declared.Won.{Won}
 use Rattle.play.specs.Told.{noTrick, seatsOf}
-use Rattle.penalty.specs.declared.listed.Listed.{Listed}
+use Rattle.position.specs.declared.listed.Listed.{Listed}
 use Rattle.transfer.specs.Inputs.{countedOf, countedAt, countedIn, revokesIn, winnersIn, earlier}
 
 -- ---- the first n of a list, from a place on

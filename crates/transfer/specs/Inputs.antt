@@ -10,7 +10,7 @@ use Rattle.laws.specs.Law68.{agreed, claimedTricks}
 use Rattle.laws.specs.Law64.{dues, total, transferredTricks}
 use Rattle.play.specs.declared.Tricks.{Tricks}
 use Rattle.play.specs.Told.{seatsOf}
-use Rattle.penalty.specs.declared.listed.Listed.{Listed}
+use Rattle.position.specs.declared.listed.Listed.{Listed}
 
 -- the revoke that a byte lists, trick 4 bits, seat 2, suit 2, with 1 where it is excused
 abbrev pub countedOf : ℕ → ℕ → Counted

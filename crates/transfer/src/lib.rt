@@ -1,5 +1,5 @@
 // Law 64: the tricks that change sides for the revokes of a board, counted from the last revoke to the first.
-use penalty::Listed;
+use position::Listed;
 use play::Tricks;
 ghost use mathlib.Core.Path.{_≡_};
 ghost use mathlib.Core.List.{List};

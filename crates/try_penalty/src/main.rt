@@ -2,8 +2,8 @@
 // plays against Law 50 (their bytes).
 // A card is 13 × suit + rank: clubs from 0, diamonds from 13, hearts from 26, spades from 39, the two first. Seats are 0 North to 3 West.
 use libc::STDOUT_FILENO;
-use penalty::Listed;
-use penalty::Table;
+use position::Listed;
+use position::Table;
 
 fn number(n: u64) {
     io::print_decimal(STDOUT_FILENO, n);

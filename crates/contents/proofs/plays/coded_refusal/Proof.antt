@@ -8,12 +8,12 @@ use lib.ListN.{length, getD}
 use Rattle.laws.specs.Choice.{howMany}
 use Rattle.laws.specs.Events.{Event}
 use Rattle.laws.specs.FlatPlay.{isCard}
-use Rattle.penalty.specs.History.{OfEvents}
+use Rattle.position.specs.History.{OfEvents}
 use Rattle.contents.proofs.Items.{itemsAt, code-leaves, card-takes}
 use Rattle.contents.proofs.PlayTurns.{Turned, turns-begin, turns-end, code-over, code-cut, code-last, room-is, card-behind}
 use Rattle.contents.proofs.PlayTurns.{code-stops, code-goes, card-stops, card-goes}
 use Rattle.contents.specs.Checked.{runOf}
-use Rattle.penalty.proofs.TableStands.{one-table}
+use Rattle.position.proofs.TableStands.{one-table}
 use Rattle.contents.proofs.RunTurns.{one-refusal, one-plays}
 use Rattle.contents.proofs.plays.coded_refusal.Statement.{statement}
 use Rattle.contents.proofs.plays.coded_refusal.Tie as tie

@@ -11,12 +11,12 @@ use Rattle.field.proofs.ThreeBytes.{value-is, value-reads, value-lt, short-stop
 use Rattle.laws.specs.Events.{Event}
 use Rattle.laws.specs.Reading.{Reading.found, Reading.refused, numberAt, read}
 use Rattle.play.specs.Position.{verdictOf, verdictNumber}
-use Rattle.penalty.specs.declared.table.Table.{Table}
-use Rattle.penalty.specs.Table.{afterPlay}
-use Rattle.penalty.specs.History.{OfEvents}
+use Rattle.position.specs.declared.table.Table.{Table}
+use Rattle.position.specs.Table.{afterPlay}
+use Rattle.position.specs.History.{OfEvents}
 use Rattle.last_card.proofs.PlayTurns.{Turned, turns-begin, turns-end, turns-short, code-stops, code-goes, card-stops, card-goes, same-codes}
 use Rattle.last_card.specs.Sections.{runOf}
-use Rattle.penalty.proofs.TableStands.{one-table}
+use Rattle.position.proofs.TableStands.{one-table}
 use Rattle.last_card.proofs.RunTurns.{one-refusal, one-plays}
 use Rattle.last_card.proofs.plays.read_plays.Statement.{statement}
 use Rattle.last_card.proofs.plays.read_plays.Tie as tie

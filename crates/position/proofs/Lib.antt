@@ -1,0 +1,9 @@
+pub mod Marking
+pub mod AtMost
+pub mod FoundWords
+pub mod FoundStands
+pub mod TableStands
+pub mod Refusing
+pub mod FailureBytes
+pub mod Listing
+pub mod ListedBytes
