@@ -39,7 +39,7 @@ use Rattle.play.proofs.Complete.{tricks-law}
 use Rattle.position.specs.declared.table.Table.{Table}
 use Rattle.position.specs.declared.listed.Listed.{Listed}
 use Rattle.position.specs.Listed.{revokesIn}
-use Rattle.position.specs.Told.{failureBytesIn}
+use Rattle.found.specs.Told.{failureBytesIn}
 use Rattle.position.proofs.AtMost.{cards-allowed}
 use Rattle.position.proofs.TableStands.{TableStands, play-is, table-stands}
 use Rattle.position.proofs.ListedBytes.{revokes-law}

@@ -21,8 +21,8 @@ use Rattle.laws.proofs.Tests.{by-test}
 use Rattle.laws.proofs.CardsAlone.{cards-alone, none-required, obeys-alone, none-excused, no-failure, failures-alone}
 use Rattle.play.specs.Words.{bitOf, withBit}
 use Rattle.play.proofs.UnderWay.{bit-low}
-use Rattle.position.specs.declared.found.Found.{Found}
-use Rattle.position.specs.Found.{noneFound, namedBy, withRevoke, withLead, withFailure}
+use Rattle.found.specs.declared.found.Found.{Found}
+use Rattle.found.specs.Found.{noneFound, namedBy, withRevoke, withLead, withFailure}
 use Rattle.position.specs.History.{leadsOf, excusedOf, namedOf, entryOf, failedOf, wordsIn}
 use Rattle.position.proofs.AtMost.{entry-more, entry-none}
 use Rattle.position.proofs.FoundWords.{pushed-words}

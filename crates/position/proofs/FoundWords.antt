@@ -2,7 +2,7 @@
 use Prim.Native.Nat.{ℕ, _<_, _+_, _*_, _/_, _%_, _^_}
 use mathlib.Core.Path.{_≡_}
 use native.Mathlib.Omega.{arith}
-use Rattle.position.specs.Found.{pushWord, lastOf, pushed}
+use Rattle.found.specs.Found.{pushWord, lastOf, pushed}
 use Rattle.position.specs.History.{wordsIn}
 
 -- ---- five words with an entry more

@@ -28,7 +28,7 @@ use Rattle.play.proofs.Masks.{half, lowest}
 use Rattle.play.proofs.Filling.{none-in}
 use Rattle.play.proofs.Entries.{allEntries, all-entries, byte-is, lead-byte-is, drop-next}
 use Rattle.play.proofs.Thirteen.{at-most-52}
-use Rattle.position.specs.Found.{namedBy}
+use Rattle.found.specs.Found.{namedBy}
 use Rattle.position.specs.Listed.{toldOf, listedByte, flagAt, bitsIn, listedIn, freeIn, listedOf, revokesIn}
 use Rattle.position.specs.declared.table.Table.{Table}
 use Rattle.position.specs.History.{leadsOf, bitsOf, excusedOf, namedOf}

@@ -1,27 +1,17 @@
 -- What the code marks of a card is what its definition says: a law over variables. Assumes nothing.
-use Prim.Native.Nat.{ℕ, _+_, _*_, _%_}
+use Prim.Native.Nat.{ℕ, _+_, _%_}
 use mathlib.Core.Path.{_≡_}
 use mathlib.Core.Bool.{Bool, true, false, not}
 use mathlib.Core.List.{List}
 use native.Mathlib.Omega.{arith}
 use lib.ListN.{getD}
 use Rattle.laws.specs.Cards.{clockwise, partnerOf}
-use Rattle.play.specs.Words.{bitOf, withBit}
-use Rattle.play.proofs.Steps.{both-bits}
 use Rattle.penalty.specs.declared.Turn.{Turn}
 use Rattle.penalty.specs.Position.{obeysIn, excusedIn, failsIn}
-use Rattle.position.specs.declared.found.Found.{Found}
+use Rattle.found.specs.declared.found.Found.{Found}
 use Rattle.position.specs.declared.table.Table.{Table}
-use Rattle.position.specs.Found.{withRevoke, withLead, withFailure}
+use Rattle.found.specs.Found.{withRevoke, withLead, withFailure}
 use Rattle.position.specs.Table.{turnIn, entryIn, revokesIn, foundOf, foundAfter}
-
-pub marked : (f : Found) (lead revoke excused : Bool) {a b c d leads free : ℕ} → a ≡ bitOf lead → b ≡ bitOf revoke → c ≡ bitOf revoke → d ≡ bitOf excused
-    → leads ≡ withBit (f .leads) (a * b) → free ≡ withBit (f .excused) (c * d)
-    → _≡_ {A = Found}
-    (record { leads = leads; excused = free; named = f .named; failures = f .failures; failed = f .failed })
-    (withRevoke f lead revoke excused)
-unfolding withRevoke
-marked f lead revoke excused ea eb ec ed el ef = rw (el, ef, ea, eb, ec, ed, both-bits lead revoke, both-bits revoke excused)
 
 -- what is found of a card, where it is against Law 50 and where it is not
 module _ (t : Table) (card : ℕ) {turn : Turn} {obeys excused fails : Bool} {revoked led : Found} (et : turn ≡ turnIn t)

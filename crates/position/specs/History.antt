@@ -17,7 +17,7 @@ use Rattle.laws.specs.Plays.{playPlace}
 use Rattle.deal.specs.Hands.{wordsOf}
 use Rattle.play.specs.Words.{bitOf}
 use Rattle.position.specs.declared.table.Table.{Table}
-use Rattle.position.specs.Found.{namedBy}
+use Rattle.found.specs.Found.{namedBy}
 use Rattle.position.specs.Table.{tableOf, afterPlay, afterExposed, afterChoice}
 
 -- the position that the code keeps after the events

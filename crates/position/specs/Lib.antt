@@ -1,5 +1,3 @@
-pub mod Found
 pub mod Table
 pub mod History
-pub mod Told
 pub mod Listed

@@ -13,10 +13,10 @@ use Rattle.play.specs.declared.Play.{Play}
 use Rattle.play.specs.Position as Position
 use Rattle.play.specs.Position.{turnOf, handOf, leads, step}
 use Rattle.penalty.specs.declared.Turn.{Turn}
-use Rattle.position.specs.declared.found.Found.{Found}
+use Rattle.found.specs.declared.found.Found.{Found}
 use Rattle.position.specs.declared.table.Table.{Table}
 use Rattle.penalty.specs.Position.{startOf, obeysIn, excusedIn, failsIn, exposableIn, openIn, afterCard, withExposed, withChoice}
-use Rattle.position.specs.Found.{noneFound, withRevoke, withLead, withFailure}
+use Rattle.found.specs.Found.{noneFound, withRevoke, withLead, withFailure}
 
 -- after cards alone
 abbrev pub tableWith : Play → ℕ → Table

@@ -1,5 +1,5 @@
 // The position of the play with its penalty cards: it steps with a card, an exposure and a choice, and returns itself.
-use crate::Found;
+use found::Found;
 use laws::ACCEPTED;
 use laws::CHOICE_NOT_OPEN;
 use laws::NOT_EXPOSABLE;

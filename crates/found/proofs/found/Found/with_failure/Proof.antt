@@ -1,8 +1,8 @@
--- `position::found::Found::with_failure` meets its contract. Assumes nothing.
-use Rattle.position.specs.Found.{withFailure}
+-- `found::found::Found::with_failure` meets its contract. Assumes nothing.
+use Rattle.found.specs.Found.{withFailure}
 use borrow.Author.Needs.{needs}
-use Rattle.position.proofs.found.Found.with_failure.Statement.{statement}
-use Rattle.position.proofs.found.Found.with_failure.Tie as tie
+use Rattle.found.proofs.found.Found.with_failure.Statement.{statement}
+use Rattle.found.proofs.found.Found.with_failure.Tie as tie
 
 pushed-requires : tie.Need-pushed-requires
 pushed-requires c κs = search needs

@@ -1,9 +1,9 @@
--- `position::found::pushed` meets its contract. Assumes nothing.
+-- `found::found::pushed` meets its contract. Assumes nothing.
 use mathlib.Core.Path.{refl}
-use Rattle.position.specs.Found.{pushWord, lastOf, pushed}
+use Rattle.found.specs.Found.{pushWord, lastOf, pushed}
 use borrow.Author.Needs.{needs}
-use Rattle.position.proofs.found.pushed.Statement.{statement}
-use Rattle.position.proofs.found.pushed.Tie as tie
+use Rattle.found.proofs.found.pushed.Statement.{statement}
+use Rattle.found.proofs.found.pushed.Tie as tie
 
 array-read-t6 : tie.Need-array-read-t6
 array-read-t6 c = search needs

@@ -2,7 +2,7 @@
 use crate::Found;
 ghost use mathlib.Core.Path.{_≡_};
 ghost use Prim.Native.Nat.{_<_};
-ghost use Rattle.position.specs.Told.{popped, failureBytesIn};
+ghost use Rattle.found.specs.Told.{popped, failureBytesIn};
 
 fn narrow(x: u64) -> u8
     requires { ⌜ x < 256 ⌝ }

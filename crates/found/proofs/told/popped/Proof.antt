@@ -1,9 +1,9 @@
--- `position::told::popped` meets its contract. Assumes nothing.
+-- `found::told::popped` meets its contract. Assumes nothing.
 use mathlib.Core.Path.{refl}
-use Rattle.position.specs.Told.{popWord, popped}
+use Rattle.found.specs.Told.{popWord, popped}
 use borrow.Author.Needs.{needs}
-use Rattle.position.proofs.told.popped.Statement.{statement}
-use Rattle.position.proofs.told.popped.Tie as tie
+use Rattle.found.proofs.told.popped.Statement.{statement}
+use Rattle.found.proofs.told.popped.Tie as tie
 
 array-read-t5 : tie.Need-array-read-t5
 array-read-t5 c = search needs

@@ -4,7 +4,7 @@ use Prim.Native.Nat.{ℕ, zero, suc, _+_, _*_, _/_, _%_, _^_}
 use mathlib.Core.List.{List, [], _∷_, _++_}
 use lib.ListN.{getD}
 use Rattle.laws.specs.Padded.{padded}
-use Rattle.position.specs.declared.found.Found.{Found}
+use Rattle.found.specs.declared.found.Found.{Found}
 
 -- a word of five entries without its lowest; the lowest of the next word comes behind the others
 unfoldable pub popWord : ℕ → ℕ → ℕ

@@ -1,11 +1,11 @@
--- `position::found::named_by` meets its contract. Assumes nothing.
+-- `found::found::named_by` meets its contract. Assumes nothing.
 use mathlib.Core.Path.{refl}
 use native.Mathlib.Omega.{arith}
 use borrow.Author.Tests.{lt-ltb, le-ltb}
-use Rattle.position.specs.Found.{namedBy}
+use Rattle.found.specs.Found.{namedBy}
 use borrow.Author.Needs.{needs}
-use Rattle.position.proofs.found.named_by.Statement.{statement}
-use Rattle.position.proofs.found.named_by.Tie as tie
+use Rattle.found.proofs.found.named_by.Statement.{statement}
+use Rattle.found.proofs.found.named_by.Tie as tie
 
 add-result : tie.Need-add-result
 add-result c = search needs

@@ -1,8 +1,8 @@
--- `position::found::Found::with_lead` meets its contract. Assumes nothing.
-use Rattle.position.specs.Found.{withLead}
+-- `found::found::Found::with_lead` meets its contract. Assumes nothing.
+use Rattle.found.specs.Found.{withLead}
 use borrow.Author.Needs.{needs}
-use Rattle.position.proofs.found.Found.with_lead.Statement.{statement}
-use Rattle.position.proofs.found.Found.with_lead.Tie as tie
+use Rattle.found.proofs.found.Found.with_lead.Statement.{statement}
+use Rattle.found.proofs.found.Found.with_lead.Tie as tie
 
 mul-self : tie.Need-mul-self
 mul-self c = search needs

@@ -4,7 +4,7 @@ use play::bit;
 use play::with_bit;
 ghost use mathlib.Core.Path.{_≡_};
 ghost use Prim.Native.Nat.{_<_};
-ghost use Rattle.position.specs.Found.{noneFound, namedBy, withRevoke, withLead, pushed, withFailure};
+ghost use Rattle.found.specs.Found.{noneFound, namedBy, withRevoke, withLead, pushed, withFailure};
 
 pub struct Found {
     // A bit for each card: 1 for a lead that is a revoke, and 1 for a revoke that is excused.
@@ -57,7 +57,7 @@ impl Found {
     }
 
     // With a card that is a revoke or not, a lead or not, and by a seat that is excused or not.
-    pub(crate) fn with_revoke(mut self, lead: bool, revoke: bool, excused: bool) -> Self
+    pub fn with_revoke(mut self, lead: bool, revoke: bool, excused: bool) -> Self
         ensures { λ r. ⌜ r ≡ withRevoke self lead revoke excused ⌝ }
     {
         let led = bit(lead) * bit(revoke);
@@ -68,7 +68,7 @@ impl Found {
     }
 
     // With a lead, where the card is one.
-    pub(crate) fn with_lead(mut self, lead: bool, revoke: bool, required: u64) -> Self
+    pub fn with_lead(mut self, lead: bool, revoke: bool, required: u64) -> Self
         ensures { λ r. ⌜ r ≡ withLead self lead revoke required ⌝ }
     {
         if lead {
@@ -79,7 +79,7 @@ impl Found {
     }
 
     // With a play against Law 50.
-    pub(crate) fn with_failure(mut self, entry: u64) -> Self
+    pub fn with_failure(mut self, entry: u64) -> Self
         ensures { λ r. ⌜ r ≡ withFailure self entry ⌝ }
     {
         let words = self.failed;

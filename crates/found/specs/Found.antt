@@ -7,7 +7,7 @@ use lib.Dec.{ltb}
 use lib.ListN.{getD}
 use Rattle.laws.specs.Choice.{if_then_else_}
 use Rattle.play.specs.Words.{bitOf, withBit}
-use Rattle.position.specs.declared.found.Found.{Found}
+use Rattle.found.specs.declared.found.Found.{Found}
 
 -- before the first card
 unfoldable pub noneFound : Found

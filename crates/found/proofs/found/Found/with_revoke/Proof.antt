@@ -1,10 +1,10 @@
--- `position::found::Found::with_revoke` meets its contract. Assumes nothing.
+-- `found::found::Found::with_revoke` meets its contract. Assumes nothing.
 use native.Mathlib.Omega.{arith}
 use Rattle.play.proofs.Steps.{product-bits}
-use Rattle.position.proofs.Marking.{marked}
+use Rattle.found.proofs.Marking.{marked}
 use borrow.Author.Needs.{needs}
-use Rattle.position.proofs.found.Found.with_revoke.Statement.{statement}
-use Rattle.position.proofs.found.Found.with_revoke.Tie as tie
+use Rattle.found.proofs.found.Found.with_revoke.Statement.{statement}
+use Rattle.found.proofs.found.Found.with_revoke.Tie as tie
 
 bit-requires : tie.Need-bit-requires
 bit-requires c κs = search needs

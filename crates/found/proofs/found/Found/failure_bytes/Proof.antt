@@ -1,10 +1,10 @@
--- `position::found::Found::failure_bytes` meets its contract: the bytes are filled in from the last play on. The measure is `i`. Assumes nothing.
+-- `found::found::Found::failure_bytes` meets its contract: the bytes are filled in from the last play on. The measure is `i`. Assumes nothing.
 use native.Mathlib.Omega.{arith}
 use borrow.Author.Needs.{needs}
-use Rattle.position.specs.Told.{lowestOf}
-use Rattle.position.proofs.FailureBytes.{Filled, fill-begins, fill-goes, fill-ends}
-use Rattle.position.proofs.found.Found.failure_bytes.Statement.{statement}
-use Rattle.position.proofs.found.Found.failure_bytes.Tie as tie
+use Rattle.found.specs.Told.{lowestOf}
+use Rattle.found.proofs.Filling.{Filled, fill-begins, fill-goes, fill-ends}
+use Rattle.found.proofs.found.Found.failure_bytes.Statement.{statement}
+use Rattle.found.proofs.found.Found.failure_bytes.Tie as tie
 
 abbrev Inv-loop : tie.InvT-loop
 Inv-loop bytes₀ words₀ i₀ bytes words i = Filled i₀ words₀ bytes words i
