@@ -23,7 +23,7 @@ use Rattle.laws.proofs.Tests.{by-test, not-both, and-left}
 use Rattle.laws.proofs.Counts.{everyBelow, every-below}
 use Rattle.laws.proofs.Lengths.{at-most-505}
 use Rattle.laws.proofs.PbnNumbers.{said-refused, said-lawful}
-use Rattle.pbn_text.specs.WordNumbers.{partLength}
+use Rattle.pbn_words.specs.WordNumbers.{partLength}
 use Rattle.sheet_text.proofs.Printed.{length-by}
 
 -- ---- the first line

@@ -1,17 +1,7 @@
-pub mod SameBytes
-pub mod PartsOf
-pub mod RowsRead
-pub mod TagLines
-pub mod BoardLines
-pub mod HeldCards
-pub mod Walked
-pub mod DealLines
 pub mod KeptNumbers
 pub mod Stepping
 pub mod RowLines
 pub mod AnyStage
 pub mod WholeText
 pub mod TextTurns
-pub mod TrickWon
-pub mod Ordered
 pub mod Told

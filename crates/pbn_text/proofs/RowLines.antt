@@ -14,11 +14,11 @@ use Rattle.laws.specs.PbnReading.{Read, misses, reads, onRead, rowIn, Stage, ca
 use Rattle.laws.specs.PbnReading.{withCalls, withPlay, withRow, goes, callsIn, cardsIn, lineIn}
 use Rattle.laws.proofs.Tests.{by-test}
 use Rattle.laws.proofs.PbnWords.{reads-same, row-sound}
-use Rattle.pbn_text.specs.declared.rows.Row.{Row}
+use Rattle.pbn_words.specs.declared.rows.Row.{Row}
 use Rattle.pbn_text.specs.declared.numbers.Numbers.{Numbers}
 use Rattle.pbn_text.specs.declared.state.Text.{Text}
-use Rattle.pbn_text.specs.WordNumbers.{wordOf, words}
-use Rattle.pbn_text.specs.RowNumbers.{rowOn, noRow, rowBy}
+use Rattle.pbn_words.specs.WordNumbers.{wordOf, words}
+use Rattle.pbn_words.specs.RowNumbers.{rowOn, noRow, rowBy}
 use Rattle.pbn_text.specs.Kept.{keptOf}
 use Rattle.pbn_text.specs.TextOf.{seatOf, listedOf, textOf, atStage, Stepped}
 use Rattle.pbn_text.proofs.Stepping.{stops}

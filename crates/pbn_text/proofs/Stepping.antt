@@ -15,13 +15,13 @@ use Rattle.laws.proofs.Tests.{by-test}
 use Rattle.laws.proofs.PbnWords.{number-sound}
 use Rattle.laws.proofs.PbnDeal.{deal-sound}
 use Rattle.pbn_text.specs.declared.state.Text.{Text}
-use Rattle.pbn_text.specs.declared.deal_line.Deal.{Deal}
+use Rattle.pbn_deal.specs.declared.deal_line.Deal.{Deal}
 use Rattle.pbn_text.specs.declared.numbers.Numbers.{Numbers}
-use Rattle.pbn_text.specs.WordNumbers.{noNumber, readOr}
-use Rattle.pbn_text.specs.DealOn.{noDeal, dealOn}
+use Rattle.pbn_words.specs.WordNumbers.{noNumber, readOr}
+use Rattle.pbn_deal.specs.DealOn.{noDeal, dealOn}
 use Rattle.pbn_text.specs.Kept.{keptOf}
 use Rattle.pbn_text.specs.TextOf.{textOf, atStage, Stepped}
-use Rattle.pbn_text.proofs.BoardLines.{is-line}
+use Rattle.pbn_words.proofs.BoardLines.{is-line}
 
 abbrev at : Stage → Game → State
 at stage x = record { stage = stage; game = x }

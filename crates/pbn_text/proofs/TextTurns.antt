@@ -17,10 +17,10 @@ use Rattle.laws.proofs.PbnSteps.{step-sound}
 use Rattle.laws.proofs.PbnParse.{start-fine}
 use Rattle.pbn_text.specs.declared.state.Text.{Text}
 use Rattle.pbn_text.specs.declared.text.Parsed.{Parsed}
-use Rattle.pbn_text.specs.WordNumbers.{partLength}
+use Rattle.pbn_words.specs.WordNumbers.{partLength}
 use Rattle.pbn_text.specs.TextOf.{stageOf, textOf, Stepped, Lists, StepsOn}
 use Rattle.pbn_text.specs.ParsedAs.{ParsedAs, EndsAs}
-use Rattle.pbn_text.proofs.PartsOf.{part-within, first-part, last-part}
+use Rattle.pbn_words.proofs.PartsOf.{part-within, first-part, last-part}
 use Rattle.pbn_text.proofs.WholeText.{stage-is, stage-7}
 
 -- lines were read up to a place, and what is left gives what the whole text gives

@@ -22,11 +22,11 @@ use Rattle.laws.proofs.PbnParse.{start-fine}
 use Rattle.pbn_text.specs.declared.state.Text.{Text}
 use Rattle.pbn_text.specs.declared.numbers.Numbers.{Numbers}
 use Rattle.pbn_text.specs.declared.text.Parsed.{Parsed}
-use Rattle.pbn_text.specs.WordNumbers.{partLength}
+use Rattle.pbn_words.specs.WordNumbers.{partLength}
 use Rattle.pbn_text.specs.Kept.{keptOf}
 use Rattle.pbn_text.specs.TextOf.{stageOf, rowsOf, textOf, Stepped, Lists, StepsOn}
 use Rattle.pbn_text.specs.ParsedAs.{ParsedAs, EndsAs}
-use Rattle.pbn_text.proofs.PartsOf.{part-within, first-part, last-part}
+use Rattle.pbn_words.proofs.PartsOf.{part-within, first-part, last-part}
 
 -- ---- where a text may end
 pub stage-is : (t : Text) (s : State) → t ≡ textOf s → t .stage ≡ stageOf (s .stage)

@@ -1,17 +1,14 @@
 // What stands in a text, for those who ask for it.
 use crate::numbers::Numbers;
 use crate::numbers::no_numbers;
-use crate::order::Cards;
-use crate::order::order_of;
-use crate::rows::part_end;
 use crate::text::read_text;
+use pbn_order::Cards;
+use pbn_words::part_end;
 ghost use mathlib.Core.Path.{_≡_};
-ghost use Prim.Native.Nat.{_%_};
 ghost use lib.ListN.{take};
-ghost use Rattle.laws.specs.PbnOrder.{orderOfPlay};
 ghost use Rattle.laws.specs.PbnReading.{parse};
 ghost use Rattle.laws.specs.Sheet.{newline};
-ghost use Rattle.pbn_text.specs.WordNumbers.{partLength};
+ghost use Rattle.pbn_words.specs.WordNumbers.{partLength};
 ghost use Rattle.pbn_text.specs.GameIn.{noGame, gameIn};
 
 // `line` is 0; or it is the line up to which no text of the subset agrees, at most 1023, and nothing else is told. Play's seat is 4 where there is no Play.
@@ -85,11 +82,4 @@ pub fn read_game(text: &[u8]) -> Game
         calls,
         cards,
     }
-}
-
-// The order of play of cards that are listed in columns from a seat, which leads first.
-pub fn order_of_play(cards: [u8; 52], trump: u8, seat: u8) -> Cards
-    ensures { λ r. ⌜ r .cards ≡ orderOfPlay trump (seat % 4) cards ⌝ }
-{
-    order_of(cards, trump, seat % 4)
 }

@@ -1,5 +1,5 @@
 // A list of numbers that is kept as far as there is room: no more than 511 are stored, and a number beyond is counted once.
-use crate::rows::Row;
+use pbn_words::Row;
 ghost use mathlib.Core.Path.{_≡_};
 ghost use mathlib.Core.List.{List, [], _∷_, _++_};
 ghost use Prim.Native.Nat.{ℕ, _≤_};

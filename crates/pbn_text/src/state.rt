@@ -1,12 +1,12 @@
 // What was read of a text, line by line.
-use crate::board::board_in;
-use crate::deal_line::deal_in;
 use crate::numbers::Numbers;
 use crate::numbers::no_numbers;
 use crate::numbers::with_row;
-use crate::rows::row_in;
-use crate::tags::seat_in;
-use crate::words::NO_NUMBER;
+use pbn_deal::deal_in;
+use pbn_words::NO_NUMBER;
+use pbn_words::board_in;
+use pbn_words::row_in;
+use pbn_words::seat_in;
 ghost use mathlib.Core.Path.{_≡_};
 ghost use mathlib.Core.List.{List};
 ghost use Prim.Native.Nat.{ℕ};

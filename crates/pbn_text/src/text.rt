@@ -1,8 +1,8 @@
 // A whole text, line by line.
 use crate::lines::line_in;
 use crate::numbers::no_numbers;
-use crate::rows::part_end;
 use crate::state::Text;
+use pbn_words::part_end;
 ghost use mathlib.Core.Path.{_≡_};
 ghost use Prim.Native.Nat.{suc, min};
 ghost use Rattle.laws.specs.PbnText.{Game};

@@ -3,6 +3,7 @@ use Prim.Native.Nat.{_+_, _-_}
 use native.Mathlib.Omega.{arith}
 use lib.ListN.{length}
 use Rattle.pbn_text.proofs.TextTurns.{Reached, begins, end-within, ends, stops, on}
+use borrow.Author.Needs.{needs}
 use Rattle.pbn_text.proofs.text.read_text.Statement.{statement}
 use Rattle.pbn_text.proofs.text.read_text.Tie as tie
 
@@ -19,7 +20,7 @@ loop-holds : tie.Need-loop-holds Inv-loop μ-loop
 loop-holds c = begins _ _ (c .start-text .ensures)
 
 part-end-requires : tie.Need-part-end-requires Inv-loop μ-loop
-part-end-requires c κs = c .before .loop .inv .within
+part-end-requires c κs = search needs
 
 sub-ended : tie.Need-sub-ended Inv-loop μ-loop
 sub-ended c = omega (arith, c .before .part-end .ensures)

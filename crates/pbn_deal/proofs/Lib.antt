@@ -1,0 +1,3 @@
+pub mod HeldCards
+pub mod Walked
+pub mod DealLines

@@ -1,0 +1,2 @@
+pub mod TrickWon
+pub mod Ordered

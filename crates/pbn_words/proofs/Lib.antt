@@ -1,0 +1,5 @@
+pub mod SameBytes
+pub mod PartsOf
+pub mod RowsRead
+pub mod TagLines
+pub mod BoardLines

@@ -1,0 +1,2 @@
+pub mod WordNumbers
+pub mod RowNumbers
