@@ -14,8 +14,8 @@ use Rattle.laws.specs.Reading.{Reading, Reading.refused, Reading.found, refuse}
 use Rattle.laws.specs.Contents.{takeHeading}
 use Rattle.deal.specs.Taking.{takenBy}
 use Rattle.deal.specs.declared.given.Dealt.{Dealt}
-use Rattle.play.specs.Claims.{pointAt, mayClaim}
-use Rattle.play.proofs.ClaimPoints.{no-point}
+use Rattle.claims.specs.Claims.{pointAt, mayClaim}
+use Rattle.claims.proofs.ClaimPoints.{no-point}
 use Rattle.contents.specs.Given.{claimOf}
 use Rattle.contents.specs.Checked.{refusalIn, dealBy, claimBy}
 

@@ -31,7 +31,7 @@ use Rattle.auction.specs.Position.{positionOf}
 use Rattle.auction.specs.Asked.{passedOutOf, contractOf}
 use Rattle.auction.proofs.History.{passed-out-is}
 use Rattle.auction.proofs.Laws.{trump-is, opening-is}
-use Rattle.play.specs.Claims.{pointAt}
+use Rattle.claims.specs.Claims.{pointAt}
 use Rattle.contents.specs.Checked.{refusalIn, cardsBy, claimBy, afterCalls}
 use Rattle.contents.proofs.Called.{not-0}
 

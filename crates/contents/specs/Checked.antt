@@ -16,7 +16,7 @@ use Rattle.deal.specs.Hands.{wordsOf}
 use Rattle.auction.specs.Position.{positionOf}
 use Rattle.play.specs.declared.Play.{Play}
 use Rattle.play.specs.Position.{step, verdictOf, verdictNumber}
-use Rattle.play.specs.Claims.{pointAt}
+use Rattle.claims.specs.Claims.{pointAt}
 use Rattle.contents.specs.declared.sections.Deal.{Deal}
 use Rattle.contents.specs.declared.calls.Calls.{Calls}
 use Rattle.contents.specs.declared.runs.Run.{Run}

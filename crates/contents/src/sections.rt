@@ -78,10 +78,10 @@ pub(crate) fn claim_refusal(out: bool, played: u8, marked: u32, claim: u32) -> u
     if marked == 0 {
         return unclaimed_refusal(out, played);
     }
-    if !play::may_claim(out, played) {
+    if !claims::may_claim(out, played) {
         return refusal_number(NO_CLAIM_POINT, played as u16);
     }
-    if (play::tricks_left(played) as u32) < claim {
+    if (claims::tricks_left(played) as u32) < claim {
         return refusal_number(CLAIM_TOO_MANY, at_most(claim, 15));
     }
     0

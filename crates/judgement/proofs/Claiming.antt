@@ -9,8 +9,8 @@ use Rattle.laws.specs.Reading.{Reading.refused, Reading.found, read, refuse}
 use Rattle.laws.proofs.Tests.{and-right}
 use Rattle.judgement.specs.declared.claim.Claim.{Claim as Read}
 use Rattle.judgement.specs.Claims.{noClaim, claimOf, noClaimBy, markedBy, claimBy}
-use Rattle.play.specs.Claims.{pointAt, mayClaim}
-use Rattle.play.proofs.ClaimPoints.{no-point}
+use Rattle.claims.specs.Claims.{pointAt, mayClaim}
+use Rattle.claims.proofs.ClaimPoints.{no-point}
 
 none-left : (b : Bool) → (not b && false) ≡ false
 none-left true = refl

@@ -51,7 +51,7 @@ use Rattle.judgement.specs.Whole.{OfCards, listedIn, tricksTold, afterCa
 use Rattle.judgement.specs.declared.claim.Claim.{Claim as Read}
 use Rattle.judgement.specs.declared.whole.Judged.{Judged}
 use Rattle.judgement.specs.Claims.{claimOf, noClaimBy, markedBy, claimBy}
-use Rattle.play.specs.Claims.{pointAt}
+use Rattle.claims.specs.Claims.{pointAt}
 
 -- the parts of a record with these calls and events of the play, latest first
 abbrev pub partsOf : ℕ → ℕ → List ℕ → List ℕ → List Event → Claim → Parts

@@ -7,7 +7,7 @@ use Rattle.laws.specs.Choice.{if_then_else_}
 use Rattle.laws.specs.Refusals.{refusalNumber, playUnfinished, noClaimPoint, claimTooMany}
 use Rattle.laws.specs.Law68.{Claim, none, agreed}
 use Rattle.laws.specs.Reading.{Reading, Reading.refused, Reading.found, Reader, _>>=_, _>>_, give, read, refuse}
-use Rattle.play.specs.Claims.{pointAt}
+use Rattle.claims.specs.Claims.{pointAt}
 use Rattle.judgement.specs.declared.claim.Claim.{Claim as Read}
 
 abbrev pub noClaim : ℕ → ℕ → Read

@@ -60,13 +60,13 @@ fn read_marked_claim(bytes: &[u8], out: bool, played: u8, at: usize) -> Claim
     requires { ⌜ at < 65536 ⌝ }
     ensures { λ r. ⌜ r ≡ claimOf (markedBy out played (now (bytes .entry)) at) ⌝ }
 {
-    if !play::may_claim(out, played) {
+    if !claims::may_claim(out, played) {
         return no_claim(NO_CLAIM_POINT, played as u16);
     }
     let Field::Value(tricks) = field::read(bytes, at, 4) else {
         return no_claim(RECORD_ENDS, 0);
     };
-    let left = play::tricks_left(played);
+    let left = claims::tricks_left(played);
     let t = narrow(tricks);
     if left < t {
         return no_claim(CLAIM_TOO_MANY, tricks);

@@ -116,7 +116,7 @@ fn judge_claim(
         ts,
         rs,
         claimed,
-        play::tricks_left(played),
+        claims::tricks_left(played),
     );
     Judged {
         refusal: 0,

@@ -2,4 +2,3 @@ pub mod Words
 pub mod Position
 pub mod Told
 pub mod History
-pub mod Claims

@@ -1,11 +1,8 @@
 // The play, a card at a time: a position by value that steps and returns itself.
 // A holder is a seat, 0 to 3, or 4 + the seat that played the card. Numbers from 52 on are no cards and change nothing.
-mod claims;
 mod told;
 mod words;
 
-pub use crate::claims::may_claim;
-pub use crate::claims::tricks_left;
 pub use crate::told::byte_after;
 use crate::words::CARDS;
 pub use crate::words::bit;

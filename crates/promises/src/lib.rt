@@ -1,1 +1,1 @@
-// What is promised of the whole: see specs/ and proofs/. The crate has no function.
+// What is promised of records, judged, and of best play: see specs/ and proofs/. The crate has no function.

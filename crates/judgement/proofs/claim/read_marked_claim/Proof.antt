@@ -8,7 +8,7 @@ use lib.Dec.{lit≤}
 use Rattle.field.specs.Field.{fieldAnswer}
 use Rattle.field.proofs.ThreeBytes.{value-reads, value-lt, short-stops}
 use Rattle.laws.specs.Reading.{Reading.found, read}
-use Rattle.play.specs.Claims.{mayClaim}
+use Rattle.claims.specs.Claims.{mayClaim}
 use Rattle.judgement.proofs.Claiming.{claim-elsewhere, claim-short, claim-too-many, claim-agreed}
 use borrow.Author.Needs.{needs}
 use Rattle.judgement.proofs.claim.read_marked_claim.Statement.{statement}

@@ -1,0 +1,16 @@
+pub mod Demand3
+pub mod Demand3OneDeal
+pub mod TalliesMatchpoints
+pub mod Tallies
+pub mod TalliesMerging
+pub mod Demand2Imps
+pub mod Percentages
+pub mod TeamMatchRuns
+pub mod TeamMatchOrder
+pub mod TeamMatchReached
+pub mod TeamMatch
+pub mod TallyNumbers
+pub mod TallyInRecord
+pub mod TallyBytes
+pub mod Demand3Bytes
+pub mod Reduction
