@@ -1,4 +1,3 @@
-pub mod Points
 pub mod Claiming
 pub mod Padding
 pub mod Settling
@@ -6,5 +5,3 @@ pub mod Judging
 pub mod Reaching
 pub mod Told
 pub mod Widths
-pub mod Granting
-pub mod Explaining

@@ -1,7 +1,7 @@
 // The judgement's numbers: tricks after Law 64, score by Law 77, and the 56 bits of the answer.
-use crate::law77::Stake;
-use crate::law77::declarer_score;
 use auction::Contract;
+use law77::Stake;
+use law77::declarer_score;
 use position::Listed;
 use play::Tricks;
 ghost use mathlib.Core.Path.{_≡_};
@@ -13,7 +13,7 @@ ghost use Rattle.laws.specs.Judgement.{twosComplement};
 ghost use Rattle.judgement.specs.Settled.{headFields, playFields, wonIn, settledFields};
 
 // The score from North-South.
-pub(crate) fn ns_score(score: i64, declarer: u8) -> i64
+fn ns_score(score: i64, declarer: u8) -> i64
     requires { ⌜ natAbs score < 10000000000000 ⌝ }
     ensures { λ r. ⌜ (r ≡ nsScore declarer score) × (natAbs r < 10000000000000) ⌝ }
 {

@@ -17,8 +17,8 @@ use Rattle.laws.proofs.Integers.{size-neg}
 use Rattle.laws.proofs.Score.{everyContract, every-contract}
 use Rattle.laws.proofs.Slip.{size-ns}
 use Rattle.laws.proofs.Tests.{by-test}
-use Rattle.judgement.specs.Explained.{Possible, itemsFor}
-use Rattle.judgement.proofs.Granting.{score-small, gain-small, ns-small}
+use Rattle.explanation.specs.Explained.{Possible, itemsFor}
+use Rattle.explanation.proofs.Granting.{score-small, gain-small, ns-small}
 use Rattle.sheet_text.proofs.Printed.{length-by}
 use Rattle.sheet_text.proofs.SingleLines.{after-length, line-length}
 use Rattle.slip_text.specs.Text.{itemLine, itemsText}

@@ -20,11 +20,11 @@ use Rattle.laws.specs.Slip.{Name, isNothing, itemsAmong, itemsOf, wordOf, sumWo
 use Rattle.laws.proofs.Accepts.{least-enough, judged, lent-is}
 use Rattle.laws.proofs.Numbered.{Ruled, ruled}
 use Rattle.laws.proofs.Tests.{by-test, not-both}
-use Rattle.judgement.specs.declared.slip.Items.{Items}
-use Rattle.judgement.specs.declared.slip.Explained.{Explained}
-use Rattle.judgement.specs.declared.slip.Explained.the-variants.{Refused, Granted}
-use Rattle.judgement.specs.Explained.{noItems, itemsIn, explainedOf}
-use Rattle.judgement.proofs.Explaining.{bid-parts, out-parts, parts-possible}
+use Rattle.explanation.specs.declared.slip.Items.{Items}
+use Rattle.explanation.specs.declared.slip.Explained.{Explained}
+use Rattle.explanation.specs.declared.slip.Explained.the-variants.{Refused, Granted}
+use Rattle.explanation.specs.Explained.{noItems, itemsIn, explainedOf}
+use Rattle.explanation.proofs.Explaining.{bid-parts, out-parts, parts-possible}
 use Rattle.sheet_text.proofs.Printed.{length-by}
 use Rattle.slip_text.specs.Text.{itemLine, itemsText}
 use Rattle.slip_text.proofs.Enough.{contract-le}

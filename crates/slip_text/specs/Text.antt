@@ -4,7 +4,7 @@ use mathlib.Core.List.{List, [], _++_}
 use lib.IntN.{ℤ}
 use Rattle.laws.specs.Choice.{if_then_else_}
 use Rattle.laws.specs.Slip.{TRICKS, OVERTRICKS, UNDERTRICKS, PARTSCORE, GAME, SLAM, DOUBLING, isNothing, wordOf, sumWord, line}
-use Rattle.judgement.specs.declared.slip.Items.{Items}
+use Rattle.explanation.specs.declared.slip.Items.{Items}
 
 -- an item's line; nothing where it has no points
 unfoldable pub itemLine : List ℕ → ℤ → List ℕ

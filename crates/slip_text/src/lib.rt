@@ -1,6 +1,6 @@
 // The slip of a table record: the items of Law 77 that make its score, a line each, and their sum; or the judge's refusal.
-use judgement::Explained;
-use judgement::Items;
+use explanation::Explained;
+use explanation::Items;
 use sheet_text::Outcome;
 use sheet_text::lend;
 use sheet_text::write_named;
@@ -81,7 +81,7 @@ pub fn write(bytes: &[u8], out: &mut [u8]) -> Outcome
     ensures answer { λ r. ⌜ written r ≡ lengthWithin (slip (now (bytes .entry))) (length (now (out .entry))) ⌝ }
     ensures bytes { λ r. ⌜ now (out .exit) ≡ leftIn (now (out .entry)) (slip (now (bytes .entry))) ⌝ }
 {
-    match judgement::explain(bytes) {
+    match explanation::explain(bytes) {
         Explained::Refused { number, place } => write_pair(number, place, out),
         Explained::Granted(items) => write_items(items, out),
     }
