@@ -1,17 +1,17 @@
 -- The lines of Portable Bridge Notation, each read as what it says: words and tags tell their numbers apart, and no line has a newline in it.
 -- Assumes nothing.
-use Prim.Native.Nat.{ℕ, zero, suc, _+_, _-_, _*_, _≤_, _<_}
+use Prim.Native.Nat.{ℕ, zero, suc, _+_, _-_, _*_, _/_, _%_, _≤_, _<_}
 use native.Mathlib.Omega.{arith}
 use mathlib.Core.Path.{_≡_, refl, sym, ap, ap₂, _∙_}
 use mathlib.Core.Bool.{Bool, true, false, not, _&&_, _||_}
 use mathlib.Core.List.{List, [], _∷_, _++_, map, append-assoc}
-use borrow.Author.Tests.{not-true}
-use lib.Dec.{eqb, lit≤}
-use lib.ListN.{length, take, drop}
+use borrow.Author.Tests.{not-true, ne-eqb, ltb-false}
+use lib.Dec.{ltb, eqb, lit≤}
+use lib.ListN.{drop}
 use Rattle.laws.specs.Choice.{if_then_else_, some}
 use Rattle.laws.specs.Cards.{clockwise, dealtTo, clubs, diamonds, hearts, spades}
 use Rattle.laws.specs.Auction.{levelOf, strainOf}
-use Rattle.laws.specs.Decimal.{digit, lastDigits, decimal, startsWith, valueAfter, value}
+use Rattle.laws.specs.Decimal.{zeroDigit, digit, lastDigits, decimal, valueAfter}
 use Rattle.laws.specs.Sheet.{newline}
 use Rattle.laws.specs.PbnText.{EachBelow, letterOf, seatLetters, rankLetters, space, dot, strainWord, callWord, cardWord, auctionTag, playTag, tagEnd}
 use Rattle.laws.specs.PbnText.{boardLine, seatLine, ranksHeld, handAnd, handsAnd, dealLine, joinedBy, rowLine}
@@ -49,20 +49,6 @@ pub play-apart : Apart (seatLine playTag) 4
 unfolding numberOf sameBytes seatLine
 play-apart = apart-by (seatLine playTag) 4 (λ line. readOr0 (numberOf (seatLine playTag) 4 line)) refl
 
--- the number on a Board line
-numberOn : List ℕ → ℕ
-numberOn line = value (take (length line - 10) (drop 8 line))
-
-abbrev nextBoard : ℕ → List ℕ
-nextBoard n = boardLine (suc n)
-
-boards-computed : everyBelow 999 (λ n. eqb (numberOn (nextBoard n) - 1) n) ≡ true
-unfolding boardLine decimal lastDigits valueAfter numberOn
-boards-computed = refl
-
-pub boards-apart : Apart (λ n. boardLine (suc n)) 999
-boards-apart = apart-by nextBoard 999 (λ line. numberOn line - 1) boards-computed
-
 -- ---- a byte that does not stand in words: computed
 free-by : (byte n : ℕ) (wordOf : ℕ → List ℕ) → everyBelow n (λ k. not (some (λ b. eqb b byte) (wordOf k))) ≡ true → (k : ℕ) → k < n → Free byte (wordOf k)
 free-by byte n wordOf computed k h = not-true _ (every-below n (λ k. not (some (λ b. eqb b byte) (wordOf k))) computed k h)
@@ -92,19 +78,62 @@ pub play-newline : (seat : ℕ) → seat < 4 → Free newline (seatLine playTag 
 unfolding some seatLine
 play-newline = free-by newline 4 (seatLine playTag) refl
 
-boards-free : everyBelow 999 (λ n. not (some (λ b. eqb b newline) (nextBoard n))) ≡ true
-unfolding some boardLine decimal lastDigits
-boards-free = refl
-
-pub board-newline : (board : ℕ) → 1 ≤ board → board ≤ 999 → Free newline (boardLine board)
-board-newline zero h k = absurd (omega arith)
-board-newline (suc n) h k = free-by newline 999 nextBoard boards-free n k
-
+-- ---- the digits of a number: none is a byte before them, and they are read back
 module _ (byte : ℕ) where
   free-append : (s t : List ℕ) → Free byte s → Free byte t → Free byte (s ++ t)
   unfolding some
   free-append [] t h k = k
   free-append (b ∷ s) t h k = rw (or-left (eqb b byte) _ h) (free-append s t (or-right (eqb b byte) _ h) k)
+
+  one-digit : (n : ℕ) → byte < zeroDigit → Free byte (digit n ∷ [])
+  unfolding some
+  one-digit n h = rw (ne-eqb (digit n) byte (λ e. absurd (omega arith)))
+
+  digits-free : byte < zeroDigit → (most n : ℕ) → Free byte (lastDigits most n)
+  unfolding lastDigits some
+  digits-free h zero n = refl
+  digits-free h (suc most) n =
+      by-test (ltb n 10)
+      (λ (q : ltb n 10 ≡ true). rw q (one-digit n h))
+      (λ (q : ltb n 10 ≡ false). rw q (free-append (lastDigits most (n / 10)) _ (digits-free h most (n / 10)) (one-digit (n % 10) h)))
+
+last-digit : (k : ℕ) (s : List ℕ) (b : ℕ) → valueAfter k (s ++ (b ∷ [])) ≡ 10 * valueAfter k s + (b - zeroDigit)
+unfolding valueAfter
+last-digit k [] b = refl
+last-digit k (c ∷ s) b = last-digit (10 * k + (c - zeroDigit)) s b
+
+digits-back : (most n : ℕ) → n < most → valueAfter 0 (lastDigits most n) ≡ n
+unfolding valueAfter lastDigits
+digits-back zero n h = absurd (omega arith)
+digits-back (suc most) n h =
+    by-test (ltb n 10)
+    (λ (q : ltb n 10 ≡ true). rw q (omega arith))
+    (λ (q : ltb n 10 ≡ false).
+    rw q (last-digit 0 (lastDigits most (n / 10)) (digit (n % 10)) ∙ rw (digits-back most (n / 10) (omega (arith, ltb-false n 10 q))) (omega arith)))
+
+-- the number on a Board line: its digits up to the quote
+valueTo : ℕ → List ℕ → ℕ
+valueTo k [] = k
+valueTo k (b ∷ s) = if eqb b 34 then k else valueTo (10 * k + (b - zeroDigit)) s
+
+up-to-quote : (k : ℕ) (s t : List ℕ) → Free 34 s → valueTo k (s ++ (34 ∷ t)) ≡ valueAfter k s
+unfolding valueTo valueAfter some
+up-to-quote k [] t h = refl
+up-to-quote k (b ∷ s) t h = rw (or-left (eqb b 34) _ h) (up-to-quote (10 * k + (b - zeroDigit)) s t (or-right (eqb b 34) _ h))
+
+abbrev numberOn : List ℕ → ℕ
+numberOn line = valueTo 0 (drop 8 line)
+
+board-back : (board : ℕ) → numberOn (boardLine board) ≡ board
+unfolding boardLine decimal
+board-back board = up-to-quote 0 (lastDigits (suc board) board) _ (digits-free 34 (lit≤ tt) (suc board) board) ∙ digits-back (suc board) board (omega arith)
+
+pub boards-apart : Apart (λ n. boardLine (suc n)) 999
+boards-apart j k h i e = let same = sym (board-back (suc j)) ∙ ap numberOn e ∙ board-back (suc k) in omega arith
+
+pub board-newline : (board : ℕ) → Free newline (boardLine board)
+unfolding boardLine decimal some
+board-newline board = free-append newline (lastDigits (suc board) board) tagEnd (digits-free newline (lit≤ tt) (suc board) board) refl
 
 -- a line of words that have no newline
 pub row-newline : (n : ℕ) (wordOf : ℕ → List ℕ) → ((k : ℕ) → k < n → Free newline (wordOf k)) → (row : List ℕ) → EachBelow n row

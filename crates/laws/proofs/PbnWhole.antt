@@ -241,7 +241,7 @@ play-free (columns seat cs) ok = (play-newline seat (ok .0), rows-free 52 cardWo
 pub game-free : (x : Game) → Sayable x → AllFree newline (gameLines x)
 unfolding AllFree gameLines
 game-free x ok = (
-  board-newline (x .board) (ok .board-from) (ok .board-to),
+  board-newline (x .board),
   (
     deal-newline (x .holders) (x .first) (ok .first),
     (
