@@ -2,8 +2,8 @@
 use auction::Contract;
 use law77::Stake;
 use law77::declarer_score;
-use position::Listed;
 use play::Tricks;
+use position::Listed;
 ghost use mathlib.Core.Path.{_≡_};
 ghost use Prim.Native.Nat.{_<_, _^_};
 ghost use lib.IntN.{natAbs};

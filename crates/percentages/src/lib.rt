@@ -1,6 +1,6 @@
 // The cells of a page of results: a result of a tally with its percentage as a 64-bit float, and awarded results.
 use laws::INVALID_SCORE;
-use tally::MatchpointAnswer;
+use matchpoints::MatchpointAnswer;
 use tally::Tally;
 ghost use mathlib.Core.Path.{_≡_};
 ghost use Prim.Native.Nat.{_+_, _-_, _*_, _/_, _≤_};
@@ -55,7 +55,7 @@ fn results_of(ns: u32, ew: u32) -> u32
 pub fn cell_of(t: Tally, score: i16, holders: &[u8]) -> CellAnswer
     ensures { λ r. ⌜ cellAnswer r ≡ cellOfTally t (record { score = score; deal = now (holders .entry) }) ⌝ }
 {
-    let answer = tally::matchpoints(t, score, holders);
+    let answer = matchpoints::matchpoints(t, score, holders);
     match answer {
         MatchpointAnswer::Refused(n, place) => CellAnswer::Refused(n, place),
         MatchpointAnswer::Points { ns, ew } => {

@@ -20,7 +20,7 @@ use Rattle.tally.specs.Tallies.{noTally, refusedWith, accepting, answerOf, fres
 use Rattle.tally.specs.Points.{matchpointsOf}
 use Rattle.tally.proofs.Formed.{formed, carried, valid-scores, room-scores, own-tally}
 use Rattle.tally.proofs.Refusing.{board-good, board-range}
-use Rattle.tally.proofs.Answers.{add-malformed, first-malformed}
+use Rattle.merging.proofs.Answers.{add-malformed, first-malformed}
 use Rattle.tally.proofs.Dealing.{deal-carried, carried-deal, carried-none, deal-on, tally-on}
 use Rattle.tally.proofs.OfLists.{Sound, is-well}
 use Rattle.promises_tallies.specs.Tallies.{Holds, Described, WithNone, RefusedNone}

@@ -19,7 +19,7 @@ use Rattle.tally.specs.Tallies.{tallyFor, tallyOf, scoresIn, resultsIn, wellFor
 use Rattle.tally.specs.Tallies.{noTally, refusedWith, accepting, answerOf, mergeOf}
 use Rattle.tally.specs.Steps.{keptDeal}
 use Rattle.tally.proofs.Lists.{valid-append}
-use Rattle.tally.proofs.Answers.{answer-accepted, first-malformed, second-malformed}
+use Rattle.merging.proofs.Answers.{answer-accepted, first-malformed, second-malformed}
 use Rattle.tally.proofs.Dealing.{carried-none, tally-merge}
 use Rattle.tally.proofs.Kept.{kept-none, kept-some, kept-assoc, kept-turned, not-fouled, fouled-deals, deals-fouled, fouled-turned, sound-merge}
 use Rattle.tally.proofs.OfLists.{Sound, one-tally, merge-list, answer-by, answer-number, same-turned, tally-board, tally-deal, own-length}

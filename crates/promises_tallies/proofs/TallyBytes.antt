@@ -19,7 +19,7 @@ use Rattle.tally.specs.declared.Tally.{Tally}
 use Rattle.tally.specs.InBytes.{tallyIn}
 use Rattle.tally.specs.Points.{matchpointsOf}
 use Rattle.tally.specs.Tallies.{resultsIn, wellFormed, noTally, answerOf, freshOf, addOf, mergeOf}
-use Rattle.tally.proofs.Answers.{add-malformed, first-malformed, second-malformed}
+use Rattle.merging.proofs.Answers.{add-malformed, first-malformed, second-malformed}
 use Rattle.tally.proofs.InBytes.{length-tally-bytes, tally-back, bytes-tally, bytes-back}
 use Rattle.tally.proofs.Ranges.{formed-range, none-range, none-bytes}
 use Rattle.percentages.specs.Cells.{cellOfTally}

@@ -29,7 +29,7 @@ use Rattle.tally.specs.declared.Tallied.{Tallied}
 use Rattle.tally.specs.Points.{matchpointsOf}
 use Rattle.tally.specs.Steps.{keptDeal}
 use Rattle.tally.specs.Tallies.{tallyFor, tallyOf, scoresIn, resultsIn, wellFormed, refusedWith, accepting, answerOf, freshOf, addOf, mergeOf}
-use Rattle.tally.proofs.Answers.{add-malformed, first-malformed, second-malformed}
+use Rattle.merging.proofs.Answers.{add-malformed, first-malformed, second-malformed}
 use Rattle.tally.proofs.Dealing.{carried-none}
 use Rattle.tally.proofs.InBytes.{length-tally-bytes, bytes-append, bytes-tally}
 use Rattle.tally.proofs.Kept.{sound-add, sound-merge}

@@ -17,8 +17,9 @@ use Rattle.laws.specs.Tally.{OneBoard, OneDeal, AllValid, SameScores}
 use Rattle.tally.specs.declared.Tally.{Tally}
 use Rattle.tally.specs.declared.Tallied.{Tallied}
 use Rattle.tally.specs.Tallies.{tallyOf, wellFormed, answerOf, freshOf, addOf, mergeOf}
-use Rattle.tally.specs.declared.points.MatchpointAnswer.{MatchpointAnswer}
-use Rattle.tally.specs.Points.{pointsAnswer, matchpointsOf}
+use Rattle.matchpoints.specs.declared.points.MatchpointAnswer.{MatchpointAnswer}
+use Rattle.tally.specs.Points.{matchpointsOf}
+use Rattle.matchpoints.specs.Points.{pointsAnswer}
 use Rattle.tally.specs.Shape.{countIn, Shape}
 
 -- ---- the calls of a tree

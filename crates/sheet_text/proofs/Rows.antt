@@ -26,14 +26,15 @@ use Rattle.laws.proofs.Tests.{by-test}
 use Rattle.score.proofs.Validity.{valid-size}
 use Rattle.tally.specs.declared.Tally.{Tally}
 use Rattle.score.specs.declared.Matchpoints.{Matchpoints}
-use Rattle.tally.specs.declared.points.MatchpointAnswer.{MatchpointAnswer}
-use Rattle.tally.specs.declared.points.MatchpointAnswer.the-variants.{Refused, Points}
+use Rattle.matchpoints.specs.declared.points.MatchpointAnswer.{MatchpointAnswer}
+use Rattle.matchpoints.specs.declared.points.MatchpointAnswer.the-variants.{Refused, Points}
 use Rattle.tally.specs.Entries.{score, count, entry}
-use Rattle.tally.specs.Points.{pointsAnswer, matchpointsOf}
+use Rattle.tally.specs.Points.{matchpointsOf}
+use Rattle.matchpoints.specs.Points.{pointsAnswer}
 use Rattle.tally.specs.Tallies.{entriesIn, scoresIn, resultsIn, wellFormed, ceiling}
 use Rattle.tally.proofs.Ordered.{countOf}
 use Rattle.tally.proofs.Lists.{in-expand}
-use Rattle.tally.proofs.Told.{same-ns, same-ew}
+use Rattle.matchpoints.proofs.Told.{same-ns, same-ew}
 use Rattle.tally.proofs.Dealing.{deal-carried}
 use Rattle.tally.proofs.Formed.{formed, carried, entries-scores, room-scores}
 use Rattle.tally.proofs.Places.{entriesAt, entries-used, entries-unused, entries-end}

@@ -11,7 +11,7 @@ use super::put_field;
 use super::put_score;
 use super::said_on;
 use deal::SUITS;
-use tally::MatchpointAnswer;
+use matchpoints::MatchpointAnswer;
 use tally::Tallied;
 use tally::Tally;
 ghost use mathlib.Core.Path.{_≡_};
@@ -20,7 +20,8 @@ ghost use Prim.Native.Nat.{_+_, _≤_};
 ghost use lib.ListN.{length};
 ghost use Rattle.laws.specs.CellSheet.{cellSheet};
 ghost use Rattle.laws.specs.Sheet.{refusal, sheet};
-ghost use Rattle.tally.specs.Points.{pointsAnswer, matchpointsOf};
+ghost use Rattle.tally.specs.Points.{matchpointsOf};
+ghost use Rattle.matchpoints.specs.Points.{pointsAnswer};
 ghost use Rattle.tally.specs.Tallies.{scoresIn, wellFormed, addOf};
 ghost use Rattle.tree_stack.specs.Deals.{suits};
 ghost use Rattle.sheet_text.specs.Columns.{rowText, tableAs, sheetAs, roomAs};
@@ -54,7 +55,7 @@ fn with_score(t: Tally, score: i16) -> Tallied
     ensures { λ r. ⌜ r ≡ addOf t (record { score = score; deal = suits }) ⌝ }
 {
     let deal = SUITS;
-    tally::add(t, score, &deal)
+    merging::add(t, score, &deal)
 }
 
 // The scores on the lines, all of one deal, up to the first line that is refused.
@@ -112,7 +113,7 @@ fn points_of(t: Tally, score: i16) -> MatchpointAnswer
     ensures { λ r. ⌜ pointsAnswer r ≡ matchpointsOf t (record { score = score; deal = t .deal }) ⌝ }
 {
     let deal = t.deal;
-    tally::matchpoints(t, score, &deal)
+    matchpoints::matchpoints(t, score, &deal)
 }
 
 // The table of a tally that is well formed.

@@ -1,16 +1,11 @@
 pub mod Ordered
 pub mod Lists
 pub mod Formed
-pub mod Joining
 pub mod Places
 pub mod Refusing
-pub mod Answers
-pub mod Reached
-pub mod Comparing
 pub mod OfLists
 pub mod Shapes
 pub mod Tables
-pub mod Told
 pub mod Checking
 pub mod Dealing
 pub mod Kept

@@ -18,7 +18,7 @@ use Rattle.laws.proofs.TallyRules.{or-by, deal-read, fouled-on}
 use Rattle.deal.specs.declared.given.Dealt.{Dealt}
 use Rattle.deal.specs.Taking.{takenBy}
 use Rattle.tally.specs.declared.refusals.Held.{Held}
-use Rattle.tally.specs.Steps.{apart, held, firstHeld}
+use Rattle.tally.specs.Steps.{apart, held, firstHeld, givenBy}
 
 -- ---- of a board
 pub board-zero : (board : ℕ) → board ≡ 0 → freshRefusal board ≡ 3
@@ -95,3 +95,14 @@ module _ (carried : List ℕ) (results : ℕ) (s : ℤ) (d : Dealt) (holders : L
       (λ z. ap (λ (h : List ℕ). refusalIf (apart results 1 carried h) fouledBoard) (dealt-holders holders d ed z)
       ∙ fouled-lists results 1 carried scores holders (s ∷ []) n refl)) in
       first-of (scoreRefusal s) (dealRefusal holders orElse others) _ _ r ei k er
+
+  pub given-law : (r : Held) → r ≡ givenBy carried results s d → r ≡ held (givenRefusal (onDeal carried scores) given)
+  unfolding givenBy
+  given-law r e = given-number _ _ _ r refl refl refl e
+
+-- the refusals found one by one
+pub given-held : (carried : List ℕ) (results : ℕ) (s : ℤ) (d : Dealt) (invalid fouls later r : Held) → invalid ≡ held (scoreRefusal s)
+    → fouls ≡ held (refusalIf (apart results 1 carried (d .holders)) fouledBoard) → later ≡ firstHeld (record { number = d .refusal; place = d .place }) fouls
+    → r ≡ firstHeld invalid later → r ≡ givenBy carried results s d
+unfolding givenBy
+given-held carried results s d invalid fouls later r ei ef el er = rw (er, el, ei, ef)

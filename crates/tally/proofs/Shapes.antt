@@ -15,9 +15,8 @@ use Rattle.laws.specs.Padded.{padded}
 use Rattle.laws.proofs.Tests.{by-test}
 use Rattle.laws.proofs.Padded.{length-padded}
 use Rattle.tally.specs.declared.Entry.{Entry}
-use Rattle.tally.specs.Entries.{score, count, entriesOf}
+use Rattle.tally.specs.Entries.{score, count, noEntry, entriesOf}
 use Rattle.tally.specs.Tallies.{tallyWith, tallyFor, ceiling}
-use Rattle.tally.specs.Steps.{noEntry}
 use Rattle.tally.proofs.Ordered.{countOf, Ordered}
 use Rattle.tally.proofs.Lists.{in-list, sum-list, ordered-list}
 use Rattle.tally.proofs.Formed.{length-sum}

@@ -3,7 +3,7 @@
 use Prim.Native.Nat.{ℕ, _+_}
 use mathlib.Core.List.{List, [], _∷_, _++_}
 use lib.Dec.{eqb}
-use lib.IntN.{ℤ}
+use lib.IntN.{ℤ, negsuc}
 use lib.ListN.{replicate}
 use lib.Signed.{ltZ}
 use Rattle.laws.specs.Choice.{if_then_else_}
@@ -21,6 +21,10 @@ count e = e .count
 -- so many results of a score
 abbrev pub entry : ℤ → ℕ → Entry
 entry s n = record { score = s; count = n }
+
+-- no result, of a score below every valid one
+abbrev pub noEntry : Entry
+noEntry = entry (negsuc 7600) 0
 
 -- the entries of the places before the first one without a result
 unfoldable pub entries : List ℤ → List ℕ → List Entry

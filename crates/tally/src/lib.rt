@@ -1,29 +1,29 @@
-// Tallies of one board: what they are, which are well formed, fresh ones, and two joined in one pass. `refusals` has the refusals one by one, `calls` adding
-// and merging, `points` the matchpoints of a result. Every call checks every tally it is given.
-mod calls;
-mod points;
+// Tallies of one board: what they are, which are well formed, and fresh ones. `refusals` has the refusals of the calls on them, one by one.
 mod refusals;
 
-pub use calls::add;
-pub use calls::merge;
 use deal::take_places;
 use laws::ACCEPTED;
 use laws::NO_BOARD_OR_TABLE;
-pub use points::MatchpointAnswer;
-pub use points::matchpoints;
+pub use refusals::Held;
+pub use refusals::boards_refusal;
+pub use refusals::first;
+pub use refusals::fouled_refusal;
+pub use refusals::given_refusal;
+pub use refusals::kept_deal;
+pub use refusals::room_refusal;
 use refusals::same_deal;
 use score::valid;
 ghost use mathlib.Core.Path.{_≡_};
 ghost use mathlib.Core.Bool.{true, false};
-ghost use mathlib.Core.List.{[], _++_};
-ghost use Prim.Native.Nat.{_+_, _≤_};
+ghost use mathlib.Core.List.{[]};
+ghost use Prim.Native.Nat.{_≤_};
 ghost use lib.Dec.{eqb};
 ghost use lib.IntN.{pos};
 ghost use lib.ListN.{length, drop};
 ghost use Rattle.laws.specs.Choice.{if_then_else_};
 ghost use Rattle.laws.specs.Law78.{sameScore};
-ghost use Rattle.tally.specs.Tallies.{tallyFor, scoresIn, allZero, inPlaces, carries, wellFormed, refusedWith, accepting, freshOf};
-ghost use Rattle.tally.specs.Steps.{Checks, entryAt, higherOf, nextOf, Joinable};
+ghost use Rattle.tally.specs.Tallies.{tallyFor, allZero, inPlaces, carries, wellFormed, refusedWith, accepting, freshOf};
+ghost use Rattle.tally.specs.Steps.{Checks, checkOf};
 
 // A board with the deal of its results, the holders of the 52 cards, and with its distinct scores, highest first, and the number of results of each; unused
 // places are zero, and those of the deal where there is no result.
@@ -42,29 +42,21 @@ pub struct Tallied {
 }
 
 // A score with its number of results.
-struct Entry {
-    score: i16,
-    count: u8,
-}
-
-// The entry to write next, and how many entries of the first and of the second tally it takes.
-struct Next {
-    score: i16,
-    count: u8,
-    first: usize,
-    second: usize,
+pub struct Entry {
+    pub score: i16,
+    pub count: u8,
 }
 
 // How many places of a tally are used, and how many results it has.
-struct Size {
-    used: usize,
-    results: u8,
+pub struct Size {
+    pub used: usize,
+    pub results: u8,
 }
 
-// Whether a tally is as described, and its size where it is.
-struct Checked {
-    good: bool,
-    size: Size,
+// Whether a tally is as described, and its size where it is; else zeros.
+pub struct Checked {
+    pub good: bool,
+    pub size: Size,
 }
 
 // 1 for a score that is not 0, else 0.
@@ -97,7 +89,7 @@ fn zeros_from<'a>(scores: &'a [i16; 128], counts: &'a [u8; 128], at: usize) -> b
 
 // A tally that is not as described.
 fn malformed() -> Checked
-    ensures { λ r. ⌜ r .good ≡ false ⌝ }
+    ensures { λ r. ⌜ r ≡ record { good = false; size = record { used = 0; results = 0 } } ⌝ }
 {
     let none = Size {
         used: 0,
@@ -171,8 +163,8 @@ fn carries_deal(holders: [u8; 52], results: u8) -> bool
 }
 
 // Whether a tally is as described, its deal too; and its size.
-fn check(t: Tally) -> Checked
-    ensures { λ r. ⌜ Checks (wellFormed t) t r ⌝ }
+pub fn check(t: Tally) -> Checked
+    ensures { λ r. ⌜ r ≡ checkOf t ⌝ }
 {
     let places = check_places(t);
     if !places.good {
@@ -180,9 +172,11 @@ fn check(t: Tally) -> Checked
     }
     let size = places.size;
     let holders = t.deal;
-    let good = carries_deal(holders, size.results);
+    if !carries_deal(holders, size.results) {
+        return malformed();
+    }
     Checked {
-        good: good,
+        good: true,
         size: size,
     }
 }
@@ -196,7 +190,7 @@ pub fn well_formed(t: Tally) -> bool
 }
 
 // The tally of a board and a deal without a result.
-fn empty(board: u8, holders: [u8; 52]) -> Tally
+pub fn empty(board: u8, holders: [u8; 52]) -> Tally
     ensures { λ r. ⌜ r ≡ tallyFor board holders [] ⌝ }
 {
     Tally {
@@ -208,7 +202,7 @@ fn empty(board: u8, holders: [u8; 52]) -> Tally
 }
 
 // A refusal and its place beside an all-zero tally.
-fn refuse(refusal: u8, place: u8) -> Tallied
+pub fn refuse(refusal: u8, place: u8) -> Tallied
     ensures { λ r. ⌜ r ≡ refusedWith (record { number = refusal; place = place }) ⌝ }
 {
     let none = empty(0, [0u8; 52]);
@@ -220,7 +214,7 @@ fn refuse(refusal: u8, place: u8) -> Tallied
 }
 
 // A tally that a call made.
-fn accept(made: Tally) -> Tallied
+pub fn accept(made: Tally) -> Tallied
     ensures { λ r. ⌜ r ≡ accepting made ⌝ }
 {
     Tallied {
@@ -242,99 +236,4 @@ pub fn fresh(board: u8) -> Tallied
     }
     let none = empty(board, [0u8; 52]);
     accept(none)
-}
-
-// The entry at a place before `end`; from there on no result, of a score below every valid one.
-fn entry_at<'a>(scores: &'a [i16; 128], counts: &'a [u8; 128], i: usize, end: usize) -> Entry
-    requires { ⌜ end ≤ 128 ⌝ }
-    ensures { λ r. ⌜ r ≡ entryAt (now (scores .entry)) (now (counts .entry)) i end ⌝ }
-{
-    if i < end {
-        let s = scores[i];
-        let c = counts[i];
-        return Entry { score: s, count: c };
-    }
-    Entry {
-        score: -7601,
-        count: 0,
-    }
-}
-
-// The higher of two entries; of two with one score, both together.
-fn higher(x: Entry, y: Entry) -> Next
-    requires { ⌜ x .count + y .count ≤ 128 ⌝ }
-    ensures { λ r. ⌜ r ≡ higherOf x y ⌝ }
-{
-    let s = x.score;
-    let r = y.score;
-    let c = x.count;
-    let d = y.count;
-    if s == r {
-        return Next {
-            score: s,
-            count: c + d,
-            first: 1,
-            second: 1,
-        };
-    }
-    if r < s {
-        return Next {
-            score: s,
-            count: c,
-            first: 1,
-            second: 0,
-        };
-    }
-    Next {
-        score: r,
-        count: d,
-        first: 0,
-        second: 1,
-    }
-}
-
-// The entry after one that is taken; one that is not taken stays.
-fn next_of(taken: usize, x: Entry, after: Entry) -> Entry
-    ensures { λ r. ⌜ r ≡ nextOf taken x after ⌝ }
-{
-    let s = x.score;
-    let c = x.count;
-    let r = after.score;
-    let d = after.count;
-    if taken == 0 {
-        return Entry { score: s, count: c };
-    }
-    Entry { score: r, count: d }
-}
-
-// The results of two tallies in one, written into a tally without a result in a single pass over both. `n` and `m` are the ends of their entries. The entries
-// after the two that are compared are read before the comparison, so that a turn does not wait for them.
-fn joined(none: Tally, a: Tally, n: usize, b: Tally, m: usize) -> Tally
-    requires { ⌜ Joinable none a n b m ⌝ }
-    ensures { λ r. ⌜ r ≡ tallyFor (none .board) (none .deal) (scoresIn a ++ scoresIn b) ⌝ }
-{
-    let mut u = none;
-    let mut x = entry_at(&a.scores, &a.counts, 0, n);
-    let mut y = entry_at(&b.scores, &b.counts, 0, m);
-    let mut i: usize = 0;
-    let mut j: usize = 0;
-    let mut k: usize = 0;
-    while k < 128 {
-        let p = entry_at(&a.scores, &a.counts, i + 1, n);
-        let q = entry_at(&b.scores, &b.counts, j + 1, m);
-        let e = higher(x, y);
-        let s = e.score;
-        let c = e.count;
-        if c == 0 {
-            return u;
-        }
-        u.scores[k] = s;
-        u.counts[k] = c;
-        x = next_of(e.first, x, p);
-        y = next_of(e.second, y, q);
-        i += e.first;
-        j += e.second;
-        k += 1;
-    }
-    u
 }

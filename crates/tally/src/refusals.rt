@@ -7,17 +7,11 @@ use laws::TOO_MANY_RESULTS;
 use laws::TWO_BOARDS;
 use score::valid;
 ghost use mathlib.Core.Path.{_≡_};
-ghost use mathlib.Core.List.{List, []};
-ghost use Prim.Native.Nat.{ℕ, _≤_};
 ghost use lib.Dec.{eqb};
-ghost use lib.IntN.{ℤ};
-ghost use lib.ListN.{length};
 ghost use Rattle.laws.specs.Choice.{if_then_else_};
-ghost use Rattle.laws.specs.Contents.{takeDeal};
 ghost use Rattle.laws.specs.Refusals.{fouledBoard};
-ghost use Rattle.laws.specs.Tally.{onDeal, sameDeal, refusal, refusalIf, scoreRefusal, boardsRefusal, roomRefusal, givenRefusal};
-ghost use Rattle.deal.specs.Taking.{takenBy};
-ghost use Rattle.tally.specs.Steps.{apart, keptDeal, held, firstHeld};
+ghost use Rattle.laws.specs.Tally.{sameDeal, refusal, refusalIf, scoreRefusal, boardsRefusal, roomRefusal};
+ghost use Rattle.tally.specs.Steps.{apart, keptDeal, held, firstHeld, givenBy};
 
 // A refusal with its place; the number is 0 where there is none.
 pub struct Held {
@@ -36,7 +30,7 @@ fn plain(number: u8) -> Held
 }
 
 // Of two refusals the first that is one.
-pub(crate) fn first(refusal: Held, later: Held) -> Held
+pub fn first(refusal: Held, later: Held) -> Held
     ensures { λ r. ⌜ r ≡ firstHeld refusal later ⌝ }
 {
     let number = refusal.number;
@@ -66,7 +60,7 @@ fn score_refusal(score: i16) -> Held
 }
 
 // 18 for two boards.
-pub(crate) fn boards_refusal(board: u8, board2: u8) -> Held
+pub fn boards_refusal(board: u8, board2: u8) -> Held
     ensures { λ r. ⌜ r ≡ held (boardsRefusal board board2) ⌝ }
 {
     if board == board2 {
@@ -76,11 +70,10 @@ pub(crate) fn boards_refusal(board: u8, board2: u8) -> Held
 }
 
 // 19 where so many results and so many more are over 128.
-pub(crate) fn room_refusal(results: u8, more: u8) -> Held
-    requires { ⌜ results ≤ 128 ⌝ }
+pub fn room_refusal(results: u8, more: u8) -> Held
     ensures { λ r. ⌜ r ≡ held (roomRefusal results more) ⌝ }
 {
-    if 128 - results < more {
+    if 128 < results as u16 + more as u16 {
         return plain(TOO_MANY_RESULTS);
     }
     plain(ACCEPTED)
@@ -108,7 +101,7 @@ pub(crate) fn same_deal(holders: [u8; 52], holders2: [u8; 52]) -> bool
 }
 
 // 28 where there are results of both deals and the deals differ.
-pub(crate) fn fouled_refusal(holders: [u8; 52], results: u8, holders2: [u8; 52], others: u8) -> Held
+pub fn fouled_refusal(holders: [u8; 52], results: u8, holders2: [u8; 52], others: u8) -> Held
     ensures { λ r. ⌜ r ≡ held (refusalIf (apart results others holders holders2) fouledBoard) ⌝ }
 {
     if results == 0 {
@@ -124,7 +117,7 @@ pub(crate) fn fouled_refusal(holders: [u8; 52], results: u8, holders2: [u8; 52],
 }
 
 // The deal of the first of two tallies, by its number of results; of the second where the first has none.
-pub(crate) fn kept_deal(results: u8, holders: [u8; 52], holders2: [u8; 52]) -> [u8; 52]
+pub fn kept_deal(results: u8, holders: [u8; 52], holders2: [u8; 52]) -> [u8; 52]
     ensures { λ r. ⌜ r ≡ keptDeal results holders holders2 ⌝ }
 {
     if results == 0 {
@@ -134,9 +127,8 @@ pub(crate) fn kept_deal(results: u8, holders: [u8; 52], holders2: [u8; 52]) -> [
 }
 
 // 20, 4 or 28 for a score with its deal, beside so many results of the deal that a tally carries.
-pub(crate) fn given_refusal(carried: [u8; 52], results: u8, score: i16, dealt: Dealt) -> Held
-    ensures { λ r. ⌜ ((holders : List ℕ) (scores : List ℤ) → dealt ≡ takenBy holders (takeDeal holders [] 0) → results ≡ length scores
-        → r ≡ held (givenRefusal (onDeal carried scores) (record { score = score; deal = holders }))) ⌝ }
+pub fn given_refusal(carried: [u8; 52], results: u8, score: i16, dealt: Dealt) -> Held
+    ensures { λ r. ⌜ r ≡ givenBy carried results score dealt ⌝ }
 {
     let number = dealt.refusal;
     let place = dealt.place;

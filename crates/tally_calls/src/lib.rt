@@ -61,7 +61,7 @@ pub extern "C" fn tally_add(tally: &[u8], score: i32, holders: &[u8], out: &mut 
         return refusal_number(SHORT_BUFFER, 0);
     }
     let t = read(tally);
-    let answer = tally::add(t, narrow_score(score), holders);
+    let answer = merging::add(t, narrow_score(score), holders);
     put_tally(answer, out)
 }
 
@@ -77,7 +77,7 @@ pub extern "C" fn tally_merge(a: &[u8], b: &[u8], out: &mut [u8]) -> u32
     }
     let first = read(a);
     let second = read(b);
-    let answer = tally::merge(first, second);
+    let answer = merging::merge(first, second);
     put_tally(answer, out)
 }
 
@@ -97,7 +97,7 @@ pub extern "C" fn tally_matchpoints(
         return refusal_number(SHORT_BUFFER, 0);
     }
     let t = read(tally);
-    let answer = tally::matchpoints(t, narrow_score(score), holders);
+    let answer = matchpoints::matchpoints(t, narrow_score(score), holders);
     put_points(answer, points)
 }
 

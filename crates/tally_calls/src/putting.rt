@@ -1,9 +1,9 @@
 // The answers of the calls put into lent buffers that are long enough, and the numbers returned.
 use laws::ACCEPTED;
 use laws::refusal_number;
+use matchpoints::MatchpointAnswer;
 use percentages::Cell;
 use percentages::CellAnswer;
-use tally::MatchpointAnswer;
 use tally::Tallied;
 ghost use mathlib.Core.Path.{_≡_};
 ghost use mathlib.Core.Bool.{not};
@@ -15,7 +15,7 @@ ghost use lib.ListN.{length};
 ghost use Rattle.laws.specs.Lent.{_over_};
 ghost use Rattle.laws.specs.Record.{bytesOf};
 ghost use Rattle.laws.specs.Refusals.{given, refusalNumber};
-ghost use Rattle.tally.specs.Points.{pointsAnswer};
+ghost use Rattle.matchpoints.specs.Points.{pointsAnswer};
 ghost use Rattle.percentages.specs.Cells.{entered as enteredAs, cellAnswer, Numbered};
 ghost use Rattle.tally_calls.specs.Calls.{numberOf, bufferLeft, spelled, tallied, pointsBytes, cellBytes};
 

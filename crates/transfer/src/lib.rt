@@ -1,6 +1,6 @@
 // Law 64: the tricks that change sides for the revokes of a board, counted from the last revoke to the first.
-use position::Listed;
 use play::Tricks;
+use position::Listed;
 ghost use mathlib.Core.Path.{_≡_};
 ghost use mathlib.Core.List.{List};
 ghost use Prim.Native.Nat.{ℕ, _<_, _-_, min};

@@ -1,9 +1,9 @@
 // A stack of at most 16 tallies, and the calls on it.
 use deal::SUITS;
 use laws::ACCEPTED;
+use matchpoints::MatchpointAnswer;
 use percentages::Cell;
 use percentages::CellAnswer;
-use tally::MatchpointAnswer;
 use tally::Tallied;
 use tally::Tally;
 use tree_script::Call;
@@ -12,7 +12,7 @@ ghost use Prim.Native.Nat.{_<_};
 ghost use lib.ListN.{set};
 ghost use Rattle.laws.specs.Refusals.{given};
 ghost use Rattle.percentages.specs.Cells.{entered, cellAnswer, Numbered};
-ghost use Rattle.tally.specs.Points.{pointsAnswer};
+ghost use Rattle.matchpoints.specs.Points.{pointsAnswer};
 ghost use Rattle.tree_stack.specs.Deals.{suits, dealNumbered};
 ghost use Rattle.tree_stack.specs.Stacks.{stopped, landed, saidOf, freshStep, addStep, mergeStep, matchpointsStep, saidCell, cellStep, awardStep, stepOf};
 
@@ -130,7 +130,7 @@ fn add_step(s: Stack, score: i16, deal: u8) -> Step
     }
     let top = s.tallies[n - 1];
     let holders = holders_of(deal);
-    land(s, n - 1, n, tally::add(top, score, &holders))
+    land(s, n - 1, n, merging::add(top, score, &holders))
 }
 
 // The two topmost tallies merged, the lower one first; refused, the lower one is left.
@@ -148,7 +148,7 @@ fn merge_step(s: Stack) -> Step
     let second = s.tallies[n - 1];
     let mut rest = s;
     rest.used = n - 1;
-    land(rest, n - 2, n - 1, tally::merge(first, second))
+    land(rest, n - 2, n - 1, merging::merge(first, second))
 }
 
 // An answer for matchpoints.
@@ -174,7 +174,7 @@ fn matchpoints_step(s: Stack, score: i16, deal: u8) -> Step
     }
     let top = s.tallies[n - 1];
     let holders = holders_of(deal);
-    let said = said_of(tally::matchpoints(top, score, &holders));
+    let said = said_of(matchpoints::matchpoints(top, score, &holders));
     Step {
         stack: s,
         said: said,

@@ -1,7 +1,7 @@
 // Tries a tally of each forged kind through every call, on either side of a merge. A line has the kind, whether the tally is well formed (1 or 0),
 // and the refusals of: a score added, merged as the first, merged as the second, merged with itself, matchpoints asked.
 use deal::SUITS;
-use tally::MatchpointAnswer;
+use matchpoints::MatchpointAnswer;
 use tally::Tally;
 
 // A tally as described: board 7, one deal, with 450 once, 420 twice and -50 once.
@@ -80,7 +80,7 @@ fn deal_alone() -> Tally {
 // The tally beside a refusal.
 fn beside_refusal() -> Tally {
     let deal = SUITS;
-    let r = tally::add(with_board(0), 100, &deal);
+    let r = merging::add(with_board(0), 100, &deal);
     let t = r.tally;
     t
 }
@@ -88,7 +88,7 @@ fn beside_refusal() -> Tally {
 // The refusal of the matchpoints of 420, 0 for none.
 fn points_refusal(t: Tally) -> u8 {
     let deal = SUITS;
-    match tally::matchpoints(t, 420, &deal) {
+    match matchpoints::matchpoints(t, 420, &deal) {
         MatchpointAnswer::Refused(n, _) => n,
         MatchpointAnswer::Points { ns: _, ew: _ } => 0,
     }
@@ -97,13 +97,13 @@ fn points_refusal(t: Tally) -> u8 {
 // The refusal of 100 added, 0 for none.
 fn add_refusal(t: Tally) -> u8 {
     let deal = SUITS;
-    let r = tally::add(t, 100, &deal);
+    let r = merging::add(t, 100, &deal);
     r.refusal
 }
 
 // The refusal of a merge, 0 for none.
 fn merge_refusal(a: Tally, b: Tally) -> u8 {
-    let r = tally::merge(a, b);
+    let r = merging::merge(a, b);
     r.refusal
 }
 

@@ -39,7 +39,7 @@ fn merges(a: Tally, b: Tally, n: usize) -> usize {
     let mut sum: usize = 0;
     let mut k: usize = 0;
     while k < n {
-        let r = tally::merge(a, other);
+        let r = merging::merge(a, other);
         let t = r.tally;
         let c = t.counts[127];
         other.counts[63] = c;

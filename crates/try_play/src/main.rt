@@ -2,10 +2,10 @@
 // Law 64 makes of a claim.
 // A card is 13 × suit + rank: clubs from 0, diamonds from 13, hearts from 26, spades from 39, the two first. Seats are 0 North to 3 West.
 use libc::STDOUT_FILENO;
-use position::Listed;
-use position::Table;
 use play::Play;
 use play::Tricks;
+use position::Listed;
+use position::Table;
 ghost use Prim.Native.Nat.{_<_};
 
 fn number(n: u64) {

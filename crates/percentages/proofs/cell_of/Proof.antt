@@ -5,7 +5,8 @@ use mathlib.Core.Path.{_≡_, sym, ap, _∙_, subst}
 use borrow.Author.Needs.{needs}
 use mir.Facts.{toZ-ofZ}
 use Rattle.laws.specs.Tally.{Result}
-use Rattle.tally.specs.Points.{pointsAnswer, matchpointsOf}
+use Rattle.tally.specs.Points.{matchpointsOf}
+use Rattle.matchpoints.specs.Points.{pointsAnswer}
 use Rattle.percentages.proofs.Told.{byPoints, by-points, Few, few}
 use Rattle.percentages.proofs.cell_of.Statement.{statement}
 use Rattle.percentages.proofs.cell_of.Tie as tie

@@ -1,6 +1,7 @@
 -- `tally_matchpoints` meets its contract: a short buffer first, then what the call answers for the tally read and the narrowed score. Assumes nothing.
 use mathlib.Core.Path.{_≡_, ap, _∙_}
-use Rattle.tally.specs.Points.{pointsAnswer, matchpointsOf}
+use Rattle.tally.specs.Points.{matchpointsOf}
+use Rattle.matchpoints.specs.Points.{pointsAnswer}
 use mir.Syntax.{w16}
 use mir.Val.{SFits}
 use mir.Facts.{toZ-ofZ}

@@ -1,8 +1,8 @@
 -- `tree_stack::said_of` meets its contract. Assumes nothing.
 use mathlib.Core.Path.{sym, ap, _∙_}
 use borrow.Author.Needs.{needs}
-use Rattle.tally.specs.declared.points.MatchpointAnswer.{MatchpointAnswer}
-use Rattle.tally.specs.Points.{pointsAnswer}
+use Rattle.matchpoints.specs.declared.points.MatchpointAnswer.{MatchpointAnswer}
+use Rattle.matchpoints.specs.Points.{pointsAnswer}
 use Rattle.tree_stack.specs.declared.Said.{Said}
 use Rattle.tree_stack.specs.Stacks.{saidOf}
 use Rattle.tree_stack.proofs.said_of.Statement.{statement}

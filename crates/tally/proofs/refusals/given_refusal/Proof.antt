@@ -1,7 +1,7 @@
--- `tally::refusals::given_refusal` meets its contract, for whatever holders the deal was taken of. Assumes nothing.
+-- `tally::refusals::given_refusal` meets its contract. Assumes nothing.
 use borrow.Author.Needs.{needs}
 use mir.Facts.{toZ-ofZ}
-use Rattle.tally.proofs.Refusing.{given-number}
+use Rattle.tally.proofs.Refusing.{given-held}
 use Rattle.tally.proofs.refusals.given_refusal.Statement.{statement}
 use Rattle.tally.proofs.refusals.given_refusal.Tie as tie
 
@@ -18,12 +18,12 @@ first-requires-2 : tie.Need-first-requires-2
 first-requires-2 c κs = search needs
 
 returns : tie.Need-returns
-returns c = λ holders scores ed n.
+returns c =
     let f = c .before in
     let k = f .before in
     let s = k .before in
     let st = s .before .before in
-    given-number _ _ (st .args .score) _ holders scores ed n _ _ _ _ (rw (toZ-ofZ (st .fits .score)) at (s .score-refusal .ensures))
+    given-held _ _ (st .args .score) _ _ _ _ _ (rw (toZ-ofZ (st .fits .score)) at (s .score-refusal .ensures))
     (k .fouled-refusal .ensures) (f .first .ensures) (c .first2 .ensures)
 
 pub given-refusal-spec : {M : Type 1} → statement M

@@ -8,8 +8,8 @@ use Rattle.laws.specs.Tally.{roomRefusal}
 use Rattle.tally.proofs.refusals.room_refusal.Statement.{statement}
 use Rattle.tally.proofs.refusals.room_refusal.Tie as tie
 
-sub-if1 : tie.Need-sub-if1
-sub-if1 c = search needs
+add-if1 : tie.Need-add-if1
+add-if1 c = search needs
 
 plain-requires : tie.Need-plain-requires
 plain-requires c κs = search needs
@@ -27,7 +27,7 @@ returns-2 : tie.Need-returns-2
 unfolding roomRefusal
 returns-2 c =
     let a = c .before .before .args in
-    c .plain2 .ensures ∙ rw (le-ltb 128 (a .results + a .more) (omega (arith, c .before .if1 .left, c .before .before .pre)))
+    c .plain2 .ensures ∙ rw (le-ltb 128 (a .results + a .more) (omega (arith, c .before .if1 .left)))
 
 pub room-refusal-spec : {M : Type 1} → statement M
-room-refusal-spec = tie.close (tie.spec sub-if1 plain-requires returns plain-requires-2 returns-2)
+room-refusal-spec = tie.close (tie.spec add-if1 plain-requires returns plain-requires-2 returns-2)
