@@ -51,16 +51,26 @@ pub record Ran (plays deal : List ℕ) (trump opening : ℕ) (r : Run) (last : �
   pub stopped : (r .refusal ≡ 0 → ⊥) → (r .place < last) × (r .refusal ≡ verdictNumber (verdictOf (r .play) (getD plays (r .place) 0)))
 
 module _ (plays deal : List ℕ) (trump opening : ℕ) (all : length deal ≡ 52) where
+  -- one card more, by what the rest comes to
+  turn : (m : ℕ) {p : Play} {i last f : ℕ} → f ≡ verdictNumber (verdictOf p (getD plays i 0)) → CardsAt plays deal trump opening p i → i < last
+      → (f ≡ 0 → Ran plays deal trump opening (runOf plays (step p (getD plays i 0)) (i + 1) m) last)
+      → Ran plays deal trump opening (runOf plays p i (suc m)) last
+  turn m {p} {i} {last} {f} ef r h rest =
+      by-test (eqb f 0)
+      (λ (q : eqb f 0 ≡ true).
+      let z = eqb-true f 0 q in
+      subst (λ (x : Run). Ran plays deal trump opening x last) (run-goes plays p i ef (suc m) m refl z refl) (rest z))
+      (λ (q : eqb f 0 ≡ false).
+      let z = eqb-false f 0 q in
+      subst (λ (x : Run). Ran plays deal trump opening x last) (run-stops plays p i ef (suc m) (omega arith) z)
+      (record { there = r; all-played = λ y. absurd (z y); stopped = λ y. (h, ef) }))
+
   runs : (m : ℕ) {p : Play} {i last : ℕ} → CardsAt plays deal trump opening p i → i + m ≡ last → last ≤ length plays
       → Ran plays deal trump opening (runOf plays p i m) last
-  unfolding runOf
-  runs zero r e h = record { there = r; all-played = λ z. omega arith; stopped = λ z. absurd (z refl) }
-  runs (suc m) {p} {i} {last} r e h =
-      by-test (eqb (verdictNumber (verdictOf p (getD plays i 0))) 0)
-      (λ (q : eqb (verdictNumber (verdictOf p (getD plays i 0))) 0 ≡ true).
-      rw q (runs m (card-goes plays deal trump opening r (omega arith) all refl refl (eqb-true _ 0 q) refl) (omega arith) h))
-      (λ (q : eqb (verdictNumber (verdictOf p (getD plays i 0))) 0 ≡ false).
-      rw q (record { there = r; all-played = λ z. absurd (eqb-false _ 0 q z); stopped = λ z. (omega arith, refl) }))
+  runs zero {p} {i} {last} r e h =
+      subst (λ (x : Run). Ran plays deal trump opening x last) (run-ends plays p i 0 refl)
+      (record { there = r; all-played = λ z. omega arith; stopped = λ z. absurd (z refl) })
+  runs (suc m) r e h = turn m refl r (omega arith) (λ z. runs m (card-goes plays deal trump opening r (omega arith) all refl refl z refl) (omega arith) h)
 
   pub run-is : (m last : ℕ) {first : Play} {r : Run} → r ≡ runOf plays first 0 m → CardsAt plays deal trump opening first 0 → m ≡ last
       → last ≤ length plays → Ran plays deal trump opening r last

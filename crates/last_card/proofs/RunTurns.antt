@@ -57,22 +57,31 @@ pub record Ran (bytes deal : List ℕ) (trump opening at n : ℕ) (r : Run) (las
   pub stopped : (r .refusal ≡ 0 → ⊥) → (r .place < last) × (r .code ≡ numberAt bytes (r .next) 6) × (r .refusal ≡ verdictNumber (verdictOf (r .play) (r .code)))
 
 module _ (bytes deal : List ℕ) (trump opening at n : ℕ) (all : length deal ≡ 52) where
+  -- one card more, by what the rest comes to
+  turn : (m : ℕ) {p : Play} {here i last c f : ℕ} → c ≡ numberAt bytes (here + 5 - 5) 6 → c ≡ numberAt bytes here 6 → f ≡ verdictNumber (verdictOf p c)
+      → CardsAt bytes deal trump opening at n p here i → i < last
+      → (f ≡ 0 → Ran bytes deal trump opening at n (runOf bytes (step p c) (here + 6) (i + 1) m) last)
+      → Ran bytes deal trump opening at n (runOf bytes p here i (suc m)) last
+  turn m {p} {here} {i} {last} {c} {f} ec there ef r h rest =
+      by-test (eqb f 0)
+      (λ (q : eqb f 0 ≡ true).
+      let z = eqb-true f 0 q in
+      subst (λ (x : Run). Ran bytes deal trump opening at n x last) (run-goes bytes p here i ec ef (suc m) m refl z refl) (rest z))
+      (λ (q : eqb f 0 ≡ false).
+      let z = eqb-false f 0 q in
+      subst (λ (x : Run). Ran bytes deal trump opening at n x last) (run-stops bytes p here i ec ef (suc m) (omega arith) z)
+      (record { there = r; within = omega arith; all-played = λ y. absurd (z y); stopped = λ y. (h, there, ef) }))
+
   runs : (m : ℕ) {p : Play} {here i last : ℕ} → CardsAt bytes deal trump opening at n p here i → i + m ≡ last → last ≤ n
       → 6 * m ≤ 8 * length bytes - here → Ran bytes deal trump opening at n (runOf bytes p here i m) last
-  unfolding runOf
-  runs zero r e h w = record { there = r; within = omega arith; all-played = λ z. omega arith; stopped = λ z. absurd (z refl) }
+  runs zero {p} {here} {i} {last} r e h w =
+      subst (λ (x : Run). Ran bytes deal trump opening at n x last) (run-ends bytes p here i 0 refl)
+      (record { there = r; within = omega arith; all-played = λ z. omega arith; stopped = λ z. absurd (z refl) })
   runs (suc m) {p} {here} {i} {last} r e h w =
-      by-test (eqb (verdictNumber (verdictOf p (numberAt bytes here 6))) 0)
-      (λ (q : eqb (verdictNumber (verdictOf p (numberAt bytes here 6))) 0 ≡ true).
-      let q6 : read 6 bytes here ≡ found (numberAt bytes here 6) (here + 6) = read-is 6 bytes here refl (omega arith) in
-      rw q (runs m (card-goes bytes deal trump opening at n r (omega arith) all q6 refl (eqb-true _ 0 q) refl) (omega arith) h (omega arith)))
-      (λ (q : eqb (verdictNumber (verdictOf p (numberAt bytes here 6))) 0 ≡ false).
-      rw q (record {
-        there = r;
-        within = omega arith;
-        all-played = λ z. absurd (eqb-false _ 0 q z);
-        stopped = λ z. (omega arith, refl, refl);
-      }))
+      let same : here + 5 - 5 ≡ here = omega arith in
+      turn m (rw same) refl refl r (omega arith)
+      (λ z. let q6 : read 6 bytes here ≡ found (numberAt bytes here 6) (here + 6) = read-is 6 bytes here refl (omega arith) in
+      runs m (card-goes bytes deal trump opening at n r (omega arith) all q6 refl z refl) (omega arith) h (omega arith))
 
   pub run-is : (m last : ℕ) {first : Play} {r : Run} → r ≡ runOf bytes first at 0 m → CardsAt bytes deal trump opening at n first at 0 → m ≡ last → last ≤ n
       → 6 * m ≤ 8 * length bytes - at → Ran bytes deal trump opening at n r last
