@@ -32,7 +32,10 @@ fn shares_by(ns: u32, ew: u32) -> ShareAnswer
     let most = (ns + ew) as u8;
     let first = share(ns as u8, most);
     let second = share(ew as u8, most);
-    ShareAnswer::Shares { ns: first, ew: second }
+    ShareAnswer::Shares {
+        ns: first,
+        ew: second,
+    }
 }
 
 // The shares of one result: a score with the holders of the cards that were played; 17, 20, 4, 28 or 21.
