@@ -68,6 +68,23 @@ same "a missing file" "$("$terminal" "$work/none" 2>&1; echo $?)" "$work/none ca
 same "a missing file among others" "$("$terminal" "$work/none" samples/claim.hex 2>/dev/null; echo $?)" "$good
 2"
 same "an unknown option" "$("$terminal" -q 2>/dev/null; echo $?)" "2"
+help=$("$terminal" --help)
+for forms in "-w -x" "-x -w" "-b -x" "-xb" "-b -w" "-v -w" "-wv"; do
+    # shellcheck disable=SC2086
+    same "two forms, $forms" "$("$terminal" $forms samples/claim.hex 2>&1 >/dev/null; echo $?)" "$help
+2"
+done
+same "one form twice" "$("$terminal" -x -x samples/claim.hex; echo $?)" "$good
+0"
+cp samples/claim.hex "$work/-x"
+same "a file named as an option" "$(cd "$work" && "$OLDPWD/$terminal" -x -- -x; echo $?)" "$good
+0"
+same "help" "$("$terminal" -x --help 2>/dev/null | head -1; "$terminal" --help 2>&1 >/dev/null; echo $?)" "usage: terminal [-v] [-b | -x] [FILE]...
+0"
+same "version" "$("$terminal" --version 2>&1; echo $?)" "terminal (judge $(sed -n 's/^#define JUDGE_VERSION_M[AJINOR]* //p' include/judge.h | paste -sd .))
+0"
+same "a full device" "$("$terminal" samples/claim.hex 2>&1 >/dev/full; echo $?)" "what is due cannot be written
+2"
 
 # Each sample written from its words: its own bytes, or the words of its refusal. A record that lacks bytes cannot be written.
 for text in samples/*.txt; do
@@ -75,7 +92,7 @@ for text in samples/*.txt; do
     "$terminal" -w "$text" >"$work/written" 2>"$work/said"
     status=$?
     case $text in
-    samples/refused-short.txt) same "$text" "$(cat "$work/said"; echo $status)" "$text, line 9: a record is written whole
+    samples/refused-short.txt) same "$text" "$(cat "$work/said"; echo $status)" "$text, line 9: missing: a record is written whole
 2" ;;
     samples/refused-*) same "$text" "$(cat "$work/said"; echo $status)" "$(sed "s|$hex|$text|" "${text%.txt}.expected")
 1" ;;
@@ -101,23 +118,60 @@ echo '$a claim 16' | refused_words "a claim when passed out" ": refused, after 0
 1"
 echo '$a trick SA SJ S8 S5' | refused_words "cards when passed out" ": refused, play count 4: over 52, or cards for a passed-out board
 1"
-echo 's/hand E JT9/hand E AT9/' | refused_words "a card in two hands" ", line 5: a card is in two hands
+echo 's/hand E JT9/hand E AT9/' | refused_words "a card in two hands" ", line 5: hand AT9.543.AKQ2.876: a card is in two hands
 2"
-echo 's/^calls.*/calls P P 8C/' | refused_words "no call" ", line 8: no such call
+echo 's/^calls.*/calls P P 8C/' | refused_words "no call" ", line 8: calls 8C: no such call
 2"
-echo '$a trick SA S1' | refused_words "no card" ", line 9: no such card
+echo '$a trick SA S1' | refused_words "no card" ", line 9: trick S1: no such card
 2"
-echo '$a trick ?S1 SA' | refused_words "no card exposed" ", line 9: no such card
+echo '$a trick ?S1 SA' | refused_words "no card exposed" ", line 9: trick ?S1: no such card
 2"
-echo '$a trick !SA +NT SA' | refused_words "no suit required" ", line 9: no such suit
+echo '$a trick !SA +NT SA' | refused_words "no suit required" ", line 9: trick +NT: no such suit
 2"
-echo '$a trick - SA' | refused_words "no suit forbidden" ", line 9: no such suit
+echo '$a trick - SA' | refused_words "no suit forbidden" ", line 9: trick -: no such suit
 2"
 echo '$a trick ?S9' | refused_words "an exposure without a card" ": refused, play 0: choice of a lead not open, or no card after an exposure or choice
 1"
-echo 's/^board.*/board/' | refused_words "no number" ", line 2: a number is missing
+echo 's/^board.*/board x7/' | refused_words "no digits" ", line 2: board x7: not a number
 2"
-echo '$a tricks SA' | refused_words "an unknown line" ", line 9: this says nothing of a record
+echo 's/^board.*/board 7 8/' | refused_words "a word behind a number" ", line 2: board 8: a word too many
+2"
+echo 's/^table.*/table -1/' | refused_words "a number with a sign" ", line 3: table -1: not a number
+2"
+echo '$a board 7' | refused_words "a second board" ", line 9: board 7: said twice
+2"
+echo '$a table 7' | refused_words "a second table" ", line 9: table 7: said twice
+2"
+{ echo '$a claim 3'; echo '$a claim 3'; } | refused_words "a second claim" ", line 10: claim 3: said twice
+2"
+echo '$a claim' | refused_words "a claim without a number" ", line 9: claim: a number is missing
+2"
+echo '$a claim three' | refused_words "a claim in letters" ", line 9: claim three: not a number
+2"
+echo 's/^hand N.*/hand N AKQ.876.543JT92/' | refused_words "a suit missing" ", line 4: hand AKQ.876.543JT92: a suit is missing
+2"
+echo 's/^hand N.*/hand N AKQ.876.543.JT9.2/' | refused_words "a fifth suit" ", line 4: hand AKQ.876.543.JT9.2: a hand has four suits
+2"
+echo 's/^hand N.*/hand N AKQ.876.543.JT1/' | refused_words "no rank" ", line 4: hand AKQ.876.543.JT1: no such card
+2"
+echo 's/^hand N.*/& & /' | refused_words "words behind a hand" ", line 4: hand hand: a word too many
+2"
+echo 's/^hand N.*/hand N/' | refused_words "a hand without cards" ", line 4: hand N: the cards are missing
+2"
+echo 's/^hand N.*/hand/' | refused_words "a hand without a seat" ", line 4: hand: no such seat
+2"
+echo 's/^hand N/hand NE/' | refused_words "a seat of two letters" ", line 4: hand NE: no such seat
+2"
+echo 's/^hand E/hand N/' | refused_words "a seat twice" ", line 5: hand N: said twice
+2"
+echo 's/^calls.*/calls P P P PX/' | refused_words "a call and more" ", line 8: calls PX: no such call
+2"
+printf 'board 7\0' >"$work/changed.txt"
+same "a zero among the words" "$("$terminal" -w "$work/changed.txt" 2>&1; echo $?)" "$work/changed.txt is no text
+2"
+echo 's/^board.*/board/' | refused_words "no number" ", line 2: board: a number is missing
+2"
+echo '$a tricks SA' | refused_words "an unknown line" ", line 9: tricks: this says nothing of a record
 2"
 same "two files to write" "$("$terminal" -w samples/claim.txt samples/slam.txt 2>/dev/null; echo $?)" "2"
 sed 's/^claim.*/claim 16/' samples/claim.txt >"$work/changed.txt"

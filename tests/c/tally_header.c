@@ -72,15 +72,33 @@ static void asks(void) {
     expect("alone", (long)tally_kind_of(cell), TALLY_ALONE);
 }
 
-static void reduces(void) {
-    uint8_t first[TALLY_BYTES], zeros[TALLY_BYTES] = {0};
+static void shares(void) {
+    uint8_t bytes[TALLY_SHARES_BYTES];
     fill();
+    expect("shares", (long)tally_hundredths(a, sizeof a, 420, holders, sizeof holders, bytes, sizeof bytes), 0);
+    struct tally_shares s = tally_unpack_shares(bytes);
+    expect("of NS: 1 of 4", (long)s.ns, 2500);
+    expect("of EW", (long)s.ew, 7500);
+    expect("shares alone", (long)tally_hundredths(b, sizeof b, -50, holders, sizeof holders, bytes, sizeof bytes), 0);
+    s = tally_unpack_shares(bytes);
+    expect("of NS alone", (long)s.ns, TALLY_ALONE_SHARE);
+    expect("of EW alone", (long)s.ew, TALLY_ALONE_SHARE);
+    expect("a buffer of 3", (long)tally_hundredths(a, sizeof a, 420, holders, sizeof holders, bytes, 3), 1024);
+    expect("no such score", (long)tally_hundredths(a, sizeof a, 430, holders, sizeof holders, bytes, sizeof bytes), 21 * 1024);
+    expect("null slices", (long)tally_hundredths(NULL, 0, 420, NULL, 0, bytes, sizeof bytes), 17 * 1024);
+}
+
+static void reduces(void) {
+    uint8_t first[TALLY_BYTES], b2[TALLY_BYTES], zeros[TALLY_BYTES] = {0};
+    fill();
+    expect("a tally of board 8", (long)tally_fresh(8, b2, sizeof b2), 0);
     memcpy(first, b, sizeof first);
     tally_reduce(a, first);
     tally_reduce(b, a);
     expect("the same in both orders", memcmp(a, first, sizeof a), 0);
     expect("another board", (long)tally_fresh(8, b, sizeof b), 0);
-    tally_reduce(b, a);
+    expect("an empty tally merged", (long)tally_merge_into(b, b2), 0);
+    expect("two boards merged", (long)tally_merge_into(b, a), 18 * 1024);
     expect("zeros for a refusal", memcmp(a, zeros, sizeof a), 0);
     tally_reduce(first, a);
     expect("which absorb", memcmp(a, zeros, sizeof a), 0);
@@ -106,10 +124,17 @@ static void refuses(void) {
     expect("its place", (long)tally_place_of(4 * 1024 + 4), 4);
 }
 
+static void has_a_version(void) {
+    expect("the version's first number", TALLY_VERSION_MAJOR, 1);
+    expect("the version's second number", TALLY_VERSION_MINOR >= 1, 1);
+}
+
 int main(void) {
+    has_a_version();
     unpacks_a_deal();
     merges();
     asks();
+    shares();
     reduces();
     refuses();
     return failed;

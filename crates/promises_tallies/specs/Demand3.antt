@@ -60,7 +60,7 @@ pub record OfTree (t : Tree) : Type 0 where
   pub canonical : left t ≡ tallyOf (boardOf t) (listOf t)
   -- asked of it for any result: 20, 4 or 28, else Law 78A's matchpoints over the whole list, or 21
   pub points : (r : Result) → matchpointsOf (left t) r ≡ asked matchpoints (listOf t) r
-  -- every answer that the contract of `tally::matchpoints` allows stands for these
+  -- every answer that the contract of `matchpoints::matchpoints` allows stands for these
   pub points-answered : (r : Result) (a : MatchpointAnswer) → pointsAnswer a ≡ matchpointsOf (left t) r → pointsAnswer a ≡ asked matchpoints (listOf t) r
 
 -- ---- trees whose results are all of one deal
