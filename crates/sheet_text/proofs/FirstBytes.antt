@@ -19,8 +19,8 @@ use Rattle.laws.proofs.Tests.{by-test, and-left, and-right, or-left, or-right, 
 use Rattle.sheet_text.specs.declared.columns.Columns.{Columns}
 use Rattle.sheet_text.specs.declared.columns.Columns.the-variants.{Matchpoints, Percentages}
 use Rattle.sheet_text.specs.Columns.{sheetAs}
-use Rattle.sheet_text.specs.Reading.{lineLength}
-use Rattle.sheet_text.proofs.Lines.{first-line, line-within}
+use Rattle.score_lines.specs.Reading.{lineLength}
+use Rattle.score_lines.proofs.Lines.{first-line, line-within}
 use Rattle.sheet_text.proofs.Enough.{not-not}
 
 -- ---- a score takes at most five bytes

@@ -1,13 +1,11 @@
 pub mod Puts
 pub mod Printed
 pub mod Signs
-pub mod Saying
-pub mod Lines
 pub mod Enough
 pub mod Rows
-pub mod Results
 pub mod FirstBytes
 pub mod Example
 pub mod Answering
 pub mod Teams
 pub mod SingleLines
+pub mod Sheets

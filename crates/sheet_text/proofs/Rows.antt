@@ -38,6 +38,7 @@ use Rattle.matchpoints.proofs.Told.{same-ns, same-ew}
 use Rattle.tally.proofs.Dealing.{deal-carried}
 use Rattle.tally.proofs.Formed.{formed, carried, entries-scores, room-scores}
 use Rattle.tally.proofs.Places.{entriesAt, entries-used, entries-unused, entries-end}
+use Rattle.score_lines.proofs.Saying.{valid-fits}
 use Rattle.sheet_text.specs.declared.columns.Columns.{Columns}
 use Rattle.sheet_text.specs.declared.columns.Columns.the-variants.{Matchpoints as ByPoints, Percentages as ByPercentages}
 use Rattle.sheet_text.specs.Columns.{shareText, rowText, headerAs, rowAs, tableAs}
@@ -109,10 +110,6 @@ begins k t out at ss cs w e h =
       whole = refl;
       room = omega (arith, rw (table-rows k t w, length-append (headerAs k) (rowsFrom k t 0)) at h);
     }
-
--- a valid score fits the code's type
-pub valid-fits : (z : ℤ) → validScore z ≡ true → SFits w16 z
-valid-fits z v = record { sfits = omega (arith, valid-size z v, mag-le-size z) }
 
 module _ (k : Columns) (t : Tally) (out₀ : List ℕ) (at₀ : ℕ) (out : List ℕ) (at i : ℕ) (w : Printed k t out₀ at₀ out at i) where
   -- the last row is put

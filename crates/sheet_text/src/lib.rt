@@ -1,5 +1,5 @@
-// The sheet of a text of scores. Here: a line and the score on it are read, and the parts of the sheet are put into bytes at a place; each answers the
-// place after what it put. `whole` has the results of all lines, the table, and the sheets; `columns` what a table gives for each side; `answers` the
+// The sheet of a text of scores. Here: the parts of the sheet are put into bytes at a place; each answers the place after what it put. `whole` has the
+// table and the sheets; `columns` what a table gives for each side; `answers` the
 // text of what the calls of a script answer; `named` single lines; `team` the text of a team match.
 mod answers;
 mod columns;
@@ -9,11 +9,8 @@ mod whole;
 
 pub use answers::write_said;
 pub use answers::write_tally;
-use decimal::Number;
-use decimal::read_number;
 pub use named::write_named;
 pub use named::write_pair;
-use score::valid;
 pub use team::write_board;
 pub use team::write_refusal;
 pub use team::write_totals;
@@ -25,104 +22,10 @@ ghost use mathlib.Core.Path.{_≡_};
 ghost use mathlib.Core.List.{[], _∷_};
 ghost use Prim.Native.Nat.{_+_, _≤_, _<_, _^_};
 ghost use lib.IntN.{natAbs};
-ghost use lib.ListN.{length, drop};
+ghost use lib.ListN.{length};
 ghost use Rattle.laws.specs.Decimal.{digit, decimal, signedDecimal};
 ghost use Rattle.laws.specs.Sheet.{fields};
-ghost use Rattle.sheet_text.specs.Reading.{lineLength, sizeOn, ifValid, positiveOf, negativeOf, saidOn};
 ghost use Rattle.sheet_text.specs.Putting.{Put};
-
-// What a line says: a valid score, or none.
-enum Said {
-    Score(i16),
-    Nothing,
-}
-
-// The end of the line that starts at a place: its newline, or the end of the bytes.
-fn line_end(bytes: &[u8], at: usize) -> usize
-    requires { ⌜ at ≤ length (now bytes) ⌝ }
-    ensures { λ r. ⌜ r ≡ at + lineLength (drop at (now (bytes .entry))) ⌝ }
-{
-    let mut i = at;
-    while i < bytes.len() {
-        if bytes[i] == 10 {
-            return i;
-        }
-        i += 1;
-    }
-    i
-}
-
-// A digit 1 to 9 and at most three digits more.
-fn size_on(bytes: &[u8]) -> Number
-    ensures { λ r. ⌜ r ≡ sizeOn (now (bytes .entry)) ⌝ }
-{
-    if bytes.len() == 0 {
-        return Number::None;
-    }
-    if 4 < bytes.len() {
-        return Number::None;
-    }
-    if bytes[0] == 48 {
-        return Number::None;
-    }
-    read_number(bytes)
-}
-
-// A score, where it is valid.
-fn if_valid(score: i16) -> Said
-    ensures { λ r. ⌜ r ≡ ifValid score ⌝ }
-{
-    if valid(score) {
-        return Said::Score(score);
-    }
-    Said::Nothing
-}
-
-// A number as a score.
-fn positive(n: Number) -> Said
-    ensures { λ r. ⌜ r ≡ positiveOf n ⌝ }
-{
-    let Number::Is(size) = n else {
-        return Said::Nothing;
-    };
-    if 7600 < size {
-        return Said::Nothing;
-    }
-    if_valid(size as i16)
-}
-
-// A number with a minus as a score.
-fn negative(n: Number) -> Said
-    ensures { λ r. ⌜ r ≡ negativeOf n ⌝ }
-{
-    let Number::Is(size) = n else {
-        return Said::Nothing;
-    };
-    if 7600 < size {
-        return Said::Nothing;
-    }
-    if_valid(-(size as i16))
-}
-
-// The score on a line.
-fn said_on(line: &[u8]) -> Said
-    ensures { λ r. ⌜ r ≡ saidOn (now (line .entry)) ⌝ }
-{
-    if line.len() == 0 {
-        return Said::Nothing;
-    }
-    if line[0] == 45 {
-        let rest = &line[1..];
-        return negative(size_on(rest));
-    }
-    if 1 < line.len() {
-        return positive(size_on(line));
-    }
-    if line[0] == 48 {
-        return Said::Score(0);
-    }
-    positive(size_on(line))
-}
 
 fn put_bytes(out: &mut [u8], at: usize, bytes: &[u8]) -> usize
     requires { ⌜ at + length (now bytes) ≤ length (now out) ⌝ }

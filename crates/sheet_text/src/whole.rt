@@ -1,18 +1,14 @@
-// The results of all lines, which are of one deal, the table, and the sheets with matchpoints and with percentages.
-use super::Said;
+// The table of a tally, and the sheets with matchpoints and with percentages.
 use super::columns::Columns;
 use super::columns::put_header;
 use super::columns::put_side;
-use super::line_end;
 use super::put_byte;
 use super::put_bytes;
 use super::put_decimal;
 use super::put_field;
 use super::put_score;
-use super::said_on;
-use deal::SUITS;
 use matchpoints::MatchpointAnswer;
-use tally::Tallied;
+use score_lines::results_of;
 use tally::Tally;
 ghost use mathlib.Core.Path.{_≡_};
 ghost use mathlib.Core.Bool.{true};
@@ -22,71 +18,14 @@ ghost use Rattle.laws.specs.CellSheet.{cellSheet};
 ghost use Rattle.laws.specs.Sheet.{refusal, sheet};
 ghost use Rattle.tally.specs.Points.{matchpointsOf};
 ghost use Rattle.matchpoints.specs.Points.{pointsAnswer};
-ghost use Rattle.tally.specs.Tallies.{scoresIn, wellFormed, addOf};
-ghost use Rattle.tree_stack.specs.Deals.{suits};
+ghost use Rattle.tally.specs.Tallies.{scoresIn, wellFormed};
 ghost use Rattle.sheet_text.specs.Columns.{rowText, tableAs, sheetAs, roomAs};
 ghost use Rattle.sheet_text.specs.Putting.{Put, written, lengthWithin, leftIn};
-ghost use Rattle.sheet_text.specs.Whole.{Found};
 
 // How the writing of a sheet went: so many bytes written, or too few lent and none written.
 pub enum Outcome {
     Written(usize),
     TooShort,
-}
-
-// The number of the line that is refused, 0 for none, and the tally of the lines' scores where none is.
-struct Results {
-    refused: u32,
-    tally: Tally,
-}
-
-// A line that finds 128 results before it.
-fn full_at(k: u32, t: Tally) -> Results
-    ensures { λ r. ⌜ r ≡ record { refused = k; tally = t } ⌝ }
-{
-    Results {
-        refused: k,
-        tally: t,
-    }
-}
-
-// A score of a line added: every line is of the same deal.
-fn with_score(t: Tally, score: i16) -> Tallied
-    ensures { λ r. ⌜ r ≡ addOf t (record { score = score; deal = suits }) ⌝ }
-{
-    let deal = SUITS;
-    merging::add(t, score, &deal)
-}
-
-// The scores on the lines, all of one deal, up to the first line that is refused.
-fn results_of(bytes: &[u8]) -> Results
-    ensures { λ r. ⌜ Found (now (bytes .entry)) r ⌝ }
-{
-    let first = tally::fresh(1);
-    let mut t = first.tally;
-    let mut k: u32 = 0;
-    let mut at: usize = 0;
-    while at < bytes.len() {
-        let end = line_end(bytes, at);
-        let line = &bytes[at..end];
-        k += 1;
-        let Said::Score(score) = said_on(line) else {
-            return Results {
-                refused: k,
-                tally: t,
-            };
-        };
-        let more = with_score(t, score);
-        if more.refusal != 0 {
-            return full_at(k, t);
-        }
-        t = more.tally;
-        at = end + 1;
-    }
-    Results {
-        refused: 0,
-        tally: t,
-    }
 }
 
 fn put_row(

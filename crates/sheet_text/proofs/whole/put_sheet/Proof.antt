@@ -4,7 +4,7 @@ use mathlib.Core.Path.{_≡_, sym, ap, _∙_}
 use borrow.Author.Needs.{needs}
 use lib.ListN.{length}
 use Rattle.sheet_text.proofs.Enough.{refusal-short, least-room, enough}
-use Rattle.sheet_text.proofs.Results.{sheet-refused, refused-few, well, sheet-table}
+use Rattle.sheet_text.proofs.Sheets.{sheet-refused, refused-few, well, sheet-table}
 use Rattle.sheet_text.proofs.whole.put_sheet.Statement.{statement}
 use Rattle.sheet_text.proofs.whole.put_sheet.Tie as tie
 

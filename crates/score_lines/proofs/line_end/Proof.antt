@@ -1,13 +1,13 @@
--- `sheet_text::line_end` meets its contract. The loop's invariant: the line that goes on from `i` ends where the whole line does.
+-- `score_lines::line_end` meets its contract. The loop's invariant: the line that goes on from `i` ends where the whole line does.
 -- Assumes nothing.
 use Prim.Native.Nat.{_+_, _-_, _≤_}
 use native.Mathlib.Omega.{arith}
 use mathlib.Core.Path.{_≡_, refl}
 use lib.ListN.{length, drop}
-use Rattle.sheet_text.specs.Reading.{lineLength}
-use Rattle.sheet_text.proofs.Lines.{at-newline, past, at-end}
-use Rattle.sheet_text.proofs.line_end.Statement.{statement}
-use Rattle.sheet_text.proofs.line_end.Tie as tie
+use Rattle.score_lines.specs.Reading.{lineLength}
+use Rattle.score_lines.proofs.Lines.{at-newline, past, at-end}
+use Rattle.score_lines.proofs.line_end.Statement.{statement}
+use Rattle.score_lines.proofs.line_end.Tie as tie
 
 abbrev Inv-loop : tie.InvT-loop
 Inv-loop bytes at i₀ i = (i ≤ length bytes) × (at + lineLength (drop at bytes) ≡ i + lineLength (drop i bytes))

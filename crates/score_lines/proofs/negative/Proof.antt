@@ -1,10 +1,10 @@
--- `sheet_text::negative` meets its contract. Assumes nothing.
+-- `score_lines::negative` meets its contract. Assumes nothing.
 use mathlib.Core.Path.{sym, ap, _∙_}
 use borrow.Author.Needs.{needs}
-use Rattle.sheet_text.specs.Reading.{negativeOf}
-use Rattle.sheet_text.proofs.Saying.{negative-over, negative-said, minus-fits}
-use Rattle.sheet_text.proofs.negative.Statement.{statement}
-use Rattle.sheet_text.proofs.negative.Tie as tie
+use Rattle.score_lines.specs.Reading.{negativeOf}
+use Rattle.score_lines.proofs.Saying.{negative-over, negative-said, minus-fits}
+use Rattle.score_lines.proofs.negative.Statement.{statement}
+use Rattle.score_lines.proofs.negative.Tie as tie
 
 enum-known-n : tie.Need-enum-known-n
 enum-known-n c = search needs

@@ -16,13 +16,14 @@ use Rattle.laws.specs.Decimal.{startsWith, isNumber, value, valueAfter}
 use Rattle.laws.specs.Law77.{validScore}
 use Rattle.laws.specs.Sheet.{isZero, isSize, scoreOf, isScore}
 use Rattle.laws.proofs.Integers.{size-neg, mag-le-size}
+use Rattle.score.proofs.Validity.{valid-size}
 use Rattle.laws.proofs.Tests.{by-test}
 use Rattle.decimal.specs.declared.Number.{Number}
 use Rattle.decimal.specs.declared.Number.the-variants.{Is, None}
 use Rattle.decimal.specs.Numbers.{numberOn}
-use Rattle.sheet_text.specs.declared.Said.{Said}
-use Rattle.sheet_text.specs.declared.Said.the-variants.{Score, Nothing}
-use Rattle.sheet_text.specs.Reading.{sizeOn, ifValid, positiveOf, negativeOf, saidOn}
+use Rattle.score_lines.specs.declared.Said.{Said}
+use Rattle.score_lines.specs.declared.Said.the-variants.{Score, Nothing}
+use Rattle.score_lines.specs.Reading.{sizeOn, ifValid, positiveOf, negativeOf, saidOn}
 
 -- ---- a size
 module _ (s : List ℕ) where
@@ -171,3 +172,7 @@ module _ (s : List ℕ) (some : length s ≡ 0 → ⊥) where
     said-zero h e =
         let one : length s ≡ 1 = omega arith in
         rw (no-minus, starts s 48 some, eq-eqb (getD s 0 0) 48 e, eq-eqb (length s) 1 one, zero-value s h e)
+
+-- a valid score fits the code's type
+pub valid-fits : (z : ℤ) → validScore z ≡ true → SFits w16 z
+valid-fits z v = record { sfits = omega (arith, valid-size z v, mag-le-size z) }

@@ -12,7 +12,7 @@ use lib.Seq.{drop-cons}
 use Rattle.laws.specs.Choice.{if_then_else_}
 use Rattle.laws.specs.Sheet.{newline, before, linesOf}
 use Rattle.laws.proofs.Tests.{by-test}
-use Rattle.sheet_text.specs.Reading.{lineLength}
+use Rattle.score_lines.specs.Reading.{lineLength}
 
 -- ---- the end of a line, looked for from a place on
 module _ (s : List ℕ) (i : ℕ) where

@@ -5,18 +5,17 @@ use native.Mathlib.Omega.{arith}
 use mathlib.Core.Path.{_≡_, refl, sym, ap, _∙_}
 use mathlib.Core.Bool.{Bool, true, false, not, _||_}
 use mathlib.Core.List.{List, [], _∷_, _++_, map, append-assoc, append-nil}
-use borrow.Author.Tests.{le-ltb, ltb-false, ne-eqb}
+use borrow.Author.Tests.{le-ltb, ltb-false}
 use lib.Dec.{ltb}
 use lib.IntN.{ℤ}
-use lib.ListN.{length, take, drop, length-append, length-drop, length-map, drop-of-length-le}
+use lib.ListN.{length, take, drop, length-append, length-drop, drop-of-length-le}
 use lib.Seq.{drop-drop}
 use mir.Syntax.{w16}
 use mir.Val.{toZ, ofZ}
 use mir.Facts.{toZ-ofZ}
 use Rattle.laws.specs.Choice.{if_then_else_, howMany, some}
 use Rattle.laws.specs.Law77.{validScore}
-use Rattle.laws.specs.Sheet.{linesOf, scoreOf, isScore, isZero, isSize, unsigned, refusedLine, table, refusal, tabled, sheet}
-use Rattle.laws.specs.CellSheet.{cellTable, cellSheet}
+use Rattle.laws.specs.Sheet.{linesOf, scoreOf, isScore, isZero, isSize, unsigned, refusedLine}
 use Rattle.laws.specs.Cards.{cardsDealt, firstWithoutThirteen}
 use Rattle.laws.specs.Contents.{areSeats, takeDeal}
 use Rattle.laws.specs.Reading.{refuse}
@@ -25,35 +24,28 @@ use Rattle.laws.proofs.TallyRules.{scores-on, length-on, given-on, add-allowed,
 use Rattle.laws.proofs.Tests.{by-test, and-right}
 use Rattle.tally.specs.declared.Tally.{Tally}
 use Rattle.tally.specs.declared.Tallied.{Tallied}
-use Rattle.tally.specs.Entries.{entriesOf}
-use Rattle.tally.specs.Tallies.{entriesIn, tallyFor, tallyOf, scoresIn, carries, wellFormed, freshOf, addOf, answerOf}
+use Rattle.tally.specs.Tallies.{tallyFor, tallyOf, noTally, carries, freshOf, addOf, answerOf}
 use Rattle.tally.proofs.Dealing.{carried-deal, carried-none}
-use Rattle.tally.proofs.Formed.{formed, entries-scores}
 use Rattle.tally.proofs.Lists.{valid-append}
-use Rattle.tally.proofs.OfLists.{Sound, is-well, answer-number, answer-made, add-list}
-use Rattle.tally.proofs.Tables.{table-tally, cell-table-tally}
+use Rattle.tally.proofs.OfLists.{Sound, answer-number, answer-made, add-list}
 use Rattle.tree_stack.specs.Deals.{suits}
-use Rattle.sheet_text.specs.declared.Said.{Said}
-use Rattle.sheet_text.specs.declared.Said.the-variants.{Score, Nothing}
-use Rattle.sheet_text.specs.declared.whole.Results.{Results}
-use Rattle.sheet_text.specs.Reading.{lineLength, saidOn}
-use Rattle.sheet_text.specs.declared.columns.Columns.{Columns}
-use Rattle.sheet_text.specs.declared.columns.Columns.the-variants.{Matchpoints, Percentages}
-use Rattle.sheet_text.specs.Columns.{tableAs, sheetAs}
-use Rattle.sheet_text.specs.Whole.{Found}
-use Rattle.sheet_text.proofs.Enough.{Taken, all-taken, refused-low}
-use Rattle.sheet_text.proofs.Rows.{valid-fits}
-use Rattle.sheet_text.proofs.Lines.{first-line, line-within}
+use Rattle.score_lines.specs.declared.Said.{Said}
+use Rattle.score_lines.specs.declared.Said.the-variants.{Score, Nothing}
+use Rattle.score_lines.specs.declared.Results.{Results}
+use Rattle.score_lines.specs.Reading.{lineLength, saidOn}
+use Rattle.score_lines.specs.Whole.{Found}
+use Rattle.score_lines.proofs.Lines.{first-line, line-within}
+use Rattle.score_lines.proofs.Saying.{valid-fits}
 
 -- the deal of the lines, where there are any
-abbrev carried : List ℤ → List ℕ
+abbrev pub carried : List ℤ → List ℕ
 carried l = dealOf (onDeal suits l)
 
 suits-deal : dealRefusal suits .number ≡ 0
 unfolding dealRefusal takeDeal areSeats firstWithoutThirteen cardsDealt howMany some refuse
 suits-deal = refl
 
-carries-lines : (l : List ℤ) → carries (carried l) (length l) ≡ true
+pub carries-lines : (l : List ℤ) → carries (carried l) (length l) ≡ true
 carries-lines [] = carried-none
 carries-lines (s ∷ l) = carried-deal suits (suc (length l)) (λ z. omega arith) suits-deal
 
@@ -66,7 +58,7 @@ carried-last [] s = refl
 carried-last (r ∷ l) s = refl
 
 -- the tally of the lines' results
-lines-tally : (l : List ℤ) → tallyOf 1 (onDeal suits l) ≡ tallyFor 1 (carried l) l
+pub lines-tally : (l : List ℤ) → tallyOf 1 (onDeal suits l) ≡ tallyFor 1 (carried l) l
 unfolding tallyOf
 lines-tally l = ap (tallyFor 1 (carried l)) (scores-on suits l)
 
@@ -116,7 +108,7 @@ module _ (bytes : List ℕ) (t : Tally) (k at : ℕ) (w : Read bytes t k at) whe
       let none : drop at bytes ≡ [] = drop-of-length-le bytes h in
       let all : map scoreOf (linesOf bytes) ≡ w .so-far = w .scores ∙ rw none (append-nil (w .so-far)) in
       let same = ap (λ (l : List ℤ). tallyOf 1 (onDeal suits l)) (sym all) in
-      record { refused = sym (w .refused ∙ rw none); tally = λ q. w .is ∙ sym (lines-tally (w .so-far)) ∙ same }
+      record { refused = sym (w .refused ∙ rw none); tally = λ q. w .is ∙ sym (lines-tally (w .so-far)) ∙ same; none = λ z. absurd (z refl) }
 
   module _ (h : at < length bytes) (end : ℕ) (is-end : end ≡ at + lineLength (drop at bytes)) where
     abbrev line : List ℕ
@@ -136,13 +128,13 @@ module _ (bytes : List ℕ) (t : Tally) (k at : ℕ) (w : Read bytes t k at) whe
         rw e (first-line (drop at bytes) n ∙ rw (drop-drop (suc (lineLength (drop at bytes))) at bytes, f))
 
     -- the line is refused
-    stops : (not (isScore line) || ltb 128 (suc k)) ≡ true → Found bytes (record { refused = k + 1; tally = t })
+    stops : (not (isScore line) || ltb 128 (suc k)) ≡ true → Found bytes (record { refused = k + 1; tally = noTally })
     unfolding refusedLine
     stops q =
         let e : refusedLine 1 (linesOf bytes) ≡ k + 1 = w .refused ∙ rw (split, q) (sym (add-one k)) in
-        record { refused = sym e; tally = λ z. absurd (omega arith) }
+        record { refused = sym e; tally = λ z. absurd (omega arith); none = λ z. refl }
 
-    pub bad : (r : Said) → r ≡ saidOn line → r ≡ Nothing → Found bytes (record { refused = k + 1; tally = t })
+    pub bad : (r : Said) → r ≡ saidOn line → r ≡ Nothing → Found bytes (record { refused = k + 1; tally = noTally })
     bad r e q = stops (rw (said-nothing line (sym e ∙ q)))
 
     module _ (r : Said) (s : ℤ) (e : r ≡ saidOn line) (q : r ≡ Score s) where
@@ -176,7 +168,7 @@ module _ (bytes : List ℕ) (t : Tally) (k at : ℕ) (w : Read bytes t k at) whe
         added : a ≡ addOf t result
         added = is-a ∙ ap (λ (z : ℤ). addOf t (record { score = z; deal = suits })) (toZ-ofZ (valid-fits s said-valid))
 
-        pub over : (a .refusal ≡ 0 → ⊥) → Found bytes (record { refused = k + 1; tally = t })
+        pub over : (a .refusal ≡ 0 → ⊥) → Found bytes (record { refused = k + 1; tally = noTally })
         over f =
             by-test (ltb 128 (suc k))
             (λ (z : ltb 128 (suc k) ≡ true). stops (rw (is-score, z)))
@@ -209,49 +201,3 @@ module _ (bytes : List ℕ) (t : Tally) (k at : ℕ) (w : Read bytes t k at) whe
               scores = w .scores ∙ rw (split, is-said) (sym (append-assoc (w .so-far) (s ∷ []) (map scoreOf (linesOf (drop (end + 1) bytes)))));
               refused = w .refused ∙ rw (split, is-score, le-ltb 128 (suc k) (omega (arith, few-lines)));
             })
-
--- ---- the sheet by what was found
-module _ (bytes : List ℕ) (r : Results) (f : Found bytes r) where
-  tabled-refused : (tableOf : List ℤ → List ℕ) → (r .refused ≡ 0 → ⊥) → tabled tableOf (linesOf bytes) ≡ refusal (r .refused)
-  unfolding tabled
-  tabled-refused tableOf h = rw (← f .refused, ne-eqb (r .refused) 0 h)
-
-  pub sheet-refused : (k : Columns) → (r .refused ≡ 0 → ⊥) → sheetAs k bytes ≡ refusal (r .refused)
-  unfolding sheet cellSheet
-  sheet-refused Matchpoints h = tabled-refused table h
-  sheet-refused Percentages h = tabled-refused cellTable h
-
-  pub refused-few : r .refused ≤ 129
-  refused-few = rw (f .refused) (refused-low 1 (linesOf bytes) (omega arith))
-
-  module _ (h : r .refused ≡ 0) where
-    taken : Taken 1 (linesOf bytes)
-    taken = all-taken 1 (linesOf bytes) (omega arith) (omega arith) (sym (f .refused) ∙ h)
-
-    abbrev scores : List ℤ
-    scores = map scoreOf (linesOf bytes)
-
-    sound : Sound 1 (carried scores) scores
-    unfolding freshRefusal
-    sound = record { board = refl; valid = taken .valid; room = rw length-map (omega (arith, taken .few)); deal = carries-lines scores }
-
-    abbrev its : Tally
-    its = tallyFor 1 (carried scores) scores
-
-    is-its : r .tally ≡ its
-    is-its = f .tally h ∙ lines-tally scores
-
-    pub well : wellFormed (r .tally) ≡ true
-    well = rw is-its (is-well 1 (carried scores) scores sound)
-
-    own : entriesOf (scoresIn its) ≡ entriesIn its
-    own = entries-scores its (formed its (is-well 1 (carried scores) scores sound))
-
-    tabled-table : (tableOf : List ℤ → List ℕ) → tabled tableOf (linesOf bytes) ≡ tableOf scores
-    unfolding tabled
-    tabled-table tableOf = rw (← f .refused, h)
-
-    pub sheet-table : (k : Columns) → sheetAs k bytes ≡ tableAs k (scoresIn (r .tally))
-    unfolding sheet cellSheet
-    sheet-table Matchpoints = rw is-its (tabled-table table ∙ sym (table-tally 1 (carried scores) scores sound own))
-    sheet-table Percentages = rw is-its (tabled-table cellTable ∙ sym (cell-table-tally 1 (carried scores) scores sound own))

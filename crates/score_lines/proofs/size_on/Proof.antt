@@ -1,9 +1,9 @@
--- `sheet_text::size_on` meets its contract. Assumes nothing.
+-- `score_lines::size_on` meets its contract. Assumes nothing.
 use mathlib.Core.Path.{sym, ap, _∙_}
 use borrow.Author.Needs.{needs}
-use Rattle.sheet_text.proofs.Saying.{size-none, size-long, size-zero, size-digits}
-use Rattle.sheet_text.proofs.size_on.Statement.{statement}
-use Rattle.sheet_text.proofs.size_on.Tie as tie
+use Rattle.score_lines.proofs.Saying.{size-none, size-long, size-zero, size-digits}
+use Rattle.score_lines.proofs.size_on.Statement.{statement}
+use Rattle.score_lines.proofs.size_on.Tie as tie
 
 returns : tie.Need-returns
 returns c = size-none _ (c .if1 .taken)

@@ -1,14 +1,14 @@
--- `sheet_text::said_on` meets its contract. Assumes nothing.
+-- `score_lines::said_on` meets its contract. Assumes nothing.
 use Prim.Native.Nat.{_-_}
 use native.Mathlib.Omega.{arith}
 use mathlib.Core.Path.{_≡_, sym, ap, _∙_}
 use borrow.Author.Needs.{needs}
 use lib.ListN.{length, take, drop, length-drop}
 use lib.Seq.{take-all}
-use Rattle.sheet_text.specs.Reading.{sizeOn, positiveOf, negativeOf}
-use Rattle.sheet_text.proofs.Saying.{said-none, said-minus, said-long, said-digit, said-zero}
-use Rattle.sheet_text.proofs.said_on.Statement.{statement}
-use Rattle.sheet_text.proofs.said_on.Tie as tie
+use Rattle.score_lines.specs.Reading.{sizeOn, positiveOf, negativeOf}
+use Rattle.score_lines.proofs.Saying.{said-none, said-minus, said-long, said-digit, said-zero}
+use Rattle.score_lines.proofs.said_on.Statement.{statement}
+use Rattle.score_lines.proofs.said_on.Tie as tie
 
 returns : tie.Need-returns
 returns c = said-none _ (c .if1 .taken)

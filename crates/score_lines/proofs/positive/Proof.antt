@@ -1,10 +1,10 @@
--- `sheet_text::positive` meets its contract. Assumes nothing.
+-- `score_lines::positive` meets its contract. Assumes nothing.
 use mathlib.Core.Path.{sym, ap, _∙_}
 use borrow.Author.Needs.{needs}
-use Rattle.sheet_text.specs.Reading.{positiveOf}
-use Rattle.sheet_text.proofs.Saying.{positive-over, positive-said}
-use Rattle.sheet_text.proofs.positive.Statement.{statement}
-use Rattle.sheet_text.proofs.positive.Tie as tie
+use Rattle.score_lines.specs.Reading.{positiveOf}
+use Rattle.score_lines.proofs.Saying.{positive-over, positive-said}
+use Rattle.score_lines.proofs.positive.Statement.{statement}
+use Rattle.score_lines.proofs.positive.Tie as tie
 
 enum-known-n : tie.Need-enum-known-n
 enum-known-n c = search needs

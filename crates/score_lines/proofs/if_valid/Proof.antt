@@ -1,9 +1,9 @@
--- `sheet_text::if_valid` meets its contract. Assumes nothing.
+-- `score_lines::if_valid` meets its contract. Assumes nothing.
 
 use borrow.Author.Needs.{needs}
-use Rattle.sheet_text.proofs.Saying.{valid-said, not-valid}
-use Rattle.sheet_text.proofs.if_valid.Statement.{statement}
-use Rattle.sheet_text.proofs.if_valid.Tie as tie
+use Rattle.score_lines.proofs.Saying.{valid-said, not-valid}
+use Rattle.score_lines.proofs.if_valid.Statement.{statement}
+use Rattle.score_lines.proofs.if_valid.Tie as tie
 
 valid-requires : tie.Need-valid-requires
 valid-requires c κs = search needs

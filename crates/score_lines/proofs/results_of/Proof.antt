@@ -1,11 +1,11 @@
--- `sheet_text::whole::results_of` meets its contract. The loop's invariant: `Read`. Assumes nothing.
+-- `score_lines::results_of` meets its contract. The loop's invariant: `Read`. Assumes nothing.
 use Prim.Native.Nat.{_-_}
 use native.Mathlib.Omega.{arith}
 use borrow.Author.Needs.{needs}
 use lib.ListN.{length}
-use Rattle.sheet_text.proofs.Results.{Read, begins, few, ends, end-after, end-within, bad, over, goes}
-use Rattle.sheet_text.proofs.whole.results_of.Statement.{statement}
-use Rattle.sheet_text.proofs.whole.results_of.Tie as tie
+use Rattle.score_lines.proofs.LinesRead.{Read, begins, few, ends, end-after, end-within, bad, over, goes}
+use Rattle.score_lines.proofs.results_of.Statement.{statement}
+use Rattle.score_lines.proofs.results_of.Tie as tie
 
 abbrev Inv-loop : tie.InvT-loop
 Inv-loop bytes t₀ k₀ at₀ t k at = Read bytes t k at
@@ -43,22 +43,28 @@ enum-known-score c = search needs
 enum-told : tie.Need-enum-told Inv-loop μ-loop
 enum-told c = search needs
 
+refused-at-requires : tie.Need-refused-at-requires Inv-loop μ-loop
+refused-at-requires c κs = search needs
+
 returns : tie.Need-returns Inv-loop μ-loop
 returns c =
-    bad _ _ _ _ (c .before .before .before .before .before .before .loop .inv) (c .before .before .before .before .before .loop-test .taken) _
-    (c .before .before .before .before .line-end .ensures) _ (c .before .before .said-on .ensures) (c .enum-told .given .1)
+    let d = c .before in
+    let l = d .before .before .before .before in
+    rw (c .refused-at .ensures)
+    (bad _ _ _ _ (l .before .before .loop .inv) (l .before .loop-test .taken) _ (l .line-end .ensures) _ (d .before .before .said-on .ensures)
+    (d .enum-told .given .1))
 
 with-score-requires : tie.Need-with-score-requires Inv-loop μ-loop
 with-score-requires c κs = search needs
 
-full-at-requires : tie.Need-full-at-requires Inv-loop μ-loop
-full-at-requires c κs = search needs
+refused-at-requires-2 : tie.Need-refused-at-requires-2 Inv-loop μ-loop
+refused-at-requires-2 c κs = search needs
 
 returns-2 : tie.Need-returns-2 Inv-loop μ-loop
 returns-2 c =
     let d = c .before .before .before .before .before in
     let l = d .before .before .before .before in
-    rw (c .full-at .ensures)
+    rw (c .refused-at2 .ensures)
     (over _ _ _ _ (l .before .before .loop .inv) (l .before .loop-test .taken) _ (l .line-end .ensures) _ _ (d .before .before .said-on .ensures)
     (d .score .given .1) _ (c .before .before .before .with-score .ensures)
     (λ z. c .before .if1 .taken (rw z)))
@@ -109,9 +115,10 @@ results-of-spec =
     said-on-requires
     enum-known-score
     enum-told
+    refused-at-requires
     returns
     with-score-requires
-    full-at-requires
+    refused-at-requires-2
     returns-2
     add-at
     loop-less

@@ -1,9 +1,9 @@
--- `sheet_text::whole::with_score` meets its contract. Assumes nothing.
+-- `score_lines::with_score` meets its contract. Assumes nothing.
 use mathlib.Core.Path.{_≡_}
 use borrow.Author.Needs.{needs}
 use mir.Facts.{toZ-ofZ}
-use Rattle.sheet_text.proofs.whole.with_score.Statement.{statement}
-use Rattle.sheet_text.proofs.whole.with_score.Tie as tie
+use Rattle.score_lines.proofs.with_score.Statement.{statement}
+use Rattle.score_lines.proofs.with_score.Tie as tie
 
 slice-aggregate-add : tie.Need-slice-aggregate-add
 slice-aggregate-add c = search needs

@@ -9,8 +9,8 @@ use Rattle.laws.specs.Law77.{validScore}
 use Rattle.laws.specs.Sheet.{newline, isSize, scoreOf, isScore}
 use Rattle.decimal.specs.declared.Number.{Number}
 use Rattle.decimal.specs.declared.Number.the-variants.{Is, None}
-use Rattle.sheet_text.specs.declared.Said.{Said}
-use Rattle.sheet_text.specs.declared.Said.the-variants.{Score, Nothing}
+use Rattle.score_lines.specs.declared.Said.{Said}
+use Rattle.score_lines.specs.declared.Said.the-variants.{Score, Nothing}
 
 -- how many bytes stand before the first newline
 unfoldable pub lineLength : List ℕ → ℕ
