@@ -1,5 +1,5 @@
 # `make` says what there is to do. What is built beside the proofs stands in build/, since `rt ci` removes target/; what each step printed, in build/log/.
-.PHONY: help test demo demo-proved install install-files bench fuzz outside proved clean tools rt-tool FORCE
+.PHONY: help test demo demo-proved install install-files bench fuzz fuzz-programs outside proved clean tools rt-tool FORCE
 ifndef V
 .SILENT:
 endif
@@ -9,9 +9,9 @@ help:
 	echo "               about 35 minutes on two cores, the last line is 'N passed, 0 failed'"
 	echo "make demo      proves what it shows (about 6 minutes, once), judges the records in samples/, prints a sheet and a slip, reads a game in Portable"
 	echo "               Bridge Notation, and merges two sections both ways"
-	echo "make install   headers, archives and pkg-config files under PREFIX; 5 minutes where nothing is proved yet"
+	echo "make install   headers, archives, shared libraries and pkg-config files under PREFIX; 5 minutes where nothing is proved yet"
 	echo "make bench     the speed of the proved judge, writer and merges beside Rust's; 2 minutes once built"
-	echo "make fuzz      compares on random input for FUZZ_SECONDS (60), from SEED where given"
+	echo "make fuzz      compares on random input for FUZZ_SECONDS (60), from SEED where given, and feeds the C programs for as long again"
 	echo "make clean     removes build/ and target/"
 	echo "V=1 shows each command."
 
@@ -152,6 +152,31 @@ build/section: $(ARCHIVE) $(TALLY_ARCHIVE) $(COMMON) $(WORDS_ARCHIVE) scoring/se
 build/standings: $(TALLY_ARCHIVE) $(COMMON) $(WORDS_ARCHIVE) scoring/standings.c $(PLAIN_HEADERS)
 	$(CC) $(CFLAGS) -Iinclude -Icommon scoring/standings.c $(COMMON) $(WORDS_ARCHIVE) $(TALLY_ARCHIVE) -o $@
 
+# The C programs and the headers' helpers with sanitizers, as one target of libFuzzer, which Debian's clang has. It starts from tests/corpus, and from the samples.
+CLANG = clang
+SANITIZERS = -std=c99 -g -O1 -fno-sanitize-recover=all -Iinclude -Icommon -Iterminal
+FUZZED = $(wildcard common/*.c library/*.c) $(filter-out terminal/main.c,$(wildcard terminal/*.c))
+GATE_FUZZ_SECONDS = 20
+
+build/fuzz/%.o: FORCE
+	$(call need,$(CLANG))
+	@mkdir -p $(@D)
+	$(CLANG) $(SANITIZERS) -fsanitize=address,undefined,fuzzer-no-link -Dmain=$*_main -c $(if $(filter terminal,$*),terminal/main.c,scoring/$*.c) -o $@
+
+build/fuzz/programs: build/fuzz/terminal.o build/fuzz/section.o build/fuzz/standings.o tests/fuzz/programs.c $(FUZZED) $(PLAIN_HEADERS) $(ARCHIVE) $(TALLY_ARCHIVE)
+	$(CLANG) $(SANITIZERS) -Wall -Wextra -fsanitize=address,undefined,fuzzer $(filter %.c %.o,$^) $(ARCHIVE) $(TALLY_ARCHIVE) -o $@
+
+# fuzz-programs SECONDS: a finding is kept in build/fuzz; what is learnt stays in build/fuzz/corpus.
+define fuzz-programs
+	mkdir -p build/fuzz/corpus
+	tests/fuzz/seeds.sh build/fuzz/seeds build/terminal build/section
+	$(STEP) fuzz-programs build/fuzz/programs -max_total_time=$(1) -timeout=10 -max_len=8192 -rss_limit_mb=2048 -verbosity=0 -print_final_stats=1 -artifact_prefix=$(abspath build/fuzz)/ \
+	    $(if $(SEED),-seed=$(SEED)) $(abspath build/fuzz/corpus tests/corpus build/fuzz/seeds)
+endef
+
+fuzz-programs: build/fuzz/programs build/terminal build/section
+	$(call fuzz-programs,$(FUZZ_SECONDS))
+
 # The programs under valgrind, as the scripts call them: a fault or a leak is a status that no script expects.
 build/valgrind/%: build/%
 	$(call need,valgrind)
@@ -227,7 +252,7 @@ demo-proved: rt-tool
 proved: rt-tool
 	$(RT) check-outside check $(EXPORTING) $(notdir $(TREE) $(SHEET) $(CELLS) $(SLIP) $(BEST) $(PBN) $(TEAM))
 
-outside: tools proved build/rust-built build/terminal build/section build/standings $(VALGRIND) $(SHARED) $(TREE) $(SHEET) $(CELLS) $(SLIP) $(BEST) $(PBN) $(TEAM)
+outside: tools proved build/rust-built build/terminal build/section build/standings build/fuzz/programs $(VALGRIND) $(SHARED) $(TREE) $(SHEET) $(CELLS) $(SLIP) $(BEST) $(PBN) $(TEAM)
 	mkdir -p build/work
 	$(CC) $(CFLAGS) -Iinclude tests/c/header.c $(ARCHIVE) -o build/header-c
 	$(STEP) header-c valgrind --quiet --error-exitcode=1 build/header-c
@@ -242,6 +267,7 @@ outside: tools proved build/rust-built build/terminal build/section build/standi
 	$(CXX) $(CXXFLAGS) -Iinclude -x c++ tests/c/words.c -x none $(WORDS_ARCHIVE) -o build/words-c++
 	$(STEP) words-c++ build/words-c++
 	$(STEP) samples tests/samples.sh $(RUST)/write_record
+	$(call fuzz-programs,$(GATE_FUZZ_SECONDS))
 	$(STEP) terminal tests/terminal.sh build/valgrind/terminal build/work
 	$(STEP) pbn tests/pbn.sh $(PBN) $(RUST)/write_record build/terminal build/work
 	$(STEP) pbn-rust tests/pbn.sh $(RUST)/read_pbn $(RUST)/write_record build/terminal build/work
@@ -282,8 +308,9 @@ $(CC) $(CFLAGS) -g -Iinclude tests/c/$(1).c $(2) -o build/$(1)
 	$(STEP) $(1) valgrind --quiet --error-exitcode=1 --leak-check=full build/$(1) build/blocks.$(3)
 endef
 
-# A tenth of the time each for records, records with penalty cards, contents, texts, tallies, trees, sheets, slips, endings and team matches.
-fuzz: build/rust-built $(TREE) $(SHEET) $(CELLS) $(SLIP) $(BEST) $(PBN) $(TEAM)
+# A tenth of the time each for records, records with penalty cards, contents, texts, tallies, trees, sheets, slips, endings and team matches, and as long again
+# for the C programs.
+fuzz: build/rust-built fuzz-programs $(TREE) $(SHEET) $(CELLS) $(SLIP) $(BEST) $(PBN) $(TEAM)
 	$(RUST)/records --seconds $$(($(FUZZ_SECONDS) / 10)) $(SEED_WORDS)
 	$(RUST)/penalties --seconds $$(($(FUZZ_SECONDS) / 10)) $(SEED_WORDS)
 	$(RUST)/writes --seconds $$(($(FUZZ_SECONDS) / 10)) $(SEED_WORDS)

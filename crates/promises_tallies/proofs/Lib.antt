@@ -14,3 +14,4 @@ pub mod TallyInRecord
 pub mod TallyBytes
 pub mod Demand3Bytes
 pub mod Reduction
+pub mod Hundredths

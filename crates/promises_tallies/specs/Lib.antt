@@ -6,3 +6,4 @@ pub mod TeamMatch
 pub mod TallyBytes
 pub mod Demand3Bytes
 pub mod Reduction
+pub mod Hundredths
