@@ -68,6 +68,7 @@ SEED_WORDS = $(if $(SEED),--seed $(SEED))
 test: tools
 	rm -f build/log/passed
 	$(STEP) layout rt fmt --check
+	$(STEP) labels tests/labels.py
 	$(RT) ci ci
 	$(MAKE) --no-print-directory outside
 	cat build/log/passed
