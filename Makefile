@@ -2,6 +2,7 @@
 # make demo      judges the records in samples/, prints a sheet and a slip, reads a game in Portable Bridge Notation, and merges two sections both ways
 # make install   puts headers, archives and pkg-config files under PREFIX
 # make bench     the proved judge's speed beside the Rust judge's, and that of merges
+# make python    the Python package `clubscore`, to run from the checkout; make python-test tries it
 # make fuzz      compares on random records, contents, texts, tallies, trees, sheets, slips, endings and team matches for FUZZ_SECONDS, from SEED where given
 # What is built beside the proofs stands in build/, since `rt ci` removes target/.
 .PHONY: test demo install install-files bench fuzz outside proved clean tools rt-tool FORCE
@@ -221,6 +222,18 @@ fuzz: build/rust-built $(TREE) $(SHEET) $(CELLS) $(SLIP) $(BEST) $(PBN) $(TEAM)
 
 bench: build/rust-built $(MERGES)
 	$(RUST)/bench --merges $(MERGES)
+
+# The Python package: the shared libraries stand beside its modules, so that it runs from the checkout.
+PYTHON = python3
+.PHONY: python python-test
+python: python/clubscore/libjudge.so python/clubscore/libtally.so
+
+python/clubscore/lib%.so: build/lib%.so
+	cp $< $@
+
+python-test: python
+	$(call need,$(PYTHON))
+	cd python && $(PYTHON) -W error -m unittest -q
 
 clean:
 	rm -rf build target
