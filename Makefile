@@ -86,23 +86,53 @@ build/stand-in/libjudge.a build/stand-in/libtally.a: FORCE
 	mkdir -p $(@D)
 	cp $(RUST)/liboutside.a $@
 
-build/terminal: $(ARCHIVE) $(wildcard terminal/*) include/judge.h
+# Plain C around the archives, in objects that any program or shared library can take: the words of refusals, and what the programs share.
+WORDS_ARCHIVE = build/libjudge_words.a
+COMMON = build/libcommon.a
+PLAIN_HEADERS = $(wildcard include/*.h common/*.h)
+
+build/c/%.o: %.c $(PLAIN_HEADERS)
 	$(call need,$(CC))
+	@mkdir -p $(@D)
+	$(CC) $(CFLAGS) -fPIC -Iinclude -Icommon -c $< -o $@
+
+$(WORDS_ARCHIVE): build/c/library/judge_words.o
+$(COMMON): $(patsubst %.c,build/c/%.o,$(wildcard common/*.c))
+$(WORDS_ARCHIVE) $(COMMON):
+	$(call need,$(AR))
+	@rm -f $@
+	$(AR) rcs $@ $^
+
+# The shared libraries: from the archives, with the functions that the headers declare and no other name to be seen.
+build/lib%.map: include/%.h include/judge_words.h
 	@mkdir -p build
-	$(CC) $(CFLAGS) -Iinclude terminal/*.c $(ARCHIVE) -o $@
+	(echo '{ global:'; sed -nE 's/^(uint32_t|size_t) ([a-z_]+)\(.*/    \2;/p' $^; echo 'local: *; };') >$@
+
+build/lib%.so: build/lib%.a build/lib%.map build/c/library/judge_words.o
+	$(CC) -shared -Wl,-soname,lib$*.so.$(call number,$*,MAJOR) -Wl,--version-script,build/lib$*.map -Wl,-z,defs,-z,relro,-z,now \
+	    -Wl,--whole-archive $< -Wl,--no-whole-archive build/c/library/judge_words.o -o $@
+	ln -sf lib$*.so build/lib$*.so.$(call number,$*,MAJOR)
+
+SHARED = build/libjudge.so build/libtally.so
+VALGRIND = $(addprefix build/valgrind/,terminal section standings)
+.SECONDARY: build/libjudge.map build/libtally.map
+
+build/terminal: $(ARCHIVE) $(COMMON) $(WORDS_ARCHIVE) $(wildcard terminal/*) $(PLAIN_HEADERS)
+	$(CC) $(CFLAGS) -Iinclude -Icommon terminal/*.c $(COMMON) $(WORDS_ARCHIVE) $(ARCHIVE) -o $@
 
 # From records to standings: `section` judges and tallies, `standings` merges.
-SCORING = scoring/tally_words.c terminal/input.c
+build/section: $(ARCHIVE) $(TALLY_ARCHIVE) $(COMMON) $(WORDS_ARCHIVE) scoring/section.c $(PLAIN_HEADERS)
+	$(CC) $(CFLAGS) -Iinclude -Icommon scoring/section.c $(COMMON) $(WORDS_ARCHIVE) $(ARCHIVE) $(TALLY_ARCHIVE) -o $@
 
-build/section: $(ARCHIVE) $(TALLY_ARCHIVE) $(wildcard scoring/* terminal/*) include/judge.h include/tally.h
-	$(call need,$(CC))
-	@mkdir -p build
-	$(CC) $(CFLAGS) -Iinclude -Iterminal scoring/section.c scoring/judged.c terminal/words.c $(SCORING) $(ARCHIVE) $(TALLY_ARCHIVE) -o $@
+build/standings: $(TALLY_ARCHIVE) $(COMMON) $(WORDS_ARCHIVE) scoring/standings.c $(PLAIN_HEADERS)
+	$(CC) $(CFLAGS) -Iinclude -Icommon scoring/standings.c $(COMMON) $(WORDS_ARCHIVE) $(TALLY_ARCHIVE) -o $@
 
-build/standings: $(TALLY_ARCHIVE) $(wildcard scoring/* terminal/*) include/tally.h
-	$(call need,$(CC))
-	@mkdir -p build
-	$(CC) $(CFLAGS) -Iinclude -Iterminal scoring/standings.c $(SCORING) $(TALLY_ARCHIVE) -o $@
+# The programs under valgrind, as the scripts call them: a fault or a leak is a status that no script expects.
+build/valgrind/%: build/%
+	$(call need,valgrind)
+	@mkdir -p $(@D)
+	printf '#!/bin/sh\nexec valgrind --quiet --error-exitcode=99 --leak-check=full --errors-for-leak-kinds=all %s "$$@"\n' $(abspath $<) >$@
+	chmod +x $@
 
 demo: build/terminal build/section build/standings $(SHEET) $(CELLS) $(SLIP) $(BEST) $(PBN)
 	@echo "Records that are accepted:"
@@ -128,28 +158,36 @@ demo: build/terminal build/section build/standings $(SHEET) $(CELLS) $(SLIP) $(B
 	@echo "The same game as it was exported, with tags and words that are not of the subset:"
 	@(echo 3; cat samples/pbn/ending.export) | $(PBN)
 	@for text in samples/sections/*.txt; do build/terminal -w $$text >build/work/demo/$$(basename $$text .txt) || exit 1; done
-	@build/section build/work/demo/A build/work/demo/a-*
-	@build/section build/work/demo/B build/work/demo/b-*
+	@build/section -o build/work/demo/A build/work/demo/a-*
+	@build/section -o build/work/demo/B build/work/demo/b-*
 	@echo "Two sections, A before B:"
 	@build/standings build/work/demo/A build/work/demo/B; test $$? = 1
 	@echo "And B before A:"
 	@build/standings build/work/demo/B build/work/demo/A; test $$? = 1
 
-install: $(ARCHIVE) $(TALLY_ARCHIVE)
+install: $(ARCHIVE) $(TALLY_ARCHIVE) $(WORDS_ARCHIVE) $(SHARED)
 	@$(MAKE) --no-print-directory install-files
 
 # The version is the header's.
 number = $(shell sed -n 's/^.define [A-Z]*_VERSION_$(2) //p' include/$(1).h)
 version = $(call number,$(1),MAJOR).$(call number,$(1),MINOR).0
-pc = sed 's|@PREFIX@|$(abspath $(PREFIX))|; s|@VERSION@|$(call version,$(1))|' include/$(1).pc.in >$(DESTDIR)$(PREFIX)/lib/pkgconfig/$(1).pc
+pc = sed 's|@PREFIX@|$(abspath $(PREFIX))|; s|@VERSION@|$(call version,$(2))|' include/$(1).pc.in >$(DESTDIR)$(PREFIX)/lib/pkgconfig/$(1).pc
+
+# A shared library under its whole version, and the names by which it is loaded and linked.
+shared = cp build/lib$(1).so $(DESTDIR)$(PREFIX)/lib/lib$(1).so.$(call version,$(1)) && cd $(DESTDIR)$(PREFIX)/lib && \
+    ln -sf lib$(1).so.$(call version,$(1)) lib$(1).so.$(call number,$(1),MAJOR) && ln -sf lib$(1).so.$(call number,$(1),MAJOR) lib$(1).so
 
 install-files:
 	mkdir -p $(DESTDIR)$(PREFIX)/include $(DESTDIR)$(PREFIX)/lib/pkgconfig
-	cp include/judge.h include/tally.h $(DESTDIR)$(PREFIX)/include
+	cp include/judge.h include/judge_words.h include/tally.h $(DESTDIR)$(PREFIX)/include
 	cp $(ARCHIVE) $(DESTDIR)$(PREFIX)/lib/libjudge.a
 	cp $(TALLY_ARCHIVE) $(DESTDIR)$(PREFIX)/lib/libtally.a
-	$(call pc,judge)
-	$(call pc,tally)
+	cp $(WORDS_ARCHIVE) $(DESTDIR)$(PREFIX)/lib/libjudge_words.a
+	$(call shared,judge)
+	$(call shared,tally)
+	$(call pc,judge,judge)
+	$(call pc,tally,tally)
+	$(call pc,judge_words,judge)
 
 # The Rust programs, linked with the archives.
 build/rust-built: $(ARCHIVE) $(TALLY_ARCHIVE) FORCE | tools
@@ -159,7 +197,7 @@ build/rust-built: $(ARCHIVE) $(TALLY_ARCHIVE) FORCE | tools
 proved: rt-tool
 	rt check judge writer_call best_record pbn_record tally_calls $(notdir $(TREE) $(SHEET) $(CELLS) $(SLIP) $(BEST) $(PBN) $(TEAM))
 
-outside: tools proved build/rust-built build/terminal build/section build/standings $(TREE) $(SHEET) $(CELLS) $(SLIP) $(BEST) $(PBN) $(TEAM)
+outside: tools proved build/rust-built build/terminal build/section build/standings $(VALGRIND) $(SHARED) $(TREE) $(SHEET) $(CELLS) $(SLIP) $(BEST) $(PBN) $(TEAM)
 	$(CC) $(CFLAGS) -Iinclude tests/c/header.c $(ARCHIVE) -o build/header-c
 	valgrind --quiet --error-exitcode=1 build/header-c
 	$(CXX) $(CXXFLAGS) -Iinclude -x c++ tests/c/header.c -x none $(ARCHIVE) -o build/header-c++
@@ -168,15 +206,19 @@ outside: tools proved build/rust-built build/terminal build/section build/standi
 	valgrind --quiet --error-exitcode=1 build/tally-header-c
 	$(CXX) $(CXXFLAGS) -Iinclude -x c++ tests/c/tally_header.c -x none $(TALLY_ARCHIVE) -o build/tally-header-c++
 	build/tally-header-c++
+	$(CC) $(CFLAGS) -Iinclude tests/c/words.c $(WORDS_ARCHIVE) -o build/words-c
+	valgrind --quiet --error-exitcode=1 build/words-c
+	$(CXX) $(CXXFLAGS) -Iinclude -x c++ tests/c/words.c -x none $(WORDS_ARCHIVE) -o build/words-c++
+	build/words-c++
 	tests/samples.sh $(RUST)/write_record
 	@mkdir -p build/work
-	tests/terminal.sh build/terminal build/work
+	tests/terminal.sh build/valgrind/terminal build/work
 	tests/pbn.sh $(PBN) $(RUST)/write_record build/terminal build/work
 	tests/pbn.sh $(RUST)/read_pbn $(RUST)/write_record build/terminal build/work
 	@rm -rf build/work/sections
 	@mkdir -p build/work/sections/records
 	$(RUST)/sections $(or $(SEED),87) build/work/sections
-	tests/standings.sh build/section build/standings build/terminal build/work/sections
+	tests/standings.sh build/valgrind/section build/valgrind/standings build/terminal build/work/sections
 	rm -rf build/installed
 	@$(MAKE) --no-print-directory install-files PREFIX=$(abspath build/installed)
 	tests/install.sh $(abspath build/installed) $(CC)

@@ -12,9 +12,11 @@
 #include <stddef.h>
 #include <stdint.h>
 
-/* The version of this interface. A changed signature or size raises the first number, a function more the second. */
+/* The version of this interface. What a caller can see by the arguments that it gave before raises the first number: a changed signature or size, another
+ * answer, number or place, other bytes written, also where no signature changes. A function, a helper, a name or a refusal more, for what no caller could ask
+ * before, raises the second. */
 #define JUDGE_VERSION_MAJOR 4
-#define JUDGE_VERSION_MINOR 2
+#define JUDGE_VERSION_MINOR 3
 
 #ifdef __cplusplus
 extern "C" {
@@ -44,7 +46,7 @@ uint32_t judge_record(const uint8_t *record, size_t record_len, uint8_t *answer,
                       size_t revokes_len, uint8_t *failures, size_t failures_len, uint8_t *winners, size_t winners_len);
 
 /* Writes one table record from its contents: the board, the table, the seat that was dealt card 0, 1, .. 51, the codes of the calls and
- * of the cards in their order, and a claim. Among the calls, code 38 marks the next one as an insufficient bid that was accepted.
+ * of the cards in their order, and a claim. Among the calls, JUDGE_MARK, 38, marks the next one as an insufficient bid that was accepted.
  * Among the cards, 52, a card and a bit say that a defender's card was exposed before the next card was played, 1 for deliberately; 53, a
  * kind and a suit that declarer requires (0) or forbids (1) the suit for the defender's lead that is the next card. `marked` 0 is no
  * claim, anything else a claim of `claim` tricks for declarer's side.
@@ -129,17 +131,17 @@ enum judge_refusal {
     JUDGE_NO_BOARD_OR_TABLE = 3,     /* place 0: board 0, or over 127; 1: table 0, or over 511 */
     JUDGE_NOT_THIRTEEN_CARDS = 4,    /* Law 1; place: the first such seat; 4: not 52 holders from 0 to 3 */
     JUDGE_NO_SUCH_CALL = 5,          /* call code from 39 on; place: the call */
-    JUDGE_BID_NOT_ABOVE = 6,         /* Law 27: bid without a mark not above the last bid; place: the call */
+    JUDGE_INSUFFICIENT_BID = 6,      /* Law 27: bid without a mark not above the last bid; place: the call */
     JUDGE_DOUBLE_NOT_ALLOWED = 7,    /* Law 36: double or redouble not allowed; place: the call */
     JUDGE_CALL_AFTER_END = 8,        /* Law 39; place: the call */
     JUDGE_AUCTION_NOT_OVER = 9,      /* Law 22; place: the number of calls */
     JUDGE_PLAY_COUNT = 10,           /* over 52, or over 0 when passed out; place: the play count, at most 63 */
     JUDGE_NO_SUCH_CARD = 11,         /* card code from 54 on; place: the play */
     JUDGE_CARD_NOT_HELD = 12,        /* Law 44: card dealt to another seat; place: the play */
-    JUDGE_CARDS_MISSING = 13,        /* a contract, no claim, under 52 cards; place: the play count */
+    JUDGE_PLAY_UNFINISHED = 13,      /* a contract, no claim, under 52 cards; place: the play count */
     JUDGE_CLAIM_NOT_ALLOWED = 14,    /* Law 68: claim after no card or all 52, or passed out; place: the play count */
     JUDGE_CLAIM_TOO_HIGH = 15,       /* Law 68: more tricks than are left; place: the claim, at most 15 */
-    JUDGE_NOT_ENDED = 16,            /* a padding bit is 1, or a byte follows; place 0 */
+    JUDGE_NOT_PADDING = 16,          /* a padding bit is 1, or a byte follows; place 0 */
     JUDGE_NO_ROOM_FOR_RECORD = 22,   /* judge_write_record and judge_read_pbn: the buffer is too short for the record; place 0 */
     JUDGE_CARD_ALREADY_PLAYED = 23,  /* Law 44: card that this seat has played already; place: the play */
     JUDGE_MARK_NOT_ALLOWED = 24,     /* Law 27A: mark not followed by a bid at or below a last bid; place: the mark */
@@ -148,7 +150,12 @@ enum judge_refusal {
     JUDGE_TOO_MANY_CODES = 27,       /* more than 40 exposures and choices; place: the play */
     JUDGE_NO_ENDING = 31,            /* judge_best_play alone: passed out, more than 16 cards left, or not at a trick's end; place 0 */
     JUDGE_OUTSIDE_SUBSET = 32,       /* judge_read_pbn alone: outside the subset; another dealer; Play's presence or leader; place: the line, at most 1023 */
-    JUDGE_TOO_MANY_CALLS = 33        /* judge_write_record and judge_read_pbn: more than 511 codes of calls; place 511 */
+    JUDGE_TOO_MANY_CALLS = 33,       /* judge_write_record and judge_read_pbn: more than 511 codes of calls; place 511 */
+
+    /* Other names of three of them, which the next first number leaves out. */
+    JUDGE_BID_NOT_ABOVE = JUDGE_INSUFFICIENT_BID,
+    JUDGE_CARDS_MISSING = JUDGE_PLAY_UNFINISHED,
+    JUDGE_NOT_ENDED = JUDGE_NOT_PADDING
 };
 
 /* Whether what one of the functions returned is a refusal. */
@@ -158,7 +165,31 @@ static inline int judge_is_refusal(uint32_t number) { return number >= 1024u; }
 static inline enum judge_refusal judge_refusal_of(uint32_t number) { return (enum judge_refusal)(number / 1024u); }
 static inline unsigned judge_place_of(uint32_t number) { return (unsigned)(number % 1024u); }
 
-/* Seats: N 0, E 1, S 2, W 3. Strains: clubs 0, diamonds 1, hearts 2, spades 3, notrump 4. */
+/* Numbers of the game. Seats: N 0, E 1, S 2, W 3. Suits: clubs 0, diamonds 1, hearts 2, spades 3; strains: these, and notrump 4. Ranks: the two 0, .. the ace
+ * 12. Levels: 1 to 7. Calls: pass 0, double 1, redouble 2, and the bids. */
+enum { JUDGE_PASS = 0, JUDGE_DOUBLE = 1, JUDGE_REDOUBLE = 2, JUDGE_FIRST_BID = 3 };
+
+/* Among the calls, the mark of an insufficient bid that was accepted; among the cards, the first number of an exposure and that of a choice. */
+enum { JUDGE_MARK = 38, JUDGE_EXPOSED = 52, JUDGE_CHOICE = 53 };
+
+/* What stands for no call, no card, and no strain, suit or rank; as a call it is refused with 5, as a card with 11. */
+enum { JUDGE_NONE = 63 };
+
+/* The code of a bid by its level and strain, and back. JUDGE_NONE for what is no level or strain; level 0, and JUDGE_NONE for the strain, for what is no bid. */
+static inline unsigned judge_call(unsigned level, unsigned strain) {
+    return level >= 1 && level <= 7 && strain <= 4 ? JUDGE_FIRST_BID + 5 * (level - 1) + strain : (unsigned)JUDGE_NONE;
+}
+static inline unsigned judge_level_of(unsigned call) { return call >= JUDGE_FIRST_BID && call < JUDGE_MARK ? (call - JUDGE_FIRST_BID) / 5 + 1 : 0; }
+static inline unsigned judge_strain_of(unsigned call) {
+    return call >= JUDGE_FIRST_BID && call < JUDGE_MARK ? (call - JUDGE_FIRST_BID) % 5 : (unsigned)JUDGE_NONE;
+}
+
+/* The code of a card by its suit and rank, and back. JUDGE_NONE for what is no suit or rank, or no card. */
+static inline unsigned judge_card(unsigned suit, unsigned rank) { return suit <= 3 && rank <= 12 ? 13 * suit + rank : (unsigned)JUDGE_NONE; }
+static inline unsigned judge_suit_of(unsigned card) { return card < JUDGE_EXPOSED ? card / 13 : (unsigned)JUDGE_NONE; }
+static inline unsigned judge_rank_of(unsigned card) { return card < JUDGE_EXPOSED ? card % 13 : (unsigned)JUDGE_NONE; }
+
+/* What was judged. */
 struct judge_judgement {
     unsigned board;           /* 1 to 127 */
     unsigned table;           /* 1 to 511 */
@@ -204,9 +235,9 @@ static inline struct judge_revoke judge_unpack_revoke(uint8_t byte) {
     return r;
 }
 
-/* A play against Law 50C or 50D1. Cards: 13 * suit + rank, rank 0 for the two. */
+/* A play against Law 50C or 50D1. */
 struct judge_failure {
-    unsigned trick; /* 1 to 13; 0 behind the last entry, and then all is 0 */
+    unsigned trick; /* 1 to 12, since a hand of one card has no other to play; 0 behind the last entry, and then all is 0 */
     unsigned seat;
     unsigned card;  /* the card played */
 };
@@ -228,7 +259,7 @@ static inline unsigned judge_count_failures(const uint8_t failures[JUDGE_FAILURE
     return count;
 }
 
-/* A complete trick. Cards: 13 * suit + rank, rank 0 for the two. */
+/* A complete trick. */
 struct judge_trick {
     unsigned winner; /* seat */
     unsigned card;   /* the card that won */

@@ -13,9 +13,11 @@
 #include <stdint.h>
 #include <string.h>
 
-/* The version of this interface. A changed signature or size raises the first number, a function more the second. */
+/* The version of this interface. What a caller can see by the arguments that it gave before raises the first number: a changed signature or size, another
+ * answer, number or place, other bytes written, also where no signature changes. A function, a helper, a name or a refusal more, for what no caller could ask
+ * before, raises the second. */
 #define TALLY_VERSION_MAJOR 1
-#define TALLY_VERSION_MINOR 0
+#define TALLY_VERSION_MINOR 1
 
 #ifdef __cplusplus
 extern "C" {
@@ -79,17 +81,22 @@ static inline enum tally_refusal tally_refusal_of(uint32_t number) { return (enu
 static inline unsigned tally_place_of(uint32_t number) { return (unsigned)(number % 1024u); }
 
 /* Merges the block `a` into the block `inout`, both of 398 bytes and apart: `inout` becomes the merge of the two, and where that is refused
- * 398 zeros. It has the shape that reduction libraries ask for: inout = a op inout.
+ * 398 zeros. Returns what tally_merge returned. */
+static inline uint32_t tally_merge_into(const uint8_t *a, uint8_t *inout) {
+    uint8_t merged[TALLY_BYTES];
+    uint32_t number = tally_merge(a, TALLY_BYTES, inout, TALLY_BYTES, merged, sizeof merged);
+    if (number != 0) memset(merged, 0, sizeof merged);
+    memcpy(inout, merged, sizeof merged);
+    return number;
+}
+
+/* The same in the shape that reduction libraries ask for: inout = a op inout.
  *
  * What lets one declare it commutative and associative is the theorem `reduction` of crates/promises/proofs/Reduction.antt, stated in
  * crates/promises/specs/Reduction.antt: for all byte strings, tallies or not, in any order and any bracketing, the bytes left are the same
  * (`commutes`, `associates`), and 398 zeros absorb (`zeros-first`, `zeros-second`). So a refused merge cannot be lost on the way: the
  * whole reduction is 398 zeros. The empty tally of the board changes nothing (`empty`). */
-static inline void tally_reduce(const uint8_t *a, uint8_t *inout) {
-    uint8_t merged[TALLY_BYTES];
-    if (tally_merge(a, TALLY_BYTES, inout, TALLY_BYTES, merged, sizeof merged) != 0) memset(merged, 0, sizeof merged);
-    memcpy(inout, merged, sizeof merged);
-}
+static inline void tally_reduce(const uint8_t *a, uint8_t *inout) { tally_merge_into(a, inout); }
 
 /* The board of a tally. */
 static inline unsigned tally_board(const uint8_t tally[TALLY_BYTES]) { return tally[0]; }

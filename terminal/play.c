@@ -1,52 +1,43 @@
 #include "play.h"
 
-#include "judge.h"
+#include "letters.h"
+#include "record.h"
 #include "words.h"
 
-/* Bits of the record from `next` on. */
-struct bits {
-    const uint8_t *record;
-    size_t next;
-};
+enum { CARDS_OF_TRICK = 4 };
 
-static unsigned take(struct bits *bits, unsigned width) {
-    unsigned value = 0;
-    for (; width > 0; width--, bits->next++) value = value << 1 | (bits->record[bits->next / 8] >> (7 - bits->next % 8) & 1u);
-    return value;
+/* An exposure as ?C7 or !C7, a choice as +C or -C. */
+static void print_code(FILE *out, unsigned code, struct bits *bits) {
+    if (code == JUDGE_EXPOSED) {
+        unsigned card = take_bits(bits, CODE_BITS);
+        fprintf(out, " %c", take_bits(bits, EXPOSURE_BITS) ? '!' : '?');
+        print_card(out, card);
+    } else {
+        const char *kind = take_bits(bits, CHOICE_KIND_BITS) ? " -" : " +";
+        fprintf(out, "%s%c", kind, SUITS[take_bits(bits, SUIT_BITS)]);
+    }
 }
 
 /* The next card, with the exposures and choices before it. */
 static void print_next(FILE *out, struct bits *bits) {
-    unsigned number = take(bits, 6);
-    for (; number >= 52; number = take(bits, 6)) {
-        if (number == 52) {
-            unsigned card = take(bits, 6);
-            fprintf(out, " %c", take(bits, 1) ? '!' : '?');
-            print_card(out, card);
-        } else {
-            const char *kind = take(bits, 2) ? " -" : " +";
-            fprintf(out, "%s%c", kind, suit_letter(take(bits, 2)));
-        }
-    }
+    unsigned number = take_bits(bits, CODE_BITS);
+    for (; number >= JUDGE_EXPOSED; number = take_bits(bits, CODE_BITS)) print_code(out, number, bits);
     fprintf(out, " ");
     print_card(out, number);
 }
 
-void print_play(FILE *out, const uint8_t *record, const uint8_t *answer, const uint8_t *winners) {
-    /* Board, table and deal are 120 bits. */
-    struct bits bits = {record, 120};
-    unsigned calls = take(&bits, 9);
-    bits.next += 6 * (size_t)calls;
-    unsigned cards = take(&bits, 6), leader = (judge_unpack(answer).declarer + 1) % 4;
+void print_play(FILE *out, const uint8_t *record, const struct judged *judged) {
+    unsigned cards, leader = (judged->judgement.declarer + 1) % 4;
+    struct bits bits = cards_of(record, &cards);
     for (unsigned k = 0; k < cards; k++) {
-        if (k % 4 == 0) fprintf(out, "%4u %s:", k / 4 + 1, seat_word(leader));
+        if (k % CARDS_OF_TRICK == 0) fprintf(out, "%4u %c:", k / CARDS_OF_TRICK + 1, SEATS[leader]);
         print_next(out, &bits);
-        if (k % 4 < 3) continue;
-        struct judge_trick trick = judge_unpack_trick(winners, k / 4 + 1);
-        fprintf(out, ", %s wins with ", seat_word(trick.winner));
+        if (k % CARDS_OF_TRICK < CARDS_OF_TRICK - 1) continue;
+        struct judge_trick trick = judge_unpack_trick(judged->winners, k / CARDS_OF_TRICK + 1);
+        fprintf(out, ", %c wins with ", SEATS[trick.winner]);
         print_card(out, trick.card);
         fprintf(out, "\n");
         leader = trick.winner;
     }
-    if (cards % 4 > 0) fprintf(out, ", not complete\n");
+    if (cards % CARDS_OF_TRICK > 0) fprintf(out, ", not complete\n");
 }

@@ -5,9 +5,11 @@
 #include <stdint.h>
 #include <stdio.h>
 
+#include "judged.h"
+
 /* A line for each trick: its number, who led to it, the cards in order of play, and who won with which card:
  * `   3 N: H2 C2 H4 S5, E wins with C2`; of a last trick without four cards `, not complete`. Exposures and choices stand before the card
- * as samples/README.md writes them. `answer` and `winners` are what judge_record left of the record. */
-void print_play(FILE *out, const uint8_t *record, const uint8_t *answer, const uint8_t *winners);
+ * as samples/README.md writes them. The record is the one that was accepted so. */
+void print_play(FILE *out, const uint8_t *record, const struct judged *judged);
 
 #endif

@@ -5,7 +5,7 @@
 
 #include "contents.h"
 #include "judge.h"
-#include "words.h"
+#include "refusal.h"
 
 static enum status write_contents(const char *shown, const struct contents *c) {
     uint8_t record[JUDGE_RECORD_MOST];
@@ -19,22 +19,27 @@ static enum status write_contents(const char *shown, const struct contents *c) {
     return fwrite(record, 1, number, stdout) == number ? ACCEPTED : NOT_READ;
 }
 
+/* `FILE, line 2: board x7: not a number`. */
+static void say_fault(const char *shown, const struct fault *fault) {
+    fprintf(stderr, "%s", shown);
+    if (fault->line > 0) fprintf(stderr, ", line %lu:", fault->line);
+    if (fault->keyword) fprintf(stderr, fault->word ? " %s %s:" : " %s:", fault->keyword, fault->word);
+    fprintf(stderr, " %s\n", fault->what);
+}
+
 enum status write_file(const char *name) {
-    const char *shown;
-    FILE *file = open_input(name, &shown);
-    struct contents contents;
-    unsigned long line;
+    struct bytes text;
+    struct contents contents = {0};
     enum status status = NOT_READ;
-    if (!file) return NOT_READ;
-    const char *fault = read_contents(file, &contents, &line);
-    if (!fault)
-        status = write_contents(shown, &contents);
-    else if (line > 0)
-        fprintf(stderr, "%s, line %lu: %s\n", shown, line, fault);
-    else
-        fprintf(stderr, "%s %s\n", shown, fault);
+    if (read_input(name, BINARY, &text)) {
+        struct fault fault = read_contents(&text, &contents);
+        if (fault.what)
+            say_fault(shown_name(name), &fault);
+        else
+            status = write_contents(shown_name(name), &contents);
+    }
+    free(text.at);
     free(contents.calls.at);
     free(contents.cards.at);
-    close_input(file);
     return status;
 }

@@ -75,7 +75,7 @@ for text in samples/*.txt; do
     "$terminal" -w "$text" >"$work/written" 2>"$work/said"
     status=$?
     case $text in
-    samples/refused-short.txt) same "$text" "$(cat "$work/said"; echo $status)" "$text, line 9: a record is written whole
+    samples/refused-short.txt) same "$text" "$(cat "$work/said"; echo $status)" "$text, line 9: missing: a record is written whole
 2" ;;
     samples/refused-*) same "$text" "$(cat "$work/said"; echo $status)" "$(sed "s|$hex|$text|" "${text%.txt}.expected")
 1" ;;
@@ -101,23 +101,23 @@ echo '$a claim 16' | refused_words "a claim when passed out" ": refused, after 0
 1"
 echo '$a trick SA SJ S8 S5' | refused_words "cards when passed out" ": refused, play count 4: over 52, or cards for a passed-out board
 1"
-echo 's/hand E JT9/hand E AT9/' | refused_words "a card in two hands" ", line 5: a card is in two hands
+echo 's/hand E JT9/hand E AT9/' | refused_words "a card in two hands" ", line 5: hand AT9.543.AKQ2.876: a card is in two hands
 2"
-echo 's/^calls.*/calls P P 8C/' | refused_words "no call" ", line 8: no such call
+echo 's/^calls.*/calls P P 8C/' | refused_words "no call" ", line 8: calls 8C: no such call
 2"
-echo '$a trick SA S1' | refused_words "no card" ", line 9: no such card
+echo '$a trick SA S1' | refused_words "no card" ", line 9: trick S1: no such card
 2"
-echo '$a trick ?S1 SA' | refused_words "no card exposed" ", line 9: no such card
+echo '$a trick ?S1 SA' | refused_words "no card exposed" ", line 9: trick ?S1: no such card
 2"
-echo '$a trick !SA +NT SA' | refused_words "no suit required" ", line 9: no such suit
+echo '$a trick !SA +NT SA' | refused_words "no suit required" ", line 9: trick +NT: no such suit
 2"
-echo '$a trick - SA' | refused_words "no suit forbidden" ", line 9: no such suit
+echo '$a trick - SA' | refused_words "no suit forbidden" ", line 9: trick -: no such suit
 2"
 echo '$a trick ?S9' | refused_words "an exposure without a card" ": refused, play 0: choice of a lead not open, or no card after an exposure or choice
 1"
-echo 's/^board.*/board/' | refused_words "no number" ", line 2: a number is missing
+echo 's/^board.*/board/' | refused_words "no number" ", line 2: board: a number is missing
 2"
-echo '$a tricks SA' | refused_words "an unknown line" ", line 9: this says nothing of a record
+echo '$a tricks SA' | refused_words "an unknown line" ", line 9: tricks: this says nothing of a record
 2"
 same "two files to write" "$("$terminal" -w samples/claim.txt samples/slam.txt 2>/dev/null; echo $?)" "2"
 sed 's/^claim.*/claim 16/' samples/claim.txt >"$work/changed.txt"

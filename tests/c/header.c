@@ -55,15 +55,15 @@ static void unpacks_a_revoke(void) {
     expect("suit", (long)r.suit, 3);
 }
 
-/* Trick 1, E, D3: 0001 01 001110 0000; trick 13, W, SA: 1101 11 110011 0000; trick 8, N, C2: 1000 00 000000 0000. */
+/* Trick 1, E, D3: 0001 01 001110 0000; trick 12, W, SA: 1100 11 110011 0000; trick 8, N, C2: 1000 00 000000 0000. */
 static void unpacks_failures(void) {
-    uint8_t bytes[JUDGE_FAILURE_BYTES] = {0x14, 0xE0, 0xDF, 0x30};
+    uint8_t bytes[JUDGE_FAILURE_BYTES] = {0x14, 0xE0, 0xCF, 0x30};
     struct judge_failure f = judge_unpack_failure(bytes, 0);
     expect("trick", (long)f.trick, 1);
     expect("seat", (long)f.seat, 1);
     expect("card", (long)f.card, 14);
     f = judge_unpack_failure(bytes, 1);
-    expect("trick", (long)f.trick, 13);
+    expect("trick", (long)f.trick, 12);
     expect("seat", (long)f.seat, 3);
     expect("card", (long)f.card, 51);
     f = judge_unpack_failure(bytes, 2);
@@ -88,10 +88,49 @@ static void unpacks_tricks(void) {
     expect("last card", (long)t.card, 0);
 }
 
+/* Bids and cards by docs/RULES.md, 2, there and back, and what is none. */
+static void numbers_the_game(void) {
+    unsigned code = 3;
+    for (unsigned level = 1; level <= 7; level++)
+        for (unsigned strain = 0; strain <= 4; strain++, code++) {
+            expect("a bid", (long)judge_call(level, strain), (long)code);
+            expect("its level", (long)judge_level_of(code), (long)level);
+            expect("its strain", (long)judge_strain_of(code), (long)strain);
+        }
+    expect("7 notrump", (long)judge_call(7, 4), 37);
+    for (unsigned card = 0; card < 52; card++) {
+        expect("a card", (long)judge_card(card / 13, card % 13), (long)card);
+        expect("its suit", (long)judge_suit_of(card), (long)(card / 13));
+        expect("its rank", (long)judge_rank_of(card), (long)(card % 13));
+    }
+    static const unsigned NO_LEVELS[] = {0, 8, 63, UINT32_MAX}, NO_STRAINS[] = {5, 63, UINT32_MAX};
+    for (size_t k = 0; k < 4; k++) expect("no level", (long)judge_call(NO_LEVELS[k], 0), 63);
+    for (size_t k = 0; k < 3; k++) expect("no strain", (long)judge_call(1, NO_STRAINS[k]), 63);
+    static const unsigned NO_BIDS[] = {0, 1, 2, 38, 63, UINT32_MAX};
+    for (size_t k = 0; k < 6; k++) {
+        expect("the level of no bid", (long)judge_level_of(NO_BIDS[k]), 0);
+        expect("the strain of no bid", (long)judge_strain_of(NO_BIDS[k]), 63);
+    }
+    expect("no suit", (long)judge_card(4, 0), 63);
+    expect("the greatest suit", (long)judge_card(UINT32_MAX, 0), 63);
+    expect("no rank", (long)judge_card(0, 13), 63);
+    expect("the suit of no card", (long)judge_suit_of(52), 63);
+    expect("the rank of no card", (long)judge_rank_of(UINT32_MAX), 63);
+    expect("the mark", JUDGE_MARK, 38);
+    expect("an exposure", JUDGE_EXPOSED, 52);
+    expect("a choice", JUDGE_CHOICE, 53);
+    expect("pass, double, redouble", 100 * JUDGE_PASS + 10 * JUDGE_DOUBLE + JUDGE_REDOUBLE, 12);
+}
+
 static void unpacks_a_number(void) {
-    expect("refusal of 6151", judge_refusal_of(6151), JUDGE_BID_NOT_ABOVE);
+    expect("refusal of 6151", judge_refusal_of(6151), JUDGE_INSUFFICIENT_BID);
     expect("place of 6151", (long)judge_place_of(6151), 7);
-    expect("the last refusal of the table", JUDGE_NOT_ENDED, 16);
+    expect("a low bid", JUDGE_INSUFFICIENT_BID, 6);
+    expect("cards missing", JUDGE_PLAY_UNFINISHED, 13);
+    expect("the last refusal of the table", JUDGE_NOT_PADDING, 16);
+    expect("another name of 6", JUDGE_BID_NOT_ABOVE, 6);
+    expect("another name of 13", JUDGE_CARDS_MISSING, 13);
+    expect("another name of 16", JUDGE_NOT_ENDED, 16);
     expect("no room", JUDGE_NO_ROOM_FOR_RECORD, 22);
     expect("a card again", JUDGE_CARD_ALREADY_PLAYED, 23);
     expect("a wrong mark", JUDGE_MARK_NOT_ALLOWED, 24);
@@ -108,7 +147,7 @@ static void unpacks_a_number(void) {
     expect("a length is no refusal", judge_is_refusal(1023), 0);
     expect("a refusal", judge_is_refusal(3 * 1024), 1);
     expect("the version's first number", JUDGE_VERSION_MAJOR, 4);
-    expect("the version's second number", JUDGE_VERSION_MINOR >= 2, 1);
+    expect("the version's second number", JUDGE_VERSION_MINOR >= 3, 1);
 }
 
 /* N all clubs, E diamonds, S hearts, W spades, four passes; and a byte that is no part of it. */
@@ -329,6 +368,7 @@ int main(void) {
     unpacks_a_revoke();
     unpacks_failures();
     unpacks_tricks();
+    numbers_the_game();
     unpacks_a_number();
     judges_the_example();
     judges_a_failure();

@@ -73,14 +73,16 @@ static void asks(void) {
 }
 
 static void reduces(void) {
-    uint8_t first[TALLY_BYTES], zeros[TALLY_BYTES] = {0};
+    uint8_t first[TALLY_BYTES], b2[TALLY_BYTES], zeros[TALLY_BYTES] = {0};
     fill();
+    expect("a tally of board 8", (long)tally_fresh(8, b2, sizeof b2), 0);
     memcpy(first, b, sizeof first);
     tally_reduce(a, first);
     tally_reduce(b, a);
     expect("the same in both orders", memcmp(a, first, sizeof a), 0);
     expect("another board", (long)tally_fresh(8, b, sizeof b), 0);
-    tally_reduce(b, a);
+    expect("an empty tally merged", (long)tally_merge_into(b, b2), 0);
+    expect("two boards merged", (long)tally_merge_into(b, a), 18 * 1024);
     expect("zeros for a refusal", memcmp(a, zeros, sizeof a), 0);
     tally_reduce(first, a);
     expect("which absorb", memcmp(a, zeros, sizeof a), 0);
@@ -106,7 +108,13 @@ static void refuses(void) {
     expect("its place", (long)tally_place_of(4 * 1024 + 4), 4);
 }
 
+static void has_a_version(void) {
+    expect("the version's first number", TALLY_VERSION_MAJOR, 1);
+    expect("the version's second number", TALLY_VERSION_MINOR >= 1, 1);
+}
+
 int main(void) {
+    has_a_version();
     unpacks_a_deal();
     merges();
     asks();

@@ -49,7 +49,7 @@ fn main() {
         for (k, section) in sections.iter_mut().enumerate() {
             for n in 0..board.results[k] {
                 let other = usize::from(board.fouled_in == Some(k) && n == 2);
-                section.play(&mut random, board.number, &deals[board.deals[k] ^ other]);
+                section.play(&mut random, board.number, n as u64 + 1, &deals[board.deals[k] ^ other]);
             }
         }
     }
@@ -72,8 +72,11 @@ fn main() {
 }
 
 impl Section {
-    fn play(&mut self, random: &mut Random, board: u8, deal: &[u64]) {
-        let record = making::with_deal(random, u64::from(board), deal).parts.bytes();
+    /// A record of a table that has none of this board yet.
+    fn play(&mut self, random: &mut Random, board: u8, table: u64, deal: &[u64]) {
+        let mut parts = making::with_deal(random, u64::from(board), deal).parts;
+        parts.table = table;
+        let record = parts.bytes();
         let score = score_of(&record);
         let deal: Deal = std::array::from_fn(|card| deal[card] as u8);
         self.results.entry(board).or_default().push((score, deal));

@@ -1,4 +1,4 @@
-/* What became of a record; the worst of them is the exit status. */
+/* What became of what was given; the worst of all is the exit status. */
 #ifndef STATUS_H
 #define STATUS_H
 

@@ -1,0 +1,32 @@
+#include "tallies.h"
+
+#include <string.h>
+
+void meet_board(struct tallies *tallies, unsigned board) {
+    if (tallies->met[board]) return;
+    tallies->met[board] = 1;
+    tally_fresh(board, tallies->of[board], TALLY_BYTES);
+}
+
+int is_zeros(const uint8_t tally[TALLY_BYTES]) {
+    for (size_t k = 0; k < TALLY_BYTES; k++)
+        if (tally[k] != 0) return 0;
+    return 1;
+}
+
+void mark_refused(uint8_t tally[TALLY_BYTES], unsigned board) {
+    memset(tally, 255, TALLY_BYTES);
+    tally[0] = (uint8_t)board;
+}
+
+uint32_t add_result(struct tallies *tallies, unsigned board, int score, const uint8_t deal[TALLY_DEAL_BYTES]) {
+    uint8_t holders[TALLY_HOLDERS], more[TALLY_BYTES];
+    meet_board(tallies, board);
+    tally_unpack_deal(deal, holders);
+    uint32_t number = tally_add(tallies->of[board], TALLY_BYTES, score, holders, sizeof holders, more, sizeof more);
+    if (number == 0)
+        memcpy(tallies->of[board], more, sizeof more);
+    else
+        mark_refused(tallies->of[board], board);
+    return number;
+}
