@@ -22,6 +22,7 @@ ENDINGS = 32000
 PBNS = 120000
 BLOCKS = 20000
 PBN_BLOCKS = 5000
+PBN_GAMES = 3000
 
 # The archive that judges, writes, tells best play and reads Portable Bridge Notation, a member for each; build/stand-in/libjudge.a has the Rust ones
 # behind the same interface, as build/stand-in/libtally.a has the Rust tally behind that of build/libtally.a.
@@ -273,8 +274,10 @@ python: python/clubscore/libjudge.so python/clubscore/libtally.so
 python/clubscore/lib%.so: build/lib%.so
 	cp $< $@
 
-python-test: python
+python-test: python build/rust-built
 	$(call need,$(PYTHON))
+	@mkdir -p build/work
+	$(RUST)/games $(or $(SEED),114) $(PBN_GAMES) >build/work/games
 	cd python && $(PYTHON) -W error -m unittest -q
 
 clean:

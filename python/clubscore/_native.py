@@ -99,12 +99,13 @@ def given(value: Bytes) -> bytes:
 
 def numbers(values: Iterable[int]) -> bytes:
     """A sequence of numbers as an array of `uint8_t` of its own, apart from whatever was given; what a byte cannot hold becomes 255, which no list of a record has."""
-    if isinstance(values, (bytes, bytearray)):
-        return bytes(bytearray(values))
     if isinstance(values, (str, Mapping)) or not hasattr(values, "__len__") or not hasattr(values, "__getitem__"):
         raise TypeError(f"a sequence of numbers expected, not {type(values).__name__}")
-    whole = map(operator.index, values)
-    return bytes(bytearray(number if 0 <= number <= _MOST_U8 else _MOST_U8 for number in whole))
+    listed = list(values)
+    try:
+        return bytes(listed)
+    except (ValueError, OverflowError):
+        return bytes(number if 0 <= number <= _MOST_U8 else _MOST_U8 for number in map(operator.index, listed))
 
 
 def apart(block: bytes) -> bytes:

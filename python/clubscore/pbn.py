@@ -109,7 +109,7 @@ class _Contents:
             return self._written([], None)
         if MARK in self.calls:
             return self._by_contents()
-        if len(self.places) == 4 * _ROWS:
+        if sum(card is not None for card, _ in self.places) == 4 * _ROWS:
             return self._by_text(self._rows())
         return self._ended_early() if self.places else self._passed_out()
 
