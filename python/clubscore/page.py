@@ -16,6 +16,8 @@ _POLICY = "default-src 'none'; style-src 'unsafe-inline'; base-uri 'none'; form-
 _FIELDS = {"NS": "North–South", "EW": "East–West", "all": "All pairs"}
 _COLUMNS = (("Table", "num"), ("NS", ""), ("EW", ""), ("Contract", ""), ("Lead", ""), ("Tricks", "num"), ("NS score", "num"), ("NS MP", "num"), ("EW MP", "num"), ("NS %", "num"), ("EW %", "num"))
 _AWAY = "–"
+#: From so many results on a browser draws what is looked at alone.
+_MANY = 3000
 
 
 def write_page(results: str, out: str) -> int:
@@ -53,8 +55,12 @@ def _head(results: dict) -> str:
     return (
         '<!DOCTYPE html>\n<html lang="en">\n<head>\n<meta charset="utf-8">\n'
         f'<meta http-equiv="Content-Security-Policy" content="{_POLICY}">\n<meta name="viewport" content="width=device-width, initial-scale=1">\n'
-        f'<title>Results</title>\n<style>\n{style}</style>\n</head>\n<body id="top">\n<header><h1>Results</h1><p>{" · ".join(counts)}</p></header>\n'
+        f'<title>Results</title>\n<style>\n{style}</style>\n</head>\n<body id="top"{_class("many" if _results(boards) > _MANY else "")}>\n<header><h1>Results</h1><p>{" · ".join(counts)}</p></header>\n'
     )
+
+
+def _results(boards: List[dict]) -> int:
+    return sum(len(board["rows"]) for board in boards)
 
 
 def _count(number: int, thing: str) -> str:

@@ -94,4 +94,4 @@ def _hand(board: int, seat: str, hand: str) -> str:
 
 
 def _ranks(ranks: str) -> str:
-    return "".join(_RANKS.get(rank, rank) for rank in ranks) or _NONE
+    return "\u2009".join(_RANKS.get(rank, rank) for rank in ranks) or _NONE
