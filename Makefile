@@ -24,7 +24,7 @@ BLOCKS = 20000
 PBN_BLOCKS = 5000
 PBN_GAMES = 3000
 
-# The archive that judges, writes, tells best play and reads Portable Bridge Notation, a member for each; build/stand-in/libjudge.a has the Rust ones
+# The archive that judges, writes, tells best play, reads Portable Bridge Notation, and knows slips and boards, a member for each; build/stand-in/libjudge.a has the Rust ones
 # behind the same interface, as build/stand-in/libtally.a has the Rust tally behind that of build/libtally.a.
 ARCHIVE = build/libjudge.a
 TALLY_ARCHIVE = build/libtally.a
@@ -67,8 +67,9 @@ SOURCES = crates.txt $(shell find crates -name '*.rt' -o -name '*.antt')
 target/staticlib/lib%.a: $(SOURCES) | rt-tool
 	rt staticlib $*
 
-# Judge, writer, best play and the reader of texts are compiled apart: docs/PERFORMANCE.md says why.
-build/libjudge.a: target/staticlib/libjudge.a target/staticlib/libwriter_call.a target/staticlib/libbest_record.a target/staticlib/libpbn_record.a
+# Judge, writer, best play, the reader of texts, slips and boards are compiled apart: docs/PERFORMANCE.md says why.
+JUDGE_MEMBERS = judge writer_call best_record pbn_record slip_text board_call
+build/libjudge.a: $(JUDGE_MEMBERS:%=target/staticlib/lib%.a)
 	$(call need,$(AR))
 	@mkdir -p build
 	@rm -f $@
@@ -196,7 +197,7 @@ build/rust-built: $(ARCHIVE) $(TALLY_ARCHIVE) FORCE | tools
 
 # What is tried from outside, proved all at once, so that crates that do not depend on each other are proved side by side.
 proved: rt-tool
-	rt check judge writer_call best_record pbn_record tally_calls $(notdir $(TREE) $(SHEET) $(CELLS) $(SLIP) $(BEST) $(PBN) $(TEAM))
+	rt check $(JUDGE_MEMBERS) tally_calls $(notdir $(TREE) $(SHEET) $(CELLS) $(SLIP) $(BEST) $(PBN) $(TEAM))
 
 outside: tools proved build/rust-built build/terminal build/section build/standings $(VALGRIND) $(SHARED) $(TREE) $(SHEET) $(CELLS) $(SLIP) $(BEST) $(PBN) $(TEAM)
 	$(CC) $(CFLAGS) -Iinclude tests/c/header.c $(ARCHIVE) -o build/header-c
@@ -224,7 +225,7 @@ outside: tools proved build/rust-built build/terminal build/section build/standi
 	@$(MAKE) --no-print-directory install-files PREFIX=$(abspath build/installed)
 	tests/install.sh $(abspath build/installed) $(CC)
 	$(CARGO) test --release --offline --locked --quiet --test examples --test refusals --test faults --test write_refusals --test write_faults \
-	    --test penalty_cards --test penalty_bounds --test penalty_faults --test pbn_texts --test pbn_faults --test tally_bytes --test tally_faults
+	    --test penalty_cards --test penalty_bounds --test penalty_faults --test pbn_texts --test pbn_faults --test tally_bytes --test tally_faults --test boards
 	$(RUST)/records --count $(RECORDS) $(SEED_WORDS)
 	$(RUST)/penalties --count $(PENALTIES) $(SEED_WORDS)
 	$(RUST)/writes --count $(WRITES) $(SEED_WORDS)

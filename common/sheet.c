@@ -11,30 +11,29 @@ unsigned count_rows(const uint8_t tally[TALLY_BYTES]) {
 }
 
 uint32_t take_row(const uint8_t tally[TALLY_BYTES], unsigned place, struct row *row) {
-    uint8_t holders[TALLY_HOLDERS], points[TALLY_POINTS_BYTES] = {0};
+    uint8_t holders[TALLY_HOLDERS], points[TALLY_POINTS_BYTES] = {0}, shares[TALLY_SHARES_BYTES] = {0};
     tally_unpack_deal(tally + 1, holders);
     row->score = tally_score_at(tally, place);
     row->count = tally_count_at(tally, place);
     uint32_t number = tally_matchpoints(tally, TALLY_BYTES, row->score, holders, sizeof holders, points, sizeof points);
+    if (number == 0) number = tally_hundredths(tally, TALLY_BYTES, row->score, holders, sizeof holders, shares, sizeof shares);
     row->points = tally_unpack_points(points);
+    row->shares = tally_unpack_shares(shares);
     return number;
 }
 
-/* A percentage with two decimals, rounded half up from the exact fraction; ALONE where there is no other result. */
-static void print_share(FILE *out, unsigned points, unsigned most) {
-    if (most == 0) {
+/* A percentage with two decimals; ALONE where there is no other result. */
+static void print_share(FILE *out, unsigned hundredths) {
+    if (hundredths == TALLY_ALONE_SHARE)
         fprintf(out, " ALONE");
-        return;
-    }
-    unsigned hundredths = (20000u * points + most) / (2u * most);
-    fprintf(out, " %u.%02u", hundredths / 100u, hundredths % 100u);
+    else
+        fprintf(out, " %u.%02u", hundredths / 100u, hundredths % 100u);
 }
 
 static void print_row(FILE *out, const struct row *row) {
-    unsigned most = row->points.ns + row->points.ew;
     fprintf(out, "%d %u %u %u", row->score, row->count, row->points.ns, row->points.ew);
-    print_share(out, row->points.ns, most);
-    print_share(out, row->points.ew, most);
+    print_share(out, row->shares.ns);
+    print_share(out, row->shares.ew);
     fprintf(out, "\n");
 }
 

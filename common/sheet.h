@@ -7,11 +7,12 @@
 
 #include "tally.h"
 
-/* A row: a score, how many results have it, and the matchpoints of one of them. */
+/* A row: a score, how many results have it, and the matchpoints and the shares of one of them. */
 struct row {
     int score;
     unsigned count;
     struct tally_points points;
+    struct tally_shares shares;
 };
 
 /* How many rows a tally has. */

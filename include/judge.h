@@ -1,8 +1,8 @@
-/* The judge and the writer of table records of duplicate bridge, what best play would give from one, and a record from a game in
- * Portable Bridge Notation, for C99 and C++.
+/* The judge and the writer of table records of duplicate bridge, what best play would give from one, where its score comes from, a record from a game in
+ * Portable Bridge Notation, and the dealer and the vulnerability of a board, for C99 and C++.
  *
- * The library libjudge.a has four functions, judge_record, judge_write_record, judge_best_play and judge_read_pbn. docs/RULES.md has
- * the record's layout and the rules.
+ * The library has seven functions: judge_record, judge_write_record, judge_best_play, judge_read_pbn, judge_slip, judge_dealer and judge_vulnerable.
+ * docs/RULES.md has the record's layout and the rules.
  *
  * Proved, of the library's source: what this header says that they return, write and leave, for every record, all contents, every text
  * and every buffer. Not proved, and tried by tests: the compiler's work on that source, and all else in this header, which is plain C. */
@@ -24,6 +24,9 @@ extern "C" {
 
 /* The least lengths of the four buffers, and a number of bytes that no accepted record exceeds: this too is proved. */
 enum { JUDGE_ANSWER_BYTES = 7, JUDGE_REVOKE_BYTES = 48, JUDGE_FAILURE_BYTES = 52, JUDGE_WINNER_BYTES = 26, JUDGE_RECORD_MOST = 505 };
+
+/* No slip has more bytes. */
+enum { JUDGE_SLIP_MOST = 72 };
 
 /* Judges one table record.
  *
@@ -110,6 +113,26 @@ uint32_t judge_best_play(const uint8_t *record, size_t record_len);
  * text. A null pointer beside the length 0 is taken. Nothing is kept between calls. */
 uint32_t judge_read_pbn(const uint8_t *text, size_t text_len, uint32_t table, uint8_t *record, size_t record_len);
 
+/* Writes the slip of a record, which says where its score comes from: the items that Law 77 grants the contract with its tricks after Law 64, a line each, and
+ * their sum, signed for NS, as docs/RULES.md, 14, has it: `TRICKS -80`, .. `SUM -280`, each line ended by a newline, no zero behind them. A passed-out board
+ * has `SUM 0` alone.
+ *
+ * Returns the number of bytes written, at most JUDGE_SLIP_MOST: they stand at the front of `text`, and the bytes behind them stay as they were. Otherwise returns
+ * refusal * 1024 + place, and no byte is changed: what judge_record refuses the record with, given buffers that are long enough; then 22, for a text buffer that
+ * is too short. So a number from 1024 on is a refusal, and one below it is not.
+ *
+ * No record and no length is trusted. What C has to see to is true lengths, and a buffer that is writable and apart from the record. A null pointer beside the
+ * length 0 is taken. Nothing is kept between calls. */
+uint32_t judge_slip(const uint8_t *record, size_t record_len, uint8_t *text, size_t text_len);
+
+/* Law 2: the dealer of a board, a seat from 0 to 3; and its vulnerable sides, JUDGE_NONE_VULNERABLE to JUDGE_BOTH_VULNERABLE. A number that is not 1 to 127 is
+ * refused with 3, place 0. */
+uint32_t judge_dealer(uint32_t board);
+uint32_t judge_vulnerable(uint32_t board);
+
+/* The vulnerable sides. */
+enum { JUDGE_NONE_VULNERABLE = 0, JUDGE_NS_VULNERABLE = 1, JUDGE_EW_VULNERABLE = 2, JUDGE_BOTH_VULNERABLE = 3 };
+
 /* The refusals by number. Calls and plays count from 0, lines from 1; a mark counts among the calls, and takes no turn; an exposure or a choice does not
  * count among the plays, and its place is that of the card that it stands before.
  *
@@ -142,7 +165,7 @@ enum judge_refusal {
     JUDGE_CLAIM_NOT_ALLOWED = 14,    /* Law 68: claim after no card or all 52, or passed out; place: the play count */
     JUDGE_CLAIM_TOO_HIGH = 15,       /* Law 68: more tricks than are left; place: the claim, at most 15 */
     JUDGE_NOT_PADDING = 16,          /* a padding bit is 1, or a byte follows; place 0 */
-    JUDGE_NO_ROOM_FOR_RECORD = 22,   /* judge_write_record and judge_read_pbn: the buffer is too short for the record; place 0 */
+    JUDGE_NO_ROOM_FOR_RECORD = 22,   /* judge_write_record, judge_read_pbn and judge_slip: the buffer is too short for what is written; place 0 */
     JUDGE_CARD_ALREADY_PLAYED = 23,  /* Law 44: card that this seat has played already; place: the play */
     JUDGE_MARK_NOT_ALLOWED = 24,     /* Law 27A: mark not followed by a bid at or below a last bid; place: the mark */
     JUDGE_EXPOSURE_NOT_ALLOWED = 25, /* Law 48: exposed is no card in a defender's hand, or is faced already; place: the play */

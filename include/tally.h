@@ -1,6 +1,7 @@
 /* Matchpoint tallies of duplicate bridge in bytes, for C99 and C++.
  *
- * The library libtally.a has six functions on tallies: fresh ones, a result added, two merged, matchpoints, and cells of a page of results.
+ * The library has seven functions on tallies: fresh ones, a result added, two merged, matchpoints, shares in hundredths of a per cent, and cells of a page of
+ * results.
  * docs/RULES.md, 11, has the rules and the layout of the 398 bytes.
  *
  * Proved, of the library's source: what this header says that they return, write and leave, for every argument and every buffer; that every
@@ -27,6 +28,7 @@ extern "C" {
  * record, zero where there is no result; 128 scores of two bytes, two's complement, the most significant first; 128 counts of a byte. The
  * points are four bytes, two for NS and two for EW; a cell is nine. */
 enum { TALLY_BYTES = 398, TALLY_POINTS_BYTES = 4, TALLY_CELL_BYTES = 9, TALLY_DEAL_BYTES = 13, TALLY_PLACES = 128, TALLY_HOLDERS = 52 };
+enum { TALLY_SHARES_BYTES = 4, TALLY_ALONE_SHARE = 65535 };
 
 /* Each function returns 0 if the call is accepted, and then has written its bytes at the front of the last buffer; those past them stay as
  * they were. Otherwise it returns refusal * 1024 + place, and no byte of the buffer is changed. What is lent as const is never changed.
@@ -62,10 +64,15 @@ uint32_t tally_award(uint32_t percent, uint8_t *cell, size_t cell_len);
 uint32_t tally_cell(const uint8_t *tally, size_t tally_len, int32_t score, const uint8_t *holders, size_t holders_len, uint8_t *cell,
                     size_t cell_len);
 
+/* The shares of both sides in one result with that score, four bytes, two for NS and two for EW: hundredths of a per cent of the matchpoints that a result can
+ * have, 0 to 10000, each rounded half up from the exact fraction; TALLY_ALONE_SHARE each where the board has one result: 17, 20, 4, 28, 21. */
+uint32_t tally_hundredths(const uint8_t *tally, size_t tally_len, int32_t score, const uint8_t *holders, size_t holders_len,
+                          uint8_t *shares, size_t shares_len);
+
 /* The refusals by number; each but 4 has place 0. */
 enum tally_refusal {
     TALLY_ACCEPTED = 0,
-    TALLY_BUFFER_TOO_SHORT = 1,    /* the last buffer is under 398, 4 or 9 bytes */
+    TALLY_BUFFER_TOO_SHORT = 1,    /* the last buffer is under 398, 4 or 9 bytes, as many as are written */
     TALLY_NO_BOARD = 3,            /* a fresh tally of a board that is not 1 to 127 */
     TALLY_NOT_THIRTEEN_CARDS = 4,  /* Law 1; place: the first such seat; 4: not 52 holders from 0 to 3 */
     TALLY_MALFORMED = 17,          /* a tally that is not 398 bytes long, or not as described */
@@ -125,6 +132,19 @@ static inline struct tally_points tally_unpack_points(const uint8_t points[TALLY
     p.ns = (unsigned)points[0] << 8 | points[1];
     p.ew = (unsigned)points[2] << 8 | points[3];
     return p;
+}
+
+struct tally_shares {
+    unsigned ns; /* hundredths of a per cent, or TALLY_ALONE_SHARE */
+    unsigned ew;
+};
+
+/* The four bytes of shares, apart. */
+static inline struct tally_shares tally_unpack_shares(const uint8_t shares[TALLY_SHARES_BYTES]) {
+    struct tally_shares s;
+    s.ns = (unsigned)shares[0] << 8 | shares[1];
+    s.ew = (unsigned)shares[2] << 8 | shares[3];
+    return s;
 }
 
 enum tally_cell_kind { TALLY_PLAYED = 0, TALLY_AWARDED = 1, TALLY_ALONE = 2 };

@@ -60,10 +60,10 @@ cp tests/c/installed_tally.c "$prefix/merge.c" || exit 1
 cp tests/c/words.c "$prefix/words.c" || exit 1
 cd "$prefix" || exit 1
 build judge program
-exports judge 'judge_best_play judge_read_pbn judge_record judge_words judge_write_record'
+exports judge 'judge_best_play judge_dealer judge_read_pbn judge_record judge_slip judge_vulnerable judge_words judge_write_record'
 compile words words-judge "$libraries"
 build tally merge
-exports tally 'judge_words tally_add tally_award tally_cell tally_fresh tally_matchpoints tally_merge'
+exports tally 'judge_words tally_add tally_award tally_cell tally_fresh tally_hundredths tally_matchpoints tally_merge'
 compile words words-tally "$libraries"
 read_flags judge_words judge
 compile words words "$libraries"

@@ -68,6 +68,23 @@ same "a missing file" "$("$terminal" "$work/none" 2>&1; echo $?)" "$work/none ca
 same "a missing file among others" "$("$terminal" "$work/none" samples/claim.hex 2>/dev/null; echo $?)" "$good
 2"
 same "an unknown option" "$("$terminal" -q 2>/dev/null; echo $?)" "2"
+help=$("$terminal" --help)
+for forms in "-w -x" "-x -w" "-b -x" "-xb" "-b -w" "-v -w" "-wv"; do
+    # shellcheck disable=SC2086
+    same "two forms, $forms" "$("$terminal" $forms samples/claim.hex 2>&1 >/dev/null; echo $?)" "$help
+2"
+done
+same "one form twice" "$("$terminal" -x -x samples/claim.hex; echo $?)" "$good
+0"
+cp samples/claim.hex "$work/-x"
+same "a file named as an option" "$(cd "$work" && "$OLDPWD/$terminal" -x -- -x; echo $?)" "$good
+0"
+same "help" "$("$terminal" -x --help 2>/dev/null | head -1; "$terminal" --help 2>&1 >/dev/null; echo $?)" "usage: terminal [-v] [-b | -x] [FILE]...
+0"
+same "version" "$("$terminal" --version 2>&1; echo $?)" "terminal (judge $(sed -n 's/^#define JUDGE_VERSION_M[AJINOR]* //p' include/judge.h | paste -sd .))
+0"
+same "a full device" "$("$terminal" samples/claim.hex 2>&1 >/dev/full; echo $?)" "what is due cannot be written
+2"
 
 # Each sample written from its words: its own bytes, or the words of its refusal. A record that lacks bytes cannot be written.
 for text in samples/*.txt; do
@@ -115,6 +132,43 @@ echo '$a trick - SA' | refused_words "no suit forbidden" ", line 9: trick -: no 
 2"
 echo '$a trick ?S9' | refused_words "an exposure without a card" ": refused, play 0: choice of a lead not open, or no card after an exposure or choice
 1"
+echo 's/^board.*/board x7/' | refused_words "no digits" ", line 2: board x7: not a number
+2"
+echo 's/^board.*/board 7 8/' | refused_words "a word behind a number" ", line 2: board 8: a word too many
+2"
+echo 's/^table.*/table -1/' | refused_words "a number with a sign" ", line 3: table -1: not a number
+2"
+echo '$a board 7' | refused_words "a second board" ", line 9: board 7: said twice
+2"
+echo '$a table 7' | refused_words "a second table" ", line 9: table 7: said twice
+2"
+{ echo '$a claim 3'; echo '$a claim 3'; } | refused_words "a second claim" ", line 10: claim 3: said twice
+2"
+echo '$a claim' | refused_words "a claim without a number" ", line 9: claim: a number is missing
+2"
+echo '$a claim three' | refused_words "a claim in letters" ", line 9: claim three: not a number
+2"
+echo 's/^hand N.*/hand N AKQ.876.543JT92/' | refused_words "a suit missing" ", line 4: hand AKQ.876.543JT92: a suit is missing
+2"
+echo 's/^hand N.*/hand N AKQ.876.543.JT9.2/' | refused_words "a fifth suit" ", line 4: hand AKQ.876.543.JT9.2: a hand has four suits
+2"
+echo 's/^hand N.*/hand N AKQ.876.543.JT1/' | refused_words "no rank" ", line 4: hand AKQ.876.543.JT1: no such card
+2"
+echo 's/^hand N.*/& & /' | refused_words "words behind a hand" ", line 4: hand hand: a word too many
+2"
+echo 's/^hand N.*/hand N/' | refused_words "a hand without cards" ", line 4: hand N: the cards are missing
+2"
+echo 's/^hand N.*/hand/' | refused_words "a hand without a seat" ", line 4: hand: no such seat
+2"
+echo 's/^hand N/hand NE/' | refused_words "a seat of two letters" ", line 4: hand NE: no such seat
+2"
+echo 's/^hand E/hand N/' | refused_words "a seat twice" ", line 5: hand N: said twice
+2"
+echo 's/^calls.*/calls P P P PX/' | refused_words "a call and more" ", line 8: calls PX: no such call
+2"
+printf 'board 7\0' >"$work/changed.txt"
+same "a zero among the words" "$("$terminal" -w "$work/changed.txt" 2>&1; echo $?)" "$work/changed.txt is no text
+2"
 echo 's/^board.*/board/' | refused_words "no number" ", line 2: board: a number is missing
 2"
 echo '$a tricks SA' | refused_words "an unknown line" ", line 9: tricks: this says nothing of a record

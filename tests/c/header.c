@@ -1,5 +1,5 @@
 /* Tries include/judge.h as C99 and as C++: the helpers on bytes worked out by hand, null pointers, short buffers, the order of the
- * checks, the passed-out board of docs/RULES.md, judged, written and read, a record with a penalty card, and best play from an ending. */
+ * checks, the passed-out board of docs/RULES.md, judged, written and read, a record with a penalty card, best play from an ending, slips and Law 2. */
 #include "judge.h"
 
 #include <stdio.h>
@@ -362,6 +362,34 @@ static void reads_a_text(void) {
     expect("the buffer after a refused text", memcmp(record, all_fives, sizeof record), 0);
 }
 
+/* Law 2, and where the score of the passed-out board and of the low card come from: 1 club made with six overtricks is 20, 120 and 50. */
+static void knows_boards_and_slips(void) {
+    static const char SLIP[] = "TRICKS 20\nOVERTRICKS 120\nPARTSCORE 50\nSUM 190\n";
+    static uint8_t text[80];
+    const size_t length = sizeof SLIP - 1;
+    expect("the dealer of board 1", (long)judge_dealer(1), 0);
+    expect("the dealer of board 127", (long)judge_dealer(127), 2);
+    expect("no board", (long)judge_dealer(0), 3 * 1024);
+    expect("board 128", (long)judge_dealer(128), 3 * 1024);
+    expect("none vulnerable", (long)judge_vulnerable(1), JUDGE_NONE_VULNERABLE);
+    expect("NS vulnerable", (long)judge_vulnerable(2), JUDGE_NS_VULNERABLE);
+    expect("EW vulnerable", (long)judge_vulnerable(3), JUDGE_EW_VULNERABLE);
+    expect("both vulnerable", (long)judge_vulnerable(4), JUDGE_BOTH_VULNERABLE);
+    expect("board 256", (long)judge_vulnerable(256), 3 * 1024);
+    memset(text, 0x55, sizeof text);
+    expect("a slip", (long)judge_slip(LOW_CARD, 26, text, length), (long)length);
+    expect("its bytes", memcmp(text, SLIP, length), 0);
+    expect("the bytes behind it", memcmp(text + length, all_fives, sizeof text - length), 0);
+    memset(text, 0x55, sizeof text);
+    expect("a buffer that is too short", (long)judge_slip(LOW_CARD, 26, text, length - 1), 22 * 1024);
+    expect("a refused record", (long)judge_slip(LOW_CARD, 25, text, sizeof text), 2 * 1024);
+    expect("a refused record and no buffer", (long)judge_slip(LOW_CARD, 25, NULL, 0), 2 * 1024);
+    expect("no buffer", (long)judge_slip(LOW_CARD, 26, NULL, 0), 22 * 1024);
+    expect("a null record for a slip", (long)judge_slip(NULL, 0, text, sizeof text), 2 * 1024);
+    expect("the buffer after refusals", memcmp(text, all_fives, sizeof text), 0);
+    expect("the longest slip", JUDGE_SLIP_MOST, 72);
+}
+
 int main(void) {
     unpacks_the_answer();
     unpacks_the_largest();
@@ -380,5 +408,6 @@ int main(void) {
     refuses_to_write();
     asks_best_play();
     reads_a_text();
+    knows_boards_and_slips();
     return failed;
 }

@@ -12,17 +12,19 @@ static uint32_t make(size_t kind, uint32_t argument, const uint8_t *a, size_t a_
     case 2: return tally_merge(a, a_len, b, b_len, out, room);
     case 3: return tally_matchpoints(a, a_len, score, b, b_len, out, room);
     case 4: return tally_award(argument, out, room);
-    default: return tally_cell(a, a_len, score, b, b_len, out, room);
+    case 5: return tally_cell(a, a_len, score, b, b_len, out, room);
+    default: return tally_hundredths(a, a_len, score, b, b_len, out, room);
     }
 }
 
-static const size_t NEEDED[] = {TALLY_BYTES, TALLY_BYTES, TALLY_BYTES, TALLY_POINTS_BYTES, TALLY_CELL_BYTES, TALLY_CELL_BYTES};
+static const size_t NEEDED[] = {TALLY_BYTES,      TALLY_BYTES,      TALLY_BYTES,       TALLY_POINTS_BYTES,
+                                TALLY_CELL_BYTES, TALLY_CELL_BYTES, TALLY_SHARES_BYTES};
 
 static int one(FILE *file, size_t kind) {
     size_t a_len = number(file, 2), b_len = number(file, 2), room = number(file, 2);
     uint32_t argument = number(file, 4), due = number(file, 4);
     uint8_t *a = block(a_len), *b = block(b_len), *out = block(room);
-    int equal = kind < 6 && fread(a, 1, a_len, file) == a_len && fread(b, 1, b_len, file) == b_len;
+    int equal = kind < sizeof NEEDED / sizeof NEEDED[0] && fread(a, 1, a_len, file) == a_len && fread(b, 1, b_len, file) == b_len;
     if (make(kind, argument, a, a_len, b, b_len, out, room) != due) equal = 0;
     if (equal && due == 0) equal = same(file, out, NEEDED[kind]);
     free(a);

@@ -72,6 +72,22 @@ static void asks(void) {
     expect("alone", (long)tally_kind_of(cell), TALLY_ALONE);
 }
 
+static void shares(void) {
+    uint8_t bytes[TALLY_SHARES_BYTES];
+    fill();
+    expect("shares", (long)tally_hundredths(a, sizeof a, 420, holders, sizeof holders, bytes, sizeof bytes), 0);
+    struct tally_shares s = tally_unpack_shares(bytes);
+    expect("of NS: 1 of 4", (long)s.ns, 2500);
+    expect("of EW", (long)s.ew, 7500);
+    expect("shares alone", (long)tally_hundredths(b, sizeof b, -50, holders, sizeof holders, bytes, sizeof bytes), 0);
+    s = tally_unpack_shares(bytes);
+    expect("of NS alone", (long)s.ns, TALLY_ALONE_SHARE);
+    expect("of EW alone", (long)s.ew, TALLY_ALONE_SHARE);
+    expect("a buffer of 3", (long)tally_hundredths(a, sizeof a, 420, holders, sizeof holders, bytes, 3), 1024);
+    expect("no such score", (long)tally_hundredths(a, sizeof a, 430, holders, sizeof holders, bytes, sizeof bytes), 21 * 1024);
+    expect("null slices", (long)tally_hundredths(NULL, 0, 420, NULL, 0, bytes, sizeof bytes), 17 * 1024);
+}
+
 static void reduces(void) {
     uint8_t first[TALLY_BYTES], b2[TALLY_BYTES], zeros[TALLY_BYTES] = {0};
     fill();
@@ -118,6 +134,7 @@ int main(void) {
     unpacks_a_deal();
     merges();
     asks();
+    shares();
     reduces();
     refuses();
     return failed;

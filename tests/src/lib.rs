@@ -4,6 +4,7 @@
 
 pub mod auction;
 pub mod best;
+pub mod boards;
 pub mod compare;
 pub mod contents;
 pub mod damage;

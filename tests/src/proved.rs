@@ -1,4 +1,4 @@
-//! The proved judge, writer, best play and reader of Portable Bridge Notation, as the archive exports them.
+//! The proved judge, writer, best play, reader of Portable Bridge Notation, slip and Law 2, as the archive exports them.
 use crate::contents::Contents;
 use crate::judge::Lent;
 
@@ -31,6 +31,9 @@ extern "C" {
     ) -> u32;
     fn judge_best_play(record: *const u8, record_len: usize) -> u32;
     fn judge_read_pbn(text: *const u8, text_len: usize, table: u32, record: *mut u8, record_len: usize) -> u32;
+    fn judge_slip(record: *const u8, record_len: usize, text: *mut u8, text_len: usize) -> u32;
+    fn judge_dealer(board: u32) -> u32;
+    fn judge_vulnerable(board: u32) -> u32;
 }
 
 /// The proved judge on slices. Rust's slices keep what its C interface trusts: true lengths and no overlap.
@@ -80,4 +83,18 @@ pub fn best(record: &[u8]) -> u32 {
 /// The proved reader of Portable Bridge Notation on slices.
 pub fn read_pbn(text: &[u8], table: u32, record: &mut [u8]) -> u32 {
     unsafe { judge_read_pbn(text.as_ptr(), text.len(), table, record.as_mut_ptr(), record.len()) }
+}
+
+/// The proved slip.
+pub fn slip(record: &[u8], text: &mut [u8]) -> u32 {
+    unsafe { judge_slip(record.as_ptr(), record.len(), text.as_mut_ptr(), text.len()) }
+}
+
+/// The proved dealer and vulnerable sides of a board.
+pub fn dealer(board: u32) -> u32 {
+    unsafe { judge_dealer(board) }
+}
+
+pub fn vulnerable(board: u32) -> u32 {
+    unsafe { judge_vulnerable(board) }
 }

@@ -32,9 +32,18 @@ extern "C" {
         cell: *mut u8,
         cell_len: usize,
     ) -> u32;
+    fn tally_hundredths(
+        tally: *const u8,
+        tally_len: usize,
+        score: i32,
+        holders: *const u8,
+        holders_len: usize,
+        shares: *mut u8,
+        shares_len: usize,
+    ) -> u32;
 }
 
-pub const CALLS: Calls = Calls { fresh, add, merge, matchpoints, award, cell };
+pub const CALLS: Calls = Calls { fresh, add, merge, matchpoints, award, cell, hundredths };
 
 // Rust's slices keep what the C interface trusts: true lengths and no overlap with what is written.
 
@@ -60,4 +69,8 @@ fn award(percent: u32, cell: &mut [u8]) -> u32 {
 
 fn cell(tally: &[u8], score: i32, holders: &[u8], cell: &mut [u8]) -> u32 {
     unsafe { tally_cell(tally.as_ptr(), tally.len(), score, holders.as_ptr(), holders.len(), cell.as_mut_ptr(), cell.len()) }
+}
+
+fn hundredths(tally: &[u8], score: i32, holders: &[u8], shares: &mut [u8]) -> u32 {
+    unsafe { tally_hundredths(tally.as_ptr(), tally.len(), score, holders.as_ptr(), holders.len(), shares.as_mut_ptr(), shares.len()) }
 }

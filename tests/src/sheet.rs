@@ -51,15 +51,19 @@ pub fn sheet(input: &[u8]) -> String {
     table(input, "NS-SCORE COUNT NS-MP EW-MP", |points, _| points.to_string())
 }
 
-/// A percentage to two decimals, rounded half up from the exact fraction: half of the divisor or more left over rounds up.
-pub fn share(points: u32, results: usize) -> String {
+/// Hundredths of a per cent, rounded half up from the exact fraction: half of the divisor or more left over rounds up. None where a result is alone.
+pub fn hundredths(points: u32, results: usize) -> Option<u32> {
     if results == 1 {
-        return "ALONE".to_string();
+        return None;
     }
     let most = 2 * (results as u32 - 1);
     let (whole, rest) = (10_000 * points / most, 10_000 * points % most);
-    let rounded = whole + u32::from(2 * rest >= most);
-    format!("{}.{:02}", rounded / 100, rounded % 100)
+    Some(whole + u32::from(2 * rest >= most))
+}
+
+/// A percentage to two decimals.
+pub fn share(points: u32, results: usize) -> String {
+    hundredths(points, results).map_or("ALONE".to_string(), |n| format!("{}.{:02}", n / 100, n % 100))
 }
 
 /// What the program `cells` writes for an input.

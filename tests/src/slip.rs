@@ -30,6 +30,17 @@ pub fn slip(record: &[u8]) -> Slip {
     Slip { items, text, side, refused: false }
 }
 
+/// The slip as C asks for it, over the front of a buffer: its length, the judge's refusal, or 22 where it does not fit.
+pub fn written(record: &[u8], out: &mut [u8]) -> u32 {
+    if let Err(number) = read(record) {
+        return number;
+    }
+    let text = slip(record).text;
+    let Some(front) = out.get_mut(..text.len()) else { return 22 * 1024 };
+    front.copy_from_slice(text.as_bytes());
+    text.len() as u32
+}
+
 /// The items that are not nothing, declarer's side and the score, by the seven bytes of the answer.
 fn explained(judgement: &Judgement) -> (Vec<(&'static str, i32)>, Option<u8>, i32) {
     let mut bytes = [0; 8];

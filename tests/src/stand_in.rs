@@ -60,6 +60,23 @@ pub unsafe extern "C" fn judge_read_pbn(text: *const u8, text_len: usize, table:
     crate::pbn::read(given(text, text_len), table, lent(record, record_len))
 }
 
+/// # Safety
+/// As for `judge_record`.
+#[no_mangle]
+pub unsafe extern "C" fn judge_slip(record: *const u8, record_len: usize, text: *mut u8, text_len: usize) -> u32 {
+    crate::slip::written(given(record, record_len), lent(text, text_len))
+}
+
+#[no_mangle]
+pub extern "C" fn judge_dealer(board: u32) -> u32 {
+    crate::boards::dealer(board)
+}
+
+#[no_mangle]
+pub extern "C" fn judge_vulnerable(board: u32) -> u32 {
+    crate::boards::vulnerable(board)
+}
+
 unsafe fn given<'a>(at: *const u8, length: usize) -> &'a [u8] {
     if at.is_null() {
         &[]
@@ -136,4 +153,18 @@ pub unsafe extern "C" fn tally_cell(
     cell_len: usize,
 ) -> u32 {
     tally_calls::cell(given(tally, tally_len), score, given(holders, holders_len), lent(cell, cell_len))
+}
+
+/// # Safety
+#[no_mangle]
+pub unsafe extern "C" fn tally_hundredths(
+    tally: *const u8,
+    tally_len: usize,
+    score: i32,
+    holders: *const u8,
+    holders_len: usize,
+    shares: *mut u8,
+    shares_len: usize,
+) -> u32 {
+    tally_calls::hundredths(given(tally, tally_len), score, given(holders, holders_len), lent(shares, shares_len))
 }

@@ -1,10 +1,11 @@
-//! The six calls on tallies in bytes, as C makes them, by docs/RULES.md.
+//! The seven calls on tallies in bytes, as C makes them, by docs/RULES.md.
+use crate::sheet;
 use crate::tally::{Cell, Refusal, Tally, TALLY_BYTES};
 
 /// A score with the holders of the cards, asked about or added, beside a tally.
 pub type Asked = fn(tally: &[u8], score: i32, holders: &[u8], out: &mut [u8]) -> u32;
 
-/// A set of the six calls: the ones here, the proved ones, or ones with a fault.
+/// A set of the calls: the ones here, the proved ones, or ones with a fault.
 #[derive(Clone, Copy)]
 pub struct Calls {
     pub fresh: fn(board: u32, out: &mut [u8]) -> u32,
@@ -13,9 +14,10 @@ pub struct Calls {
     pub matchpoints: Asked,
     pub award: fn(percent: u32, cell: &mut [u8]) -> u32,
     pub cell: Asked,
+    pub hundredths: Asked,
 }
 
-pub const CALLS: Calls = Calls { fresh, add, merge, matchpoints, award, cell };
+pub const CALLS: Calls = Calls { fresh, add, merge, matchpoints, award, cell, hundredths };
 
 /// Puts what is answered into a buffer that needs so many bytes; 1 where it is shorter, before the call is made.
 fn put<const N: usize>(out: &mut [u8], answer: impl FnOnce() -> Result<[u8; N], Refusal>) -> u32 {
@@ -77,5 +79,15 @@ pub fn cell(tally: &[u8], score: i32, holders: &[u8], cell: &mut [u8]) -> u32 {
         let tally = read(tally)?;
         let (ns, _) = tally.matchpoints(score, holders)?;
         Ok(cell_bytes(Cell::of(ns, tally.results())))
+    })
+}
+
+/// The shares of both sides, two bytes each.
+pub fn hundredths(tally: &[u8], score: i32, holders: &[u8], shares: &mut [u8]) -> u32 {
+    put::<4>(shares, || {
+        let tally = read(tally)?;
+        let (ns, ew) = tally.matchpoints(score, holders)?;
+        let [ns, ew] = [ns, ew].map(|points| sheet::hundredths(points, tally.results()).unwrap_or(65_535));
+        Ok((ns << 16 | ew).to_be_bytes())
     })
 }

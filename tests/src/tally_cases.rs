@@ -12,9 +12,10 @@ pub enum Call {
     Matchpoints(Vec<u8>, i32, Vec<u8>),
     Award(u32),
     Cell(Vec<u8>, i32, Vec<u8>),
+    Hundredths(Vec<u8>, i32, Vec<u8>),
 }
 
-pub const KINDS: usize = 6;
+pub const KINDS: usize = 7;
 
 impl Call {
     /// Its number in a file of cases.
@@ -26,6 +27,7 @@ impl Call {
             Call::Matchpoints(..) => 3,
             Call::Award(_) => 4,
             Call::Cell(..) => 5,
+            Call::Hundredths(..) => 6,
         }
     }
 
@@ -33,7 +35,7 @@ impl Call {
     pub fn needs(&self) -> usize {
         match self {
             Call::Fresh(_) | Call::Add(..) | Call::Merge(..) => TALLY_BYTES,
-            Call::Matchpoints(..) => 4,
+            Call::Matchpoints(..) | Call::Hundredths(..) => 4,
             Call::Award(_) | Call::Cell(..) => 9,
         }
     }
@@ -43,7 +45,7 @@ impl Call {
         match self {
             Call::Fresh(n) | Call::Award(n) => (*n, [&[], &[]]),
             Call::Merge(a, b) => (0, [a, b]),
-            Call::Add(t, s, h) | Call::Matchpoints(t, s, h) | Call::Cell(t, s, h) => (*s as u32, [t, h]),
+            Call::Add(t, s, h) | Call::Matchpoints(t, s, h) | Call::Cell(t, s, h) | Call::Hundredths(t, s, h) => (*s as u32, [t, h]),
         }
     }
 
@@ -60,6 +62,7 @@ impl Call {
             Call::Matchpoints(_, score, _) => (calls.matchpoints)(a, *score, b, out),
             Call::Award(percent) => (calls.award)(*percent, out),
             Call::Cell(_, score, _) => (calls.cell)(a, *score, b, out),
+            Call::Hundredths(_, score, _) => (calls.hundredths)(a, *score, b, out),
         }
     }
 }
@@ -80,7 +83,7 @@ impl Cases {
     }
 
     pub fn call(&self, random: &mut Random) -> Call {
-        match random.below(20) {
+        match random.below(24) {
             0 => Call::Fresh(self.board(random)),
             1 => Call::Award(self.percent(random)),
             2..=5 => {
@@ -91,6 +94,10 @@ impl Cases {
             12..=15 => {
                 let (tally, score, holders) = self.asked(random);
                 Call::Matchpoints(tally, score, holders)
+            }
+            16..=19 => {
+                let (tally, score, holders) = self.asked(random);
+                Call::Hundredths(tally, score, holders)
             }
             _ => {
                 let (tally, score, holders) = self.asked(random);

@@ -11,9 +11,10 @@ const SAME_DEALS: u64 = 1_000;
 /// Bytes on each side of a slice that no call may change.
 const AROUND: usize = 24;
 /// The calls by name, and the refusals of each, all with place 0 but for 4.
-const NAMES: [&str; KINDS] = ["fresh", "add", "merge", "matchpoints", "award", "cell"];
-const REFUSALS: [&[u32]; KINDS] =
-    [&[1, 3], &[1, 4, 17, 19, 20, 28], &[1, 17, 18, 19, 28], &[1, 4, 17, 20, 21, 28], &[1, 20], &[1, 4, 17, 20, 21, 28]];
+const NAMES: [&str; KINDS] = ["fresh", "add", "merge", "matchpoints", "award", "cell", "hundredths"];
+const REFUSALS: [&[u32]; KINDS] = [&[1, 3], &[1, 4, 17, 19, 20, 28], &[1, 17, 18, 19, 28], &ASKED, &[1, 20], &ASKED, &ASKED];
+/// The refusals where a score of a tally is asked about.
+const ASKED: [u32; 6] = [1, 4, 17, 20, 21, 28];
 
 pub struct TallyTrial {
     random: Random,

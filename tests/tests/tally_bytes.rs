@@ -151,3 +151,30 @@ fn reductions() {
     }
     assert!(accepted > 100, "only {accepted} reductions of three that are not refused");
 }
+
+/// Shares by hand: 450 over 420, 420 and -50 is 6 of 6 matchpoints; 420 is 3 of 6; three results of 10, 0 and -10, then 17 results with one above the others:
+/// 1 of 32 is 3.125 per cent, which is 313 hundredths half up, and 31 of 32 is 96.875, 9688.
+#[test]
+fn shares() {
+    for (name, calls) in BOTH {
+        let shares = |scores: &[i32], s| {
+            let bytes = written(4, |out| (calls.hundredths)(&tally(&calls, 7, scores, &suits()), s, &suits(), out));
+            [u16::from_be_bytes([bytes[0], bytes[1]]), u16::from_be_bytes([bytes[2], bytes[3]])]
+        };
+        let four = [420, -50, 450, 420];
+        assert_eq!([450, 420, -50].map(|s| shares(&four, s)), [[10_000, 0], [5_000, 5_000], [0, 10_000]], "{name}");
+        let mut seventeen: Vec<i32> = (0..15).map(|k| 100 + 10 * k).collect();
+        seventeen.extend([0, 0]);
+        assert_eq!(shares(&seventeen, 0), [313, 9_688], "{name}: 1 of 32 matchpoints");
+        assert_eq!(shares(&[10, 0, -10, 20], 0), [3_333, 6_667], "{name}: a third");
+        assert_eq!(shares(&[420], 420), [65_535, 65_535], "{name}: alone");
+        let t = tally(&calls, 7, &four, &suits());
+        let refusal = |n, t: &[u8], s, h: &[u8]| refused(n, |out| (calls.hundredths)(t, s, h, out));
+        assert_eq!(refusal(3, &[], 5, &[]), (1, 0), "{name}: a short buffer first");
+        assert_eq!(refusal(4, &t[..397], 5, &[]), (17, 0), "{name}: then the tally");
+        assert_eq!(refusal(4, &t, 5, &[]), (20, 0), "{name}: then the score");
+        assert_eq!(refusal(4, &t, 430, &[]), (4, 4), "{name}: then the deal");
+        assert_eq!(refusal(4, &t, 430, &exchanged()), (28, 0), "{name}: then another deal");
+        assert_eq!(refusal(4, &t, 430, &suits()), (21, 0), "{name}: then a score that no result has");
+    }
+}

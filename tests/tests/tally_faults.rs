@@ -1,5 +1,5 @@
 //! A comparison that cannot fail shows nothing: calls on tallies in bytes with one fault each, every one of which it has to find.
-use outside::tally_calls::{add, award, cell, fresh, matchpoints, merge, Calls, CALLS};
+use outside::tally_calls::{add, award, cell, fresh, hundredths, matchpoints, merge, Calls, CALLS};
 use outside::tally_trial::TallyTrial;
 
 /// Calls after which the fault has to be found.
@@ -41,6 +41,33 @@ fn faults() -> Vec<(&'static str, Calls)> {
                     let number = matchpoints(t, s, h, out);
                     if number == 0 {
                         out[..4].reverse();
+                    }
+                    number
+                },
+                ..CALLS
+            },
+        ),
+        (
+            "says 0 of a result alone",
+            Calls {
+                hundredths: |t, s, h, out| {
+                    let number = hundredths(t, s, h, out);
+                    if number == 0 && out[..4] == [255; 4] {
+                        out[..4].fill(0);
+                    }
+                    number
+                },
+                ..CALLS
+            },
+        ),
+        (
+            "makes the shares of EW what is left of 10000",
+            Calls {
+                hundredths: |t, s, h, out| {
+                    let number = hundredths(t, s, h, out);
+                    if number == 0 && out[..2] != [255; 2] {
+                        let left = 10_000 - u16::from_be_bytes([out[0], out[1]]);
+                        out[2..4].copy_from_slice(&left.to_be_bytes());
                     }
                     number
                 },

@@ -45,7 +45,7 @@ fn put_share(out: &mut [u8], at: usize, points: u32, most: u32) -> usize
     if most == 0 {
         return put_bytes(out, at, b" ALONE");
     }
-    let n = (20000 * points + most) / (2 * most);
+    let n = hundredths::share(points as u8, most as u8);
     put_hundredths(out, at, n)
 }
 

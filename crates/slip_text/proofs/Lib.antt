@@ -1,3 +1,4 @@
 pub mod Placing
 pub mod Enough
 pub mod Slips
+pub mod Calling

@@ -59,7 +59,7 @@ refused-slip (refused m at) {n} {place} e q =
     rw (same .0, same .1)
 refused-slip (accepted p) e q = absurd (let z : _≡_ {A = ℕ} 0 1 = cc in omega arith)
 
-granted-slip : (o : Outcome) {i : Items} {x : Explained} → x ≡ explainedOf o → x ≡ Granted i → (p : Parts) × (o ≡ accepted p) × (i ≡ itemsIn p)
+pub granted-slip : (o : Outcome) {i : Items} {x : Explained} → x ≡ explainedOf o → x ≡ Granted i → (p : Parts) × (o ≡ accepted p) × (i ≡ itemsIn p)
 unfolding explainedOf
 granted-slip (refused m at) e q = absurd (let z : _≡_ {A = ℕ} 0 1 = cc in omega arith)
 granted-slip (accepted p) e q = (p, refl, cc)
@@ -96,7 +96,7 @@ module _ (bytes : List ℕ) {x : Explained} (ex : x ≡ explainedOf (judgeOf byt
       rw (g .2) (parts-short (g .0) (accepted-lawful bytes (g .0) (g .1)))
 
 -- ---- every slip has at most 72 bytes, whatever the bytes that it is of
-number-le : (n : ℕ) → refusesRecord n ≡ true → n ≤ 27
+pub number-le : (n : ℕ) → refusesRecord n ≡ true → n ≤ 27
 number-le n e =
     by-test (leb n 27)
     (λ (q : leb n 27 ≡ true). leb-true n 27 q)

@@ -1,6 +1,8 @@
-// The slip of a table record: the items of Law 77 that make its score, a line each, and their sum; or the judge's refusal.
+// The slip of a table record: the items of Law 77 that make its score, a line each, and their sum; or the judge's refusal. C calls it by `judge_slip`.
 use judgement::Explained;
 use judgement::Items;
+use laws::SHORT_RECORD_BUFFER;
+use laws::refusal_number;
 use sheet_text::Outcome;
 use sheet_text::lend;
 use sheet_text::write_named;
@@ -9,7 +11,9 @@ ghost use mathlib.Core.Path.{_≡_};
 ghost use Prim.Native.Nat.{_+_, _≤_};
 ghost use lib.ListN.{length};
 ghost use Rattle.laws.specs.Slip.{line, slip};
+ghost use Rattle.laws.specs.Writing.{numberOf, recordLeft};
 ghost use Rattle.sheet_text.specs.Putting.{Put, written, lengthWithin, leftIn};
+ghost use Rattle.slip_text.specs.Call.{slipCall};
 ghost use Rattle.slip_text.specs.Text.{itemLine, tricksText, premiumsText, itemsText};
 
 // A line at a place: a name, a space and points. The answer is the place after it.
@@ -84,5 +88,23 @@ pub fn write(bytes: &[u8], out: &mut [u8]) -> Outcome
     match judgement::explain(bytes) {
         Explained::Refused { number, place } => write_pair(number, place, out),
         Explained::Granted(items) => write_items(items, out),
+    }
+}
+
+// Writes the slip of a table record over the front of a buffer. The answer is how many bytes were written, at most 72; or a refusal × 1024 + its place, with
+// the buffer as it was: the judge's, or, last, 22 for a buffer that is too short.
+#[no_mangle]
+pub extern "C" fn judge_slip(bytes: &[u8], text: &mut [u8]) -> u32
+    ensures number { λ r. ⌜ r ≡ numberOf (slipCall (now (bytes .entry)) (length (now (text .entry)))) ⌝ }
+    ensures left { λ _. ⌜ now (text .exit) ≡ recordLeft (slipCall (now (bytes .entry)) (length (now (text .entry)))) (now (text .entry)) ⌝ }
+{
+    match judgement::explain(bytes) {
+        Explained::Refused { number, place } => number * 1024 + place,
+        Explained::Granted(items) => {
+            let Outcome::Written(n) = write_items(items, text) else {
+                return refusal_number(SHORT_RECORD_BUFFER, 0);
+            };
+            n as u32
+        }
     }
 }

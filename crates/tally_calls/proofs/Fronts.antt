@@ -6,23 +6,22 @@ use mathlib.Core.Path.{_≡_, refl, ap, _∙_}
 use mathlib.Core.List.{List, [], _∷_}
 use lib.ListN.{length, getD, set}
 use lib.Seq.{sets, sets-eq}
-use Rattle.laws.specs.Law78.{Points}
 use Rattle.laws.specs.Lent.{_over_}
 use Rattle.laws.specs.Record.{bytesOf}
 use Rattle.laws.proofs.Bytes.{length-bytes}
-use Rattle.tally_calls.specs.Calls.{pointsBytes}
+use Rattle.tally_calls.specs.Calls.{twoEach}
 
 -- a run of stores from the front on
 pub front : (bytes old : List ℕ) → length bytes ≤ length old → sets old 0 bytes ≡ bytes over old
 unfolding _over_
 front bytes old h = sets-eq bytes old 0 (omega arith) ∙ rw zero-add
 
--- the four bytes of the matchpoints
-pub four : (p : Points) (old : List ℕ) → 4 ≤ length old → {a b c d : ℕ} → a ≡ p .ns / 256 % 256 → b ≡ p .ns % 256 → c ≡ p .ew / 256 % 256 → d ≡ p .ew % 256
-    → set (set (set (set old 0 a) 1 b) 2 c) 3 d ≡ pointsBytes p over old
-unfolding pointsBytes bytesOf
-four p old h {a} {b} {c} {d} ea eb ec ed =
-    front (a ∷ b ∷ c ∷ d ∷ []) old h ∙ ap (λ (l : List ℕ). l over old) (rw (ea, eb, ec, ed, div-one (p .ns), div-one (p .ew)))
+-- two bytes for each side
+pub four : (ns ew : ℕ) (old : List ℕ) → 4 ≤ length old → {a b c d : ℕ} → a ≡ ns / 256 % 256 → b ≡ ns % 256 → c ≡ ew / 256 % 256 → d ≡ ew % 256
+    → set (set (set (set old 0 a) 1 b) 2 c) 3 d ≡ twoEach ns ew over old
+unfolding bytesOf
+four ns ew old h {a} {b} {c} {d} ea eb ec ed =
+    front (a ∷ b ∷ c ∷ d ∷ []) old h ∙ ap (λ (l : List ℕ). l over old) (rw (ea, eb, ec, ed, div-one ns, div-one ew))
 
 -- a byte of a number of eight
 pub eighth : (x i : ℕ) → i < 8 → getD (bytesOf 8 x) i 0 ≡ x / 2 ^ (56 - 8 * i) % 256

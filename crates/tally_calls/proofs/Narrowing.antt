@@ -23,6 +23,7 @@ use Rattle.tally.specs.declared.Tally.{Tally}
 use Rattle.tally.specs.Points.{matchpointsOf}
 use Rattle.tally.specs.Tallies.{resultsIn, wellFormed, refusedWith, answerOf, freshOf, addOf}
 use Rattle.percentages.specs.Cells.{cellOfTally}
+use Rattle.hundredths.specs.Shares.{sharesAsked, sharesOfTally}
 use Rattle.tally_calls.specs.Calls.{resultOf}
 use Rattle.tally_calls.specs.Narrowed.{narrowBoard, narrowScore}
 
@@ -108,6 +109,10 @@ module _ (t : Tally) (deal : List ℕ) where
   unfolding cellOfTally
   cell-invalid s e = rw (asked-invalid cellAsked s e)
 
+  shares-invalid : (s : ℤ) → validScore s ≡ false → sharesOfTally t (resultOf s deal) ≡ (if wellFormed t then refusedAt 20 0 else refusedAt 17 0)
+  unfolding sharesOfTally
+  shares-invalid s e = rw (asked-invalid sharesAsked s e)
+
   pub add-narrowed : (s : ℤ) → addOf t (resultOf (narrowScore s) deal) ≡ addOf t (resultOf s deal)
   add-narrowed = by-score (λ (s : ℤ). addOf t (resultOf s deal)) _ add-invalid
 
@@ -116,3 +121,6 @@ module _ (t : Tally) (deal : List ℕ) where
 
   pub cell-narrowed : (s : ℤ) → cellOfTally t (resultOf (narrowScore s) deal) ≡ cellOfTally t (resultOf s deal)
   cell-narrowed = by-score (λ (s : ℤ). cellOfTally t (resultOf s deal)) _ cell-invalid
+
+  pub shares-narrowed : (s : ℤ) → sharesOfTally t (resultOf (narrowScore s) deal) ≡ sharesOfTally t (resultOf s deal)
+  shares-narrowed = by-score (λ (s : ℤ). sharesOfTally t (resultOf s deal)) _ shares-invalid

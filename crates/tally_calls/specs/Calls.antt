@@ -19,6 +19,7 @@ use Rattle.tally.specs.InBytes.{tallyLength, tallyBytes, tallyIn}
 use Rattle.tally.specs.Points.{matchpointsOf}
 use Rattle.tally.specs.Tallies.{freshOf, addOf, mergeOf}
 use Rattle.percentages.specs.Cells.{cellOfTally}
+use Rattle.hundredths.specs.Shares.{BothShares, sharesOfTally}
 
 -- ---- the number and the buffer
 -- the number returned: 0, or refusal × 1024 + place
@@ -63,8 +64,11 @@ mergeCall a b room = inRoom tallyLength room (tallied (mergeOf (tallyIn a) (tall
 
 -- ---- matchpoints
 -- two bytes for each side
+abbrev pub twoEach : ℕ → ℕ → List ℕ
+twoEach ns ew = bytesOf 2 ns ++ bytesOf 2 ew
+
 unfoldable pub pointsBytes : Points → List ℕ
-pointsBytes p = bytesOf 2 (p .ns) ++ bytesOf 2 (p .ew)
+pointsBytes p = twoEach (p .ns) (p .ew)
 
 -- the matchpoints of a result in a tally
 unfoldable pub matchpointsCall : List ℕ → ℤ → List ℕ → ℕ → Placed (List ℕ)
@@ -84,3 +88,11 @@ awardCall percent room = inRoom 9 room (spelled cellBytes (placed (award percent
 -- the cell of a result in a tally
 unfoldable pub cellCall : List ℕ → ℤ → List ℕ → ℕ → Placed (List ℕ)
 cellCall tally score holders room = inRoom 9 room (spelled cellBytes (cellOfTally (tallyIn tally) (resultOf score holders)))
+
+-- ---- shares
+unfoldable pub sharesBytes : BothShares → List ℕ
+sharesBytes s = twoEach (s .ns) (s .ew)
+
+-- the shares of both sides in a result of a tally, in hundredths of a per cent
+unfoldable pub hundredthsCall : List ℕ → ℤ → List ℕ → ℕ → Placed (List ℕ)
+hundredthsCall tally score holders room = inRoom 4 room (spelled sharesBytes (sharesOfTally (tallyIn tally) (resultOf score holders)))

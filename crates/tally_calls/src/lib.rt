@@ -6,12 +6,13 @@ use laws::SHORT_BUFFER;
 use laws::refusal_number;
 use putting::put_cell;
 use putting::put_points;
+use putting::put_shares;
 use putting::put_tally;
 use tally_bytes::TALLY_LENGTH;
 use tally_bytes::read;
 ghost use mathlib.Core.Path.{_≡_};
 ghost use lib.ListN.{length};
-ghost use Rattle.tally_calls.specs.Calls.{numberOf, bufferLeft, freshCall, addCall, mergeCall, matchpointsCall, awardCall, cellCall};
+ghost use Rattle.tally_calls.specs.Calls.{numberOf, bufferLeft, freshCall, addCall, mergeCall, matchpointsCall, awardCall, cellCall, hundredthsCall};
 ghost use Rattle.tally_calls.specs.Narrowed.{narrowBoard, narrowScore};
 
 // A board of 8 bits; 0 for one over 127.
@@ -127,4 +128,24 @@ pub extern "C" fn tally_cell(tally: &[u8], score: i32, holders: &[u8], cell: &mu
     let t = read(tally);
     let answer = percentages::cell_of(t, narrow_score(score), holders);
     put_cell(answer, cell)
+}
+
+// The shares of both sides in a result of a tally, in hundredths of a per cent, four bytes; 65535 each where it is alone; 1, 17, 20, 4, 28 or 21.
+#[no_mangle]
+pub extern "C" fn tally_hundredths(
+    tally: &[u8],
+    score: i32,
+    holders: &[u8],
+    shares: &mut [u8],
+) -> u32
+    ensures number { λ r. ⌜ r ≡ numberOf (hundredthsCall (now (tally .entry)) score (now (holders .entry)) (length (now (shares .entry)))) ⌝ }
+    ensures left { λ _. ⌜ now (shares .exit)
+        ≡ bufferLeft (hundredthsCall (now (tally .entry)) score (now (holders .entry)) (length (now (shares .entry)))) (now (shares .entry)) ⌝ }
+{
+    if shares.len() < 4 {
+        return refusal_number(SHORT_BUFFER, 0);
+    }
+    let t = read(tally);
+    let answer = hundredths::shares_of(t, narrow_score(score), holders);
+    put_shares(answer, shares)
 }

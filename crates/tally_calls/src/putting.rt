@@ -1,4 +1,5 @@
 // The answers of the calls put into lent buffers that are long enough, and the numbers returned.
+use hundredths::ShareAnswer;
 use laws::ACCEPTED;
 use laws::refusal_number;
 use percentages::Cell;
@@ -17,7 +18,8 @@ ghost use Rattle.laws.specs.Record.{bytesOf};
 ghost use Rattle.laws.specs.Refusals.{given, refusalNumber};
 ghost use Rattle.tally.specs.Points.{pointsAnswer};
 ghost use Rattle.percentages.specs.Cells.{entered as enteredAs, cellAnswer, Numbered};
-ghost use Rattle.tally_calls.specs.Calls.{numberOf, bufferLeft, spelled, tallied, pointsBytes, cellBytes};
+ghost use Rattle.hundredths.specs.Shares.{shareAnswer};
+ghost use Rattle.tally_calls.specs.Calls.{numberOf, bufferLeft, spelled, tallied, twoEach, pointsBytes, sharesBytes, cellBytes};
 
 // A refusal and its place as one number.
 fn refusal_of(number: u8, place: u8) -> u32
@@ -47,6 +49,17 @@ fn narrow(x: u32) -> u8
     x as u8
 }
 
+// Two bytes for each side.
+fn put_both(out: &mut [u8], ns: u32, ew: u32)
+    requires { ⌜ 4 ≤ length (now out) ⌝ }
+    ensures { λ _. ⌜ now (out .exit) ≡ twoEach ns ew over now (out .entry) ⌝ }
+{
+    out[0] = narrow(ns / 256 % 256);
+    out[1] = narrow(ns % 256);
+    out[2] = narrow(ew / 256 % 256);
+    out[3] = narrow(ew % 256);
+}
+
 // The matchpoints of an answer.
 pub(crate) fn put_points(answer: MatchpointAnswer, points: &mut [u8]) -> u32
     requires { ⌜ 4 ≤ length (now points) ⌝ }
@@ -56,10 +69,22 @@ pub(crate) fn put_points(answer: MatchpointAnswer, points: &mut [u8]) -> u32
     match answer {
         MatchpointAnswer::Refused(number, place) => refusal_of(number, place),
         MatchpointAnswer::Points { ns, ew } => {
-            points[0] = narrow(ns.0 / 256 % 256);
-            points[1] = narrow(ns.0 % 256);
-            points[2] = narrow(ew.0 / 256 % 256);
-            points[3] = narrow(ew.0 % 256);
+            put_both(points, ns.0, ew.0);
+            0
+        }
+    }
+}
+
+// The shares of an answer.
+pub(crate) fn put_shares(answer: ShareAnswer, shares: &mut [u8]) -> u32
+    requires { ⌜ 4 ≤ length (now shares) ⌝ }
+    ensures number { λ r. ⌜ r ≡ numberOf (spelled sharesBytes (shareAnswer answer)) ⌝ }
+    ensures left { λ _. ⌜ now (shares .exit) ≡ bufferLeft (spelled sharesBytes (shareAnswer answer)) (now (shares .entry)) ⌝ }
+{
+    match answer {
+        ShareAnswer::Refused(number, place) => refusal_of(number, place),
+        ShareAnswer::Shares { ns, ew } => {
+            put_both(shares, ns, ew);
             0
         }
     }

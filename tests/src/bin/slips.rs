@@ -1,10 +1,11 @@
-//! Compares the proved program `slip` with the independent one, on records of all shapes, with penalty cards among them, whole, damaged and with many bytes
+//! Compares the proved program `slip`, and the slip that C asks for, with the independent ones, on records of all shapes, with penalty cards among them, whole, damaged and with many bytes
 //! behind them.
 use outside::damage::{self, codes};
 use outside::making::{self, Made};
+use outside::proved;
 use outside::random::Random;
 use outside::run::{output_of, stop, Words};
-use outside::slip::{slip, Slip};
+use outside::slip::{self, slip, Slip};
 use std::collections::BTreeMap;
 
 /// How often each kind of slip has to occur.
@@ -22,6 +23,7 @@ fn main() {
         let record = record(&mut random, records);
         let due = slip(&record);
         compare(program, &record, &due);
+        compare_call(&mut random, &record, due.text.len());
         note(&mut kinds, &due);
         longest = longest.max(if due.refused { 0 } else { due.text.len() });
         records += 1;
@@ -62,6 +64,25 @@ fn compare(program: &str, record: &[u8], due: &Slip) {
     if output != due.text.as_bytes() {
         let bytes: String = record.iter().map(|byte| format!("{byte:02X} ")).collect();
         stop(&format!("a difference: wrote\n{}to be\n{}for the record\n{bytes}", String::from_utf8_lossy(&output), due.text));
+    }
+}
+
+/// The slip through the archive, in a buffer about its length or of any: the number, the buffer and the bytes around it.
+fn compare_call(random: &mut Random, record: &[u8], length: usize) {
+    const AROUND: usize = 16;
+    let room = match random.below(4) {
+        0 => length,
+        1 => length - 1,
+        2 => random.below(length),
+        _ => length + random.below(80),
+    };
+    let mut lent = random.bytes(room + 2 * AROUND);
+    let mut due = lent.clone();
+    let own = slip::written(record, &mut due[AROUND..AROUND + room]);
+    let number = proved::slip(record, &mut lent[AROUND..AROUND + room]);
+    if (number, &lent) != (own, &due) {
+        let bytes: String = record.iter().map(|byte| format!("{byte:02X} ")).collect();
+        stop(&format!("judge_slip returned {number} with a buffer of {room}, to be {own}; wrote\n{lent:02x?}\nto be\n{due:02x?}\nfor the record\n{bytes}"));
     }
 }
 

@@ -1,10 +1,18 @@
 -- `sheet_text::columns::put_share` meets its contract, by its test. Assumes nothing.
+use Prim.Native.Nat.{ℕ}
+use mathlib.Core.Path.{_≡_, _∙_}
 use borrow.Author.Tests.{eq-eqb, ne-eqb}
 use Rattle.laws.specs.CellSheet.{hundredths}
+use Rattle.hundredths.specs.Shares.{shareOf}
 use Rattle.sheet_text.specs.Columns.{shareText}
 use borrow.Author.Needs.{needs}
 use Rattle.sheet_text.proofs.columns.put_share.Statement.{statement}
 use Rattle.sheet_text.proofs.columns.put_share.Tie as tie
+
+-- where points are to be had, a share is the hundredths
+some-share : (points most : ℕ) {n : ℕ} → n ≡ shareOf points most → (most ≡ 0 → ⊥) → n ≡ hundredths points most
+unfolding shareOf
+some-share points most e h = e ∙ rw (ne-eqb most 0 h)
 
 slice-aggregate-put-bytes : tie.Need-slice-aggregate-put-bytes
 slice-aggregate-put-bytes c = search needs
@@ -20,28 +28,30 @@ returns : tie.Need-returns
 unfolding shareText
 returns c = rw (eq-eqb _ _ (c .before .before .before .before .before .if1 .taken)) (c .before .before .put-bytes .ensures)
 
-mul-n : tie.Need-mul-n
-mul-n c = search needs
+cast-share : tie.Need-cast-share
+cast-share c = search needs
 
-add-n : tie.Need-add-n
-add-n c = search needs
+cast-share-2 : tie.Need-cast-share-2
+cast-share-2 c = search needs
 
-mul-n-2 : tie.Need-mul-n-2
-mul-n-2 c = search needs
-
-div-n : tie.Need-div-n
-div-n c = search needs
+share-requires : tie.Need-share-requires
+share-requires c κs = search needs
 
 put-hundredths-requires : tie.Need-put-hundredths-requires
-unfolding shareText hundredths
-put-hundredths-requires c κs = rw (ne-eqb _ _ (c .before .if1 .left)) at (c .before .before .before .pre .0)
+unfolding shareText
+put-hundredths-requires c κs =
+    let n = c .before in
+    rw (ne-eqb _ _ (n .before .if1 .left), ← some-share _ _ (n .share .ensures) (n .before .if1 .left)) at (n .before .before .before .pre .0)
 
 same-length-2 : tie.Need-same-length-2
 same-length-2 c = search needs
 
 returns-2 : tie.Need-returns-2
-unfolding shareText hundredths
-returns-2 c = rw (ne-eqb _ _ (c .before .before .before .before .if1 .left)) (c .before .before .put-hundredths .ensures)
+unfolding shareText
+returns-2 c =
+    let p = c .before .before in
+    let n = p .before .before in
+    rw (ne-eqb _ _ (n .before .if1 .left), ← some-share _ _ (n .share .ensures) (n .before .if1 .left)) (p .put-hundredths .ensures)
 
 pub put-share-spec : {M : Type 1} → statement M
 put-share-spec =
@@ -51,10 +61,9 @@ put-share-spec =
     put-bytes-requires
     same-length
     returns
-    mul-n
-    add-n
-    mul-n-2
-    div-n
+    cast-share
+    cast-share-2
+    share-requires
     put-hundredths-requires
     same-length-2
     returns-2)

@@ -1,0 +1,2 @@
+pub mod Vulnerable
+pub mod Boards
