@@ -27,10 +27,10 @@ class Browser:
     """One browser with one page at a time. What it would ask of a network goes to a proxy that does not answer."""
 
     def __init__(self) -> None:
-        self.folder = tempfile.TemporaryDirectory(ignore_cleanup_errors=True) if "ignore_cleanup_errors" in tempfile.TemporaryDirectory.__init__.__code__.co_varnames else tempfile.TemporaryDirectory()
+        self.folder = tempfile.mkdtemp()
         to_browser, self._write = os.pipe()
         self._read, from_browser = os.pipe()
-        words = [program(), *QUIET, f"--user-data-dir={self.folder.name}", "--proxy-server=http://127.0.0.1:9", "about:blank"]
+        words = [program(), *QUIET, f"--user-data-dir={self.folder}", "--proxy-server=http://127.0.0.1:9", "about:blank"]
         words[1:1] = ["--no-sandbox"] if os.getuid() == 0 else []
         shell = f'exec "$0" "$@" 3<&{to_browser} 4>&{from_browser}'
         self._process = subprocess.Popen(["/bin/sh", "-c", shell, *words], pass_fds=(to_browser, from_browser), stdout=subprocess.DEVNULL, stderr=subprocess.DEVNULL)
@@ -52,7 +52,7 @@ class Browser:
             self._process.wait()
         for pipe in (self._read, self._write):
             os.close(pipe)
-        self.folder.cleanup()
+        shutil.rmtree(self.folder, ignore_errors=True)
 
     def ask(self, method: str, **parameters: object) -> dict:
         """Calls a method and waits for its answer; what happens meanwhile is kept in `events`."""
@@ -110,5 +110,14 @@ class Browser:
         return base64.b64decode(self.ask("Page.captureScreenshot", format="png", **clip)["data"])
 
     def requests(self) -> list:
-        """What was asked for since the page was opened."""
-        return [event["params"]["request"]["url"] for event in self.events if event.get("method") == "Network.requestWillBeSent"]
+        """What was asked for since the page was opened, but for what its policy has kept back."""
+        return [url for url, kept in self._asked() if not kept]
+
+    def blocked(self) -> list:
+        """What the page's policy has kept back."""
+        return [url for url, kept in self._asked() if kept]
+
+    def _asked(self) -> list:
+        failed = {event["params"]["requestId"] for event in self.events if event.get("method") == "Network.loadingFailed" and event["params"].get("blockedReason") == "csp"}
+        sent = (event["params"] for event in self.events if event.get("method") == "Network.requestWillBeSent")
+        return [(one["request"]["url"], one["requestId"] in failed) for one in sent]
