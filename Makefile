@@ -1,5 +1,5 @@
 # make test      the whole gate; its last line is that of `rt ci`
-# make demo      judges the records in samples/, prints a sheet and a slip, reads a game in Portable Bridge Notation, and merges two sections both ways
+# make demo      judges the records in samples/, prints a sheet and a slip, reads a game in Portable Bridge Notation, and merges two sections both ways, and makes a club's page
 # make install   puts headers, archives and pkg-config files under PREFIX
 # make bench     the proved judge's speed beside the Rust judge's, and that of merges
 # make python    the Python package `clubscore`, to run from the checkout; make python-test tries it
@@ -136,7 +136,7 @@ build/valgrind/%: build/%
 	printf '#!/bin/sh\nexec valgrind --quiet --error-exitcode=99 --leak-check=full --errors-for-leak-kinds=all %s "$$@"\n' $(abspath $<) >$@
 	chmod +x $@
 
-demo: build/terminal build/section build/standings $(SHEET) $(CELLS) $(SLIP) $(BEST) $(PBN)
+demo: build/terminal build/section build/standings $(SHEET) $(CELLS) $(SLIP) $(BEST) $(PBN) python
 	@echo "Records that are accepted:"
 	@build/terminal $(sort $(filter-out samples/refused-%,$(wildcard samples/*.hex)))
 	@echo "Records that are refused:"
@@ -159,6 +159,9 @@ demo: build/terminal build/section build/standings $(SHEET) $(CELLS) $(SLIP) $(B
 	@build/terminal -w samples/claim-best-play.txt | $(BEST)
 	@echo "The same game as it was exported, with tags and words that are not of the subset:"
 	@(echo 3; cat samples/pbn/ending.export) | $(PBN)
+	@echo "The same file by the Python package, which brings it into the subset:"
+	@$(CLUBSCORE) import samples/pbn/ending.export --table 3 -o build/work/demo/imported
+	@cmp build/work/demo/ending build/work/demo/imported/board-001-table-003.record
 	@for text in samples/sections/*.txt; do build/terminal -w $$text >build/work/demo/$$(basename $$text .txt) || exit 1; done
 	@build/section -o build/work/demo/A build/work/demo/a-*
 	@build/section -o build/work/demo/B build/work/demo/b-*
@@ -166,6 +169,12 @@ demo: build/terminal build/section build/standings $(SHEET) $(CELLS) $(SLIP) $(B
 	@build/standings build/work/demo/A build/work/demo/B; test $$? = 1
 	@echo "And B before A:"
 	@build/standings build/work/demo/B build/work/demo/A; test $$? = 1
+	@echo "An evening of the sample club, 24 boards at 13 tables, from its records to its page; what is left out stands at its head:"
+	@rm -rf build/work/demo/club
+	@PYTHONPATH=python $(PYTHON) samples/club/make.py build/work/demo/club
+	@$(CLUBSCORE) results build/work/demo/club/*.record --pairs build/work/demo/club/pairs.csv -o build/club.json; test $$? = 1
+	@$(CLUBSCORE) page build/club.json -o build/club.html
+	@echo "The page is build/club.html"
 
 install: $(ARCHIVE) $(TALLY_ARCHIVE) $(WORDS_ARCHIVE) $(SHARED)
 	@$(MAKE) --no-print-directory install-files
@@ -269,14 +278,21 @@ bench: build/rust-built $(MERGES)
 
 # The Python package: the shared libraries stand beside its modules, so that it runs from the checkout.
 PYTHON = python3
-.PHONY: python python-test
+CLUBSCORE = PYTHONPATH=python $(PYTHON) -m clubscore
+.PHONY: python python-test chromium
 python: python/clubscore/libjudge.so python/clubscore/libtally.so
+	$(call need,$(PYTHON))
 
 python/clubscore/lib%.so: build/lib%.so
 	cp $< $@
 
-python-test: python build/rust-built
-	$(call need,$(PYTHON))
+# The page is tried in Debian's chromium, which is installed where it is missing and can be.
+chromium:
+	@command -v chromium >/dev/null || test "$$(id -u)" != 0 || ! command -v apt-get >/dev/null || \
+	    { apt-get update -qq && apt-get install -y -qq --no-install-recommends chromium >/dev/null; }
+	$(call need,chromium)
+
+python-test: python build/rust-built chromium
 	@mkdir -p build/work
 	$(RUST)/games $(or $(SEED),114) $(PBN_GAMES) >build/work/games
 	cd python && $(PYTHON) -W error -m unittest -q

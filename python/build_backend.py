@@ -1,4 +1,5 @@
-"""pip's build of the package, over zipfile: it needs neither the network nor another package. The shared libraries have to stand in clubscore/ (`make python`)."""
+"""pip's build of the package, over zipfile: it needs neither the network nor another package. The shared libraries have to stand in clubscore/, where
+`make python` puts them."""
 import base64
 import hashlib
 import os

@@ -7,6 +7,26 @@ from .refused import Refused
 from .tallies import Alone, Awarded, Cell, Played, Result, Tally, award, reduce_blocks
 
 __all__ = [
-    "Alone", "Awarded", "Cell", "Contract", "Failure", "Item", "Judgement", "Played", "Refused", "Result", "Revoke", "Tally", "Winner",
-    "award", "best_play", "dealer", "judge", "read_pbn", "reduce_blocks", "slip", "vulnerable", "write_record",
+    "Alone",
+    "Awarded",
+    "Cell",
+    "Contract",
+    "Failure",
+    "Item",
+    "Judgement",
+    "Played",
+    "Refused",
+    "Result",
+    "Revoke",
+    "Tally",
+    "Winner",
+    "award",
+    "best_play",
+    "dealer",
+    "judge",
+    "read_pbn",
+    "reduce_blocks",
+    "slip",
+    "vulnerable",
+    "write_record",
 ]

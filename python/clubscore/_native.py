@@ -98,7 +98,8 @@ def given(value: Bytes) -> bytes:
 
 
 def numbers(values: Iterable[int]) -> bytes:
-    """A sequence of numbers as an array of `uint8_t` of its own, apart from whatever was given; what a byte cannot hold becomes 255, which no list of a record has."""
+    """A sequence of numbers as an array of `uint8_t` of its own, apart from whatever was given. What a byte cannot hold becomes 255, which no list of a
+    record has."""
     if isinstance(values, (str, Mapping)) or not hasattr(values, "__len__") or not hasattr(values, "__getitem__"):
         raise TypeError(f"a sequence of numbers expected, not {type(values).__name__}")
     listed = list(values)

@@ -91,11 +91,7 @@ def judge(record: Bytes) -> Judgement:
     answer, revokes = ctypes.create_string_buffer(_native.ANSWER_BYTES), ctypes.create_string_buffer(_native.REVOKE_BYTES)
     failures = ctypes.create_string_buffer(_native.FAILURE_BYTES)
     winners = ctypes.create_string_buffer(bytes([_UNFILLED]) * _native.WINNER_BYTES, _native.WINNER_BYTES)
-    unless_refused(
-        _native.judge_record(
-            record, len(record), answer, len(answer), revokes, len(revokes), failures, len(failures), winners, len(winners)
-        )
-    )
+    unless_refused(_native.judge_record(record, len(record), answer, len(answer), revokes, len(revokes), failures, len(failures), winners, len(winners)))
     return _judgement(answer.raw, revokes.raw, failures.raw, winners.raw)
 
 
@@ -123,9 +119,7 @@ def _failures(failures: bytes):
         yield Failure(high >> 4, high >> 2 & 3, (high & 3) << 4 | low >> 4)
 
 
-def write_record(
-    board: int, table: int, holders: Sequence[int], calls: Sequence[int], plays: Sequence[int], claim: Optional[int] = None
-) -> bytes:
+def write_record(board: int, table: int, holders: Sequence[int], calls: Sequence[int], plays: Sequence[int], claim: Optional[int] = None) -> bytes:
     """Writes one table record from plain numbers, as `judge_write_record` takes them; raises `Refused`.
 
     >>> record = write_record(1, 1, [card // 13 for card in range(52)], [0, 0, 0, 0], [])

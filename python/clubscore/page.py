@@ -14,8 +14,26 @@ from .scoring import FORMAT
 
 _POLICY = "default-src 'none'; style-src 'unsafe-inline'; base-uri 'none'; form-action 'none'"
 _FIELDS = {"NS": "North–South", "EW": "East–West", "all": "All pairs"}
-_COLUMNS = (("Table", "num"), ("NS", ""), ("EW", ""), ("Contract", ""), ("Lead", ""), ("Tricks", "num"), ("NS score", "num"), ("NS MP", "num"), ("EW MP", "num"), ("NS %", "num"), ("EW %", "num"))
+_COLUMNS = (
+    ("Table", "num"),
+    ("NS", ""),
+    ("EW", ""),
+    ("Contract", ""),
+    ("Lead", ""),
+    ("Tricks", "num"),
+    ("NS score", "num"),
+    ("NS MP", "num"),
+    ("EW MP", "num"),
+    ("NS %", "num"),
+    ("EW %", "num"),
+)
 _AWAY = "–"
+_FOOTER = """</main>
+<footer><p>Judged, scored and compared by a library that is proved to follow the Laws of Duplicate Bridge 2017. Matchpoints by Law 78A: 2 for each result
+that is lower, 1 for each equal one.</p></footer>
+</body>
+</html>
+"""
 #: From so many results on a browser draws what is looked at alone.
 _MANY = 3000
 
@@ -41,8 +59,7 @@ def page(results: dict) -> str:
     """The page of results that are of the schema."""
     parts = [_head(results), "<main>", _told(results["left_out"]), _contents(results), _ranking(results["ranking"])]
     parts += [_board(board) for board in results["boards"]]
-    parts += ['</main>\n<footer><p>Judged, scored and compared by a library that is proved to follow the Laws of Duplicate Bridge 2017. Matchpoints by Law 78A: 2 for each result that is lower, 1 for each equal one.</p></footer>\n</body>\n</html>\n']
-    return "".join(parts)
+    return "".join(parts + [_FOOTER])
 
 
 def _head(results: dict) -> str:
@@ -52,10 +69,12 @@ def _head(results: dict) -> str:
     tables = {row["table"] for board in boards for row in board["rows"]}
     pairs = {row["pair"] for field in results["ranking"] for row in field["rows"]}
     counts = [_count(len(boards), "board"), _count(len(tables), "table")] + ([_count(len(pairs), "pair")] if pairs else [])
+    many = _class("many" if _results(boards) > _MANY else "")
     return (
         '<!DOCTYPE html>\n<html lang="en">\n<head>\n<meta charset="utf-8">\n'
         f'<meta http-equiv="Content-Security-Policy" content="{_POLICY}">\n<meta name="viewport" content="width=device-width, initial-scale=1">\n'
-        f'<title>Results</title>\n<style>\n{style}</style>\n</head>\n<body id="top"{_class("many" if _results(boards) > _MANY else "")}>\n<header><h1>Results</h1><p>{" · ".join(counts)}</p></header>\n'
+        f"<title>Results</title>\n<style>\n{style}</style>\n</head>\n"
+        f'<body id="top"{many}>\n<header><h1>Results</h1><p>{" · ".join(counts)}</p></header>\n'
     )
 
 
@@ -106,10 +125,14 @@ def _field(field: dict) -> str:
 
 def _rank(field: str, row: dict) -> str:
     shown = None if row["exact"] is None else shown_percent(Fraction(row["exact"]))
+    pair = html.escape(json.dumps(row["pair"]))
     return (
-        f'<tr data-ranking="{field}" data-pair="{html.escape(json.dumps(row["pair"]))}">{_cell("rank", row["rank"], _AWAY if row["rank"] is None else row["rank"], "num rank")}'
-        f'<th scope="row" class="pair"{data("pair", row["pair"])}>{bdi(row["pair"])}</th>{_cell("boards", row["boards"], row["boards"], "num")}'
-        f'{_percent("percent", row["percent"], shown, "percent")}</tr>\n'
+        f'<tr data-ranking="{field}" data-pair="{pair}">'
+        + _cell("rank", row["rank"], _AWAY if row["rank"] is None else row["rank"], "num rank")
+        + f'<th scope="row" class="pair"{data("pair", row["pair"])}>{bdi(row["pair"])}</th>'
+        + _cell("boards", row["boards"], row["boards"], "num")
+        + _percent("percent", row["percent"], shown, "percent")
+        + "</tr>\n"
     )
 
 
@@ -142,10 +165,13 @@ def _board(board: dict) -> str:
 def _row(board: int, row: dict) -> str:
     cells = (
         f'<th scope="row" class="num t"{data("table", row["table"])}>{row["table"]}</th>'
-        + _pair("ns", row["ns"]) + _pair("ew", row["ew"]) + _contract(row)
+        + _pair("ns", row["ns"])
+        + _pair("ew", row["ew"])
+        + _contract(row)
         + _cell("lead", row["lead"], "" if row["lead"] is None else card(row["lead"]), "l")
         + _cell("tricks_after", row["tricks_after"], "" if row["tricks_after"] is None else row["tricks_after"], "num k")
-        + _score(row) + _points(row)
+        + _score(row)
+        + _points(row)
     )
     return f'<tr data-board="{board}" data-table="{row["table"]}">{cells}</tr>\n' + _note(row)
 
@@ -175,9 +201,16 @@ def _score(row: dict) -> str:
 
 def _points(row: dict) -> str:
     ns, ew = row["ns_matchpoints"], row["ew_matchpoints"]
-    cells = "".join(_cell(field, row[field], _AWAY if row[field] is None else row[field], name) for field, name in (("ns_matchpoints", "num nsm"), ("ew_matchpoints", "num ewm")))
+    cells = "".join(
+        _cell(field, row[field], _AWAY if row[field] is None else row[field], name)
+        for field, name in (("ns_matchpoints", "num nsm"), ("ew_matchpoints", "num ewm"))
+    )
     for field, points, other, name in (("ns_percent", ns, ew, "nsp"), ("ew_percent", ew, ns, "ewp")):
-        cells += _percent(field, row[field], _exact(row[field], points, other), f"percent {name}") if row["kind"] != "alone" else f'<td class="num {name} kind">alone</td>'
+        cells += (
+            _percent(field, row[field], _exact(row[field], points, other), f"percent {name}")
+            if row["kind"] != "alone"
+            else f'<td class="num {name} kind">alone</td>'
+        )
     return cells
 
 

@@ -9,7 +9,15 @@ SUITS = {"S": ("♠", "spades"), "H": ("♥", "hearts"), "D": ("♦", "diamonds"
 SEATS = {"N": "North", "E": "East", "S": "South", "W": "West"}
 _RANKS = {"T": "10"}
 _DOUBLINGS = {"": "", "X": ("×", " doubled"), "XX": ("××", " redoubled")}
-_NAMES = {"TRICKS": "tricks", "OVERTRICKS": "overtricks", "UNDERTRICKS": "undertricks", "PARTSCORE": "partscore", "GAME": "game", "SLAM": "slam", "DOUBLING": "doubling"}
+_NAMES = {
+    "TRICKS": "tricks",
+    "OVERTRICKS": "overtricks",
+    "UNDERTRICKS": "undertricks",
+    "PARTSCORE": "partscore",
+    "GAME": "game",
+    "SLAM": "slam",
+    "DOUBLING": "doubling",
+}
 _NONE = "—"
 #: Signs that HTML cannot have, or that would be taken for another: each is shown as a sign that stands for one that cannot be shown.
 _CONTROLS = {code: "\ufffd" for code in list(range(32)) + list(range(127, 160)) + [0xFFFE, 0xFFFF]}

@@ -62,8 +62,11 @@ def results(records: Iterable[Tuple[str, bytes]], pairs: Optional[Pairs] = None)
     seatings = pairs.seatings if pairs is not None else {}
     boards, counted = [], []
     for number in sorted({place[0] for place in counting} | {place[0] for place, s in seatings.items() if s.awards is not None}):
-        board = _Board(number, {place[1]: record for place, record in counting.items() if place[0] == number},
-                       {place[1]: seating for place, seating in seatings.items() if place[0] == number})
+        board = _Board(
+            number,
+            {place[1]: record for place, record in counting.items() if place[0] == number},
+            {place[1]: seating for place, seating in seatings.items() if place[0] == number},
+        )
         boards.append(board.told())
         counted += board.counted
         if board.refused is not None:
@@ -74,8 +77,16 @@ def results(records: Iterable[Tuple[str, bytes]], pairs: Optional[Pairs] = None)
     return {"format": FORMAT, "boards": boards, "ranking": ranking, "left_out": sorted(left_out, key=_order)}
 
 
-def _left_out(kind: str, words: str, files: Sequence[str] = (), board: Optional[int] = None, table: Optional[int] = None, line: Optional[int] = None,
-              number: Optional[int] = None, place: Optional[int] = None) -> dict:
+def _left_out(
+    kind: str,
+    words: str,
+    files: Sequence[str] = (),
+    board: Optional[int] = None,
+    table: Optional[int] = None,
+    line: Optional[int] = None,
+    number: Optional[int] = None,
+    place: Optional[int] = None,
+) -> dict:
     return {"kind": kind, "files": sorted(files), "board": board, "table": table, "line": line, "number": number, "place": place, "words": words}
 
 
@@ -147,7 +158,14 @@ class _Board:
         holders = None if self.refused is not None and self.refused.number == _FOULED else self.tally.holders
         hands = None if holders is None else {seat: hand(holders, number) for number, seat in enumerate(SEATS)}
         refused = None if self.refused is None else {"number": self.refused.number, "place": self.refused.place, "words": str(self.refused)}
-        return {"board": self.number, "dealer": SEATS[dealer(self.number)], "vulnerable": VULNERABLE[vulnerable(self.number)], "hands": hands, "refused": refused, "rows": rows}
+        return {
+            "board": self.number,
+            "dealer": SEATS[dealer(self.number)],
+            "vulnerable": VULNERABLE[vulnerable(self.number)],
+            "hands": hands,
+            "refused": refused,
+            "rows": rows,
+        }
 
     def _tables(self) -> List[int]:
         return sorted(set(self.records) | {table for table, seating in self.seatings.items() if seating.awards is not None})
@@ -181,7 +199,21 @@ class _Board:
         return row
 
 
-_TOLD = ("contract", "declarer", "lead", "tricks", "tricks_after", "revokes", "failures", "score", "items", "ns_matchpoints", "ew_matchpoints", "ns_percent", "ew_percent")
+_TOLD = (
+    "contract",
+    "declarer",
+    "lead",
+    "tricks",
+    "tricks_after",
+    "revokes",
+    "failures",
+    "score",
+    "items",
+    "ns_matchpoints",
+    "ew_matchpoints",
+    "ns_percent",
+    "ew_percent",
+)
 
 
 def _judged(record: Record) -> dict:

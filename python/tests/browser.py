@@ -11,8 +11,19 @@ import tempfile
 import time
 
 NAMES = ("chromium", "chromium-browser", "google-chrome")
-QUIET = ("--headless", "--disable-gpu", "--disable-dev-shm-usage", "--no-first-run", "--disable-background-networking", "--disable-component-update",
-         "--disable-sync", "--disable-extensions", "--disable-default-apps", "--hide-scrollbars", "--remote-debugging-pipe")
+QUIET = (
+    "--headless",
+    "--disable-gpu",
+    "--disable-dev-shm-usage",
+    "--no-first-run",
+    "--disable-background-networking",
+    "--disable-component-update",
+    "--disable-sync",
+    "--disable-extensions",
+    "--disable-default-apps",
+    "--hide-scrollbars",
+    "--remote-debugging-pipe",
+)
 
 
 def program() -> str:
@@ -33,7 +44,9 @@ class Browser:
         words = [program(), *QUIET, f"--user-data-dir={self.folder}", "--proxy-server=http://127.0.0.1:9", "about:blank"]
         words[1:1] = ["--no-sandbox"] if os.getuid() == 0 else []
         shell = f'exec "$0" "$@" 3<&{to_browser} 4>&{from_browser}'
-        self._process = subprocess.Popen(["/bin/sh", "-c", shell, *words], pass_fds=(to_browser, from_browser), stdout=subprocess.DEVNULL, stderr=subprocess.DEVNULL)
+        self._process = subprocess.Popen(
+            ["/bin/sh", "-c", shell, *words], pass_fds=(to_browser, from_browser), stdout=subprocess.DEVNULL, stderr=subprocess.DEVNULL
+        )
         os.close(to_browser)
         os.close(from_browser)
         self._rest, self._count, self.events, self._session = b"", 0, [], None
@@ -118,6 +131,10 @@ class Browser:
         return [url for url, kept in self._asked() if kept]
 
     def _asked(self) -> list:
-        failed = {event["params"]["requestId"] for event in self.events if event.get("method") == "Network.loadingFailed" and event["params"].get("blockedReason") == "csp"}
+        failed = {
+            event["params"]["requestId"]
+            for event in self.events
+            if event.get("method") == "Network.loadingFailed" and event["params"].get("blockedReason") == "csp"
+        }
         sent = (event["params"] for event in self.events if event.get("method") == "Network.requestWillBeSent")
         return [(one["request"]["url"], one["requestId"] in failed) for one in sent]

@@ -7,12 +7,21 @@ import random
 SEATS, STRAINS, RANKS, SUITS = "NESW", ("C", "D", "H", "S", "NT"), "23456789TJQKA", "CDHS"
 VULNERABLE = ("None", "NS", "EW", "All", "NS", "EW", "All", "None", "EW", "All", "None", "NS", "All", "None", "NS", "EW")
 MARK = 38
-COMMENTS = ("{plain}", "{over\nlines}", "{an empty line\n\n[Board \"99\"] 1C ; inside}", "{% no line of its own\n% nor this}", "{\xe9\xff}", "{}")
-OTHER_TAGS = ('[Event "#"]', '[Event "Wednesday \\"pairs\\""]', '[Site "?"]', '[West "a;b {c} [d]"]', '[Date "2025.03.12"]', '[North "\xe9\xff"]',
-              '[HomeTeam ""]', '[Scoring "MP;Butler"]')
+COMMENTS = ("{plain}", "{over\nlines}", '{an empty line\n\n[Board "99"] 1C ; inside}', "{% no line of its own\n% nor this}", "{\xe9\xff}", "{}")
+OTHER_TAGS = (
+    '[Event "#"]',
+    '[Event "Wednesday \\"pairs\\""]',
+    '[Site "?"]',
+    '[West "a;b {c} [d]"]',
+    '[Date "2025.03.12"]',
+    '[North "\xe9\xff"]',
+    '[HomeTeam ""]',
+    '[Scoring "MP;Butler"]',
+)
 TABLES = (
-    ['[ScoreTable "Rank\\\\4R;Name\\\\12L;Score\\\\5R"]', '  1 "A; [B] {C}" 62.5', '  2 "D \\" E" 40', '3 - 12'],
-    ['[ActionTable "Call\\\\4L"]', "1C 3", "Pass 2"], ['[OptimumResultTable "Declarer;Denomination\\\\2R;Result\\\\2R"]', "N NT 7 S  C 6"],
+    ['[ScoreTable "Rank\\\\4R;Name\\\\12L;Score\\\\5R"]', '  1 "A; [B] {C}" 62.5', '  2 "D \\" E" 40', "3 - 12"],
+    ['[ActionTable "Call\\\\4L"]', "1C 3", "Pass 2"],
+    ['[OptimumResultTable "Declarer;Denomination\\\\2R;Result\\\\2R"]', "N NT 7 S  C 6"],
 )
 
 
@@ -67,7 +76,7 @@ class Printer:
         for line in lines:
             if self.some(5):
                 line += " " + self.chance.choice(COMMENTS)
-            line += self.chance.choice(("", "", "", " ", "\t ", " ; words [Board \"3\"] {"))
+            line += self.chance.choice(("", "", "", " ", "\t ", ' ; words [Board "3"] {'))
             out.append(line)
             if self.some(4):
                 out.append("% an escaped line {")
@@ -189,7 +198,14 @@ class Printer:
 
     def _tricks(self, game: dict, tricks: int) -> list:
         side, other = ("NS", "EW") if game["declarer"] % 2 == 0 else ("EW", "NS")
-        return [str(tricks), f"^{tricks}", f"{side} {tricks}", f"{other} {13 - tricks}", f"{side} {tricks} {other} {13 - tricks}", f"{other} {13 - tricks} {side} {tricks}"]
+        return [
+            str(tricks),
+            f"^{tricks}",
+            f"{side} {tricks}",
+            f"{other} {13 - tricks}",
+            f"{side} {tricks} {other} {13 - tricks}",
+            f"{other} {13 - tricks} {side} {tricks}",
+        ]
 
     def _score(self, said: dict, due: list, game: dict) -> None:
         score, sign = game["score"], -1 if (game["declarer"] or 0) % 2 else 1

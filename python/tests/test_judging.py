@@ -111,8 +111,13 @@ class Refusals(unittest.TestCase):
 
     def test_records(self):
         cases = {
-            b"": (2, 0), bytes([0, 1]): (3, 0), bytes([2, 0]): (3, 1), PASSED_OUT[:-1]: (2, 0), PASSED_OUT + b"\0": (16, 0),
-            PASSED_OUT[:-1] + b"\1": (14, 0), PASSED_OUT[:2] + bytes(13) + PASSED_OUT[15:]: (4, 0),
+            b"": (2, 0),
+            bytes([0, 1]): (3, 0),
+            bytes([2, 0]): (3, 1),
+            PASSED_OUT[:-1]: (2, 0),
+            PASSED_OUT + b"\0": (16, 0),
+            PASSED_OUT[:-1] + b"\1": (14, 0),
+            PASSED_OUT[:2] + bytes(13) + PASSED_OUT[15:]: (4, 0),
         }
         for record, due in cases.items():
             self.assertEqual(refused(judge, record), due)
@@ -123,15 +128,30 @@ class Refusals(unittest.TestCase):
         one = [3, 0, 0, 0]
         trick = cards("D2 H2 S2 C2")
         cases = [
-            ((0, 1, SUITS, one, trick, 12), (3, 0)), ((1, 0, SUITS, one, trick, 12), (3, 1)), ((1, 512, SUITS, one, trick, 12), (3, 1)),
-            ((1, 1, SUITS[:51], one, trick, 12), (4, 4)), ((1, 1, SUITS[:51] + (0,), one, trick, 12), (4, 0)), ((1, 1, (), one, trick, 12), (4, 4)),
-            ((1, 1, SUITS, [39], trick, 12), (5, 0)), ((1, 1, SUITS, [4, 3, 0, 0, 0], trick, 12), (6, 1)), ((1, 1, SUITS, [1], trick, 12), (7, 0)),
-            ((1, 1, SUITS, [0] * 5, [], None), (8, 4)), ((1, 1, SUITS, [3, 0], trick, 12), (9, 2)), ((1, 1, SUITS, [0] * 4, trick, None), (10, 4)),
-            ((1, 1, SUITS, one, [54], 1), (11, 0)), ((1, 1, SUITS, one, cards("D2 S2"), 1), (12, 1)), ((1, 1, SUITS, one, trick, None), (13, 4)),
-            ((1, 1, SUITS, one, [], 1), (14, 0)), ((1, 1, SUITS, one, trick, 13), (15, 13)), ((1, 1, SUITS, one, trick + [0], 12), (23, 4)),
-            ((1, 1, SUITS, [38, 3, 0, 0, 0], trick, 12), (24, 0)), ((1, 1, SUITS, one, [52, 0, 0] + trick, 12), (25, 0)),
-            ((1, 1, SUITS, one, [53, 1, 1] + trick, 12), (26, 0)), ((1, 1, SUITS, one, [52, 14, 0] * 41 + trick, 12), (25, 0)),
-            ((1, 1, SUITS, [0] * 512, [], None), (33, 511)), ((1, 1, SUITS, one, [0] * 70, None), (10, 63)),
+            ((0, 1, SUITS, one, trick, 12), (3, 0)),
+            ((1, 0, SUITS, one, trick, 12), (3, 1)),
+            ((1, 512, SUITS, one, trick, 12), (3, 1)),
+            ((1, 1, SUITS[:51], one, trick, 12), (4, 4)),
+            ((1, 1, SUITS[:51] + (0,), one, trick, 12), (4, 0)),
+            ((1, 1, (), one, trick, 12), (4, 4)),
+            ((1, 1, SUITS, [39], trick, 12), (5, 0)),
+            ((1, 1, SUITS, [4, 3, 0, 0, 0], trick, 12), (6, 1)),
+            ((1, 1, SUITS, [1], trick, 12), (7, 0)),
+            ((1, 1, SUITS, [0] * 5, [], None), (8, 4)),
+            ((1, 1, SUITS, [3, 0], trick, 12), (9, 2)),
+            ((1, 1, SUITS, [0] * 4, trick, None), (10, 4)),
+            ((1, 1, SUITS, one, [54], 1), (11, 0)),
+            ((1, 1, SUITS, one, cards("D2 S2"), 1), (12, 1)),
+            ((1, 1, SUITS, one, trick, None), (13, 4)),
+            ((1, 1, SUITS, one, [], 1), (14, 0)),
+            ((1, 1, SUITS, one, trick, 13), (15, 13)),
+            ((1, 1, SUITS, one, trick + [0], 12), (23, 4)),
+            ((1, 1, SUITS, [38, 3, 0, 0, 0], trick, 12), (24, 0)),
+            ((1, 1, SUITS, one, [52, 0, 0] + trick, 12), (25, 0)),
+            ((1, 1, SUITS, one, [53, 1, 1] + trick, 12), (26, 0)),
+            ((1, 1, SUITS, one, [52, 14, 0] * 41 + trick, 12), (25, 0)),
+            ((1, 1, SUITS, [0] * 512, [], None), (33, 511)),
+            ((1, 1, SUITS, one, [0] * 70, None), (10, 63)),
         ]
         for contents, due in cases:
             self.assertEqual(refused(write_record, *contents), due, contents)
@@ -147,9 +167,16 @@ class Refusals(unittest.TestCase):
         deal = f'[Deal "N:{MIXED}"]\n'
         auction = '[Board "1"]\n' + deal + '[Auction "N"]\n'
         cases = {
-            "": (32, 1), auction: (32, 4), auction + "1C Pass\n": (9, 2), auction.replace('Auction "N"', 'Auction "E"') + "Pass\n": (32, 3),
-            auction.replace('"1"', '"128"') + "Pass\n": (3, 0), auction + "1C Pass Pass Pass\n": (32, 5), auction + "1D 1C\n": (6, 1),
-            auction + "Pass Pass Pass Pass\n" + "Pass\n": (8, 4), auction + "X\n": (7, 0), auction + "Pass Pass Pass Pass\n" * 128: (33, 511),
+            "": (32, 1),
+            auction: (32, 4),
+            auction + "1C Pass\n": (9, 2),
+            auction.replace('Auction "N"', 'Auction "E"') + "Pass\n": (32, 3),
+            auction.replace('"1"', '"128"') + "Pass\n": (3, 0),
+            auction + "1C Pass Pass Pass\n": (32, 5),
+            auction + "1D 1C\n": (6, 1),
+            auction + "Pass Pass Pass Pass\n" + "Pass\n": (8, 4),
+            auction + "X\n": (7, 0),
+            auction + "Pass Pass Pass Pass\n" * 128: (33, 511),
         }
         for text, due in cases.items():
             self.assertEqual(refused(read_pbn, text.encode(), 1), due, text)

@@ -19,33 +19,24 @@ from clubscore.scoring import results
 
 from .browser import Browser
 from .common import ROOT, SUITS
+from .page_scripts import CHECKS, CONTRAST, MEDDLE, VALUES
 from .test_results import HEAD, named, pairs_of, record
 
-FIELDS = ("table", "ns", "ew", "contract", "declarer", "lead", "tricks_after", "score", "items", "ns_matchpoints", "ew_matchpoints", "ns_percent", "ew_percent")
-#: A row's own data, and its values as the browser reads them, percentages as the 64 bits of the number.
-VALUES = """(() => {
-  const bits = number => { const view = new DataView(new ArrayBuffer(8)); view.setFloat64(0, number); return view.getBigUint64(0).toString(16).padStart(16, "0"); };
-  const value = one => one.dataset.field.endsWith("percent") ? bits(JSON.parse(one.dataset.value)) : JSON.parse(one.dataset.value);
-  return [...document.querySelectorAll(%s)].map(row => [{...row.dataset}, Object.fromEntries([...row.querySelectorAll("[data-field]")].map(one => [one.dataset.field, value(one)]))]);
-})()"""
-CONTRAST = """(() => {
-  const numbers = colour => colour.match(/[\\d.]+/g).map(Number);
-  const part = c => (c /= 255) <= 0.03928 ? c / 12.92 : ((c + 0.055) / 1.055) ** 2.4;
-  const light = ([r, g, b]) => 0.2126 * part(r) + 0.7152 * part(g) + 0.0722 * part(b);
-  const ratio = (a, b) => { const [x, y] = [light(a), light(b)].sort((p, q) => q - p); return (x + 0.05) / (y + 0.05); };
-  const under = one => { for (; one; one = one.parentElement) { const c = numbers(getComputedStyle(one).backgroundColor); if (c.length < 4 || c[3] > 0) return c; } return [255, 255, 255]; };
-  const probe = document.createElement("span"); document.body.append(probe);
-  const bar = getComputedStyle(document.documentElement).getPropertyValue("--bar"); probe.style.color = bar;
-  const barred = numbers(getComputedStyle(probe).color); probe.remove();
-  let least = 99, count = 0, where = "";
-  for (const one of document.querySelectorAll("body *")) {
-    if (![...one.childNodes].some(node => node.nodeType === 3 && node.data.trim()) || !one.getClientRects().length || one.closest(".vh")) continue;
-    const ink = numbers(getComputedStyle(one).color), papers = [under(one)];
-    if (one.closest(".percent")) papers.push(barred);
-    for (const paper of papers) { const found = ratio(ink, paper); count++; if (found < least) { least = found; where = one.outerHTML.slice(0, 200); } }
-  }
-  return [least, count, where];
-})()"""
+FIELDS = (
+    "table",
+    "ns",
+    "ew",
+    "contract",
+    "declarer",
+    "lead",
+    "tricks_after",
+    "score",
+    "items",
+    "ns_matchpoints",
+    "ew_matchpoints",
+    "ns_percent",
+    "ew_percent",
+)
 
 
 def bits(key, value):
@@ -92,13 +83,27 @@ class InTheBrowser(unittest.TestCase):
 
     def same(self, found):
         """Every value of the page that is open is that of the results."""
-        due = [({"board": str(board["board"]), "table": str(row["table"])}, {key: bits(key, row[key]) for key in FIELDS if row[key] is not None}) for board in found["boards"] for row in board["rows"]]
+        due = [
+            ({"board": str(board["board"]), "table": str(row["table"])}, {key: bits(key, row[key]) for key in FIELDS if row[key] is not None})
+            for board in found["boards"]
+            for row in board["rows"]
+        ]
         self.assertEqual([list(one) for one in due], self.rows("tr[data-board]"))
-        due = [({"ranking": field["field"], "pair": json.dumps(row["pair"])}, {key: bits(key, row[key]) for key in ("rank", "pair", "boards", "percent") if row[key] is not None})
-               for field in found["ranking"] for row in field["rows"]]
+        due = [
+            (
+                {"ranking": field["field"], "pair": json.dumps(row["pair"])},
+                {key: bits(key, row[key]) for key in ("rank", "pair", "boards", "percent") if row[key] is not None},
+            )
+            for field in found["ranking"]
+            for row in field["rows"]
+        ]
         self.assertEqual([list(one) for one in due], self.rows("tr[data-ranking]"))
-        hands = self.browser.value("[...document.querySelectorAll('[data-hand]')].map(one => [+one.dataset.board, one.dataset.hand, JSON.parse(one.dataset.value)])")
-        self.assertEqual(sorted([board["board"], seat, hand] for board in found["boards"] if board["hands"] for seat, hand in board["hands"].items()), sorted(hands))
+        hands = self.browser.value(
+            "[...document.querySelectorAll('[data-hand]')].map(one => [+one.dataset.board, one.dataset.hand, JSON.parse(one.dataset.value)])"
+        )
+        self.assertEqual(
+            sorted([board["board"], seat, hand] for board in found["boards"] if board["hands"] for seat, hand in board["hands"].items()), sorted(hands)
+        )
         told = self.browser.value("[...document.querySelectorAll('[data-left-out]')].map(one => [+one.dataset.leftOut, one.textContent])")
         self.assertEqual([place for place, _ in told], list(range(len(found["left_out"]))))
         for (_, text), entry in zip(told, found["left_out"]):
@@ -113,14 +118,22 @@ class InTheBrowser(unittest.TestCase):
         """The texts, not the data: scores, percentages half up from the exact fraction, matchpoints, items."""
         self.browser.look(1280)
         self.browser.open(self.html)
-        seen = self.browser.value("""[...document.querySelectorAll("tr[data-board]")].map(row => Object.fromEntries([...row.querySelectorAll("[data-field]")].map(
-            one => [one.dataset.field, one.dataset.field === "items" ? [...one.querySelectorAll("dd")].map(dd => dd.textContent) : one.textContent])))""")
+        seen = self.browser.value(
+            """[...document.querySelectorAll("tr[data-board]")].map(row => Object.fromEntries([...row.querySelectorAll("[data-field]")].map(
+            one => [one.dataset.field, one.dataset.field === "items" ? [...one.querySelectorAll("dd")].map(dd => dd.textContent) : one.textContent])))"""
+        )
         rows = [row for board in self.results["boards"] for row in board["rows"]]
         for text, row in zip(seen, rows):
             if row["kind"] == "played":
                 total = row["ns_matchpoints"] + row["ew_matchpoints"]
-                self.assertEqual((text["ns_percent"], text["ew_percent"]), tuple(two_decimals(Fraction(100 * row[side], total)) for side in ("ns_matchpoints", "ew_matchpoints")))
-                self.assertEqual((text["ns_matchpoints"], text["score"], text["items"]), (str(row["ns_matchpoints"]), signed(row["score"]), [signed(item["points"]) for item in row["items"]]))
+                self.assertEqual(
+                    (text["ns_percent"], text["ew_percent"]),
+                    tuple(two_decimals(Fraction(100 * row[side], total)) for side in ("ns_matchpoints", "ew_matchpoints")),
+                )
+                self.assertEqual(
+                    (text["ns_matchpoints"], text["score"], text["items"]),
+                    (str(row["ns_matchpoints"]), signed(row["score"]), [signed(item["points"]) for item in row["items"]]),
+                )
                 self.assertEqual(sum(item["points"] for item in row["items"]), row["score"])
             self.assertEqual((text["ns"], text["ew"]), (row["ns"], row["ew"]))
         ranks = self.browser.value("[...document.querySelectorAll('tr[data-ranking]')].map(row => row.querySelector('[data-field=percent]').textContent)")
@@ -153,32 +166,32 @@ class InTheBrowser(unittest.TestCase):
 
     def test_what_it_is_made_of(self):
         self.browser.open(self.html)
-        self.assertEqual(self.browser.value("document.querySelectorAll('script,img,link,iframe,object,embed,form,input,button,svg,video,audio,base').length"), 0)
+        self.assertEqual(
+            self.browser.value("document.querySelectorAll('script,img,link,iframe,object,embed,form,input,button,svg,video,audio,base').length"), 0
+        )
         self.assertEqual(self.browser.value("[...document.querySelectorAll('[src],[srcset],[action],[ping],[background]')].length"), 0)
-        self.assertTrue(self.browser.value("[...document.querySelectorAll('[href]')].every(one => one.getAttribute('href')[0] === '#' && document.querySelector(one.getAttribute('href')))"))
-        self.assertEqual(self.browser.value("document.querySelectorAll('meta[http-equiv=Content-Security-Policy]')[0].content"), "default-src 'none'; style-src 'unsafe-inline'; base-uri 'none'; form-action 'none'")
+        self.assertTrue(
+            self.browser.value(
+                "[...document.querySelectorAll('[href]')].every(one => one.getAttribute('href')[0] === '#' && document.querySelector(one.getAttribute('href')))"
+            )
+        )
+        self.assertEqual(
+            self.browser.value("document.querySelectorAll('meta[http-equiv=Content-Security-Policy]')[0].content"),
+            "default-src 'none'; style-src 'unsafe-inline'; base-uri 'none'; form-action 'none'",
+        )
         with open(self.html, encoding="utf-8") as file:
             self.assertEqual(re.findall(r"url\(|@import|https?:", file.read()), [])
-        self.browser.value("{const s = document.createElement('script'); s.textContent = 'document.title = 1'; document.body.append(s); const i = document.createElement('img'); i.src = 'http://results.invalid/y'; document.body.append(i)}")
+        self.browser.value(MEDDLE)
         self.browser.wait_for("Network.loadingFailed")
-        self.assertEqual((self.browser.value("document.title"), self.browser.requests(), self.browser.blocked()), ("Results", ["file://" + self.html], ["http://results.invalid/y"]))
+        self.assertEqual(
+            (self.browser.value("document.title"), self.browser.requests(), self.browser.blocked()),
+            ("Results", ["file://" + self.html], ["http://results.invalid/y"]),
+        )
 
     def test_accessibility(self):
         self.browser.look(1280)
         self.browser.open(self.html)
-        checks = {
-            "language": "document.documentElement.lang === 'en'", "title": "document.title.length > 0", "one heading of the first level": "document.querySelectorAll('h1').length === 1",
-            "captions": "[...document.querySelectorAll('table')].every(one => one.caption && one.caption.textContent.trim())",
-            "scopes": "[...document.querySelectorAll('th')].every(one => ['col', 'row'].includes(one.scope) && one.textContent.trim())",
-            "header cells": "[...document.querySelectorAll('tbody tr:not(.note)')].every(one => one.querySelectorAll('th').length === 1)",
-            "no heading is passed over": "[...document.querySelectorAll('h1,h2,h3')].every((one, k, all) => k === 0 || +one.tagName[1] <= +all[k - 1].tagName[1] + 1)",
-            "identifiers": "new Set([...document.querySelectorAll('[id]')].map(one => one.id)).size === document.querySelectorAll('[id]').length",
-            "labels": "[...document.querySelectorAll('[aria-labelledby]')].every(one => document.getElementById(one.getAttribute('aria-labelledby')))",
-            "suits in words": "[...document.querySelectorAll('i')].every(one => one.getAttribute('role') === 'img' && one.getAttribute('aria-label'))",
-            "told before the first table": "[...document.querySelectorAll('[data-left-out]')].every(one => one.compareDocumentPosition(document.querySelector('table')) & 4)",
-            "names apart": "[...document.querySelectorAll('.pair:not(:empty)')].every(one => one.firstElementChild && one.firstElementChild.tagName === 'BDI')",
-        }
-        for name, check in checks.items():
+        for name, check in CHECKS.items():
             self.assertTrue(self.browser.value(check), name)
 
     def test_contrast(self):
@@ -197,7 +210,9 @@ class InTheBrowser(unittest.TestCase):
             self.browser.look(width)
             self.browser.open(self.html)
             self.assertLessEqual(self.browser.value("document.documentElement.scrollWidth"), width)
-            self.assertEqual(self.browser.value("[...document.querySelectorAll('section.board')].filter(one => one.scrollWidth > one.clientWidth).length"), 0, width)
+            self.assertEqual(
+                self.browser.value("[...document.querySelectorAll('section.board')].filter(one => one.scrollWidth > one.clientWidth).length"), 0, width
+            )
         self.browser.look(390)
         self.browser.open(self.html)
         roles = [node["role"]["value"] for node in self.browser.ask("Accessibility.getFullAXTree")["nodes"] if not node["ignored"]]
@@ -214,7 +229,20 @@ class InTheBrowser(unittest.TestCase):
         self.assertTrue(self.browser.value("document.querySelector('details dl').checkVisibility()"))
 
     def test_hostile_names(self):
-        names = ["<script>document.title='x'</script>", '"><img src=x onerror=alert(1)>', "'\" onmouseover='x", "\u202eabc\u202c", "\u05d0\u05d1 – \u0627", "a&amp;b &lt;", "\x00\x1b[31m", "</bdi></td>", "x" * 300, "]]>-->", "\ud83c\udca1".encode("utf-16", "surrogatepass").decode("utf-16"), " "  "lead"]
+        names = [
+            "<script>document.title='x'</script>",
+            '"><img src=x onerror=alert(1)>',
+            "'\" onmouseover='x",
+            "\u202eabc\u202c",
+            "\u05d0\u05d1 – \u0627",
+            "a&amp;b &lt;",
+            "\x00\x1b[31m",
+            "</bdi></td>",
+            "x" * 300,
+            "]]>-->",
+            "\ud83c\udca1".encode("utf-16", "surrogatepass").decode("utf-16"),
+            " " "lead",
+        ]
         text = HEAD + "".join(f'1,{table},"{name.replace(chr(34), chr(34) * 2)}",E{table},,\n' for table, name in enumerate(names, 1) if "\x00" not in name)
         records = [record(1, table, 3 + table % 9) for table in range(1, len(names) + 1)]
         found = results(named(*records), read_pairs("x", text.encode()))
@@ -223,7 +251,10 @@ class InTheBrowser(unittest.TestCase):
         self.browser.look(390)
         self.browser.open(path)
         self.same(found)
-        self.assertEqual((self.browser.value("document.title"), self.browser.value("document.scripts.length + document.images.length"), self.browser.requests()), ("Results", 0, ["file://" + path]))
+        self.assertEqual(
+            (self.browser.value("document.title"), self.browser.value("document.scripts.length + document.images.length"), self.browser.requests()),
+            ("Results", 0, ["file://" + path]),
+        )
         self.assertEqual([event for event in self.browser.events if event.get("method") == "Page.javascriptDialogOpening"], [])
         seen = self.browser.value("[...document.querySelectorAll('td.ns bdi')].map(one => one.textContent)")
         self.assertEqual(seen, [re.sub("[\x00-\x1f]", "\ufffd", name) for name in names])
@@ -257,15 +288,22 @@ class InTheBrowser(unittest.TestCase):
         self.browser.look(1280)
         self.browser.open(path)
         self.assertEqual(self.browser.value("document.querySelectorAll('tr[data-board]').length"), 127 * 128)
-        last = self.browser.value("(row => [row.dataset.board, row.dataset.table, row.querySelector('[data-field=ns_percent]').dataset.value])([...document.querySelectorAll('tr[data-board]')].pop())")
+        last = self.browser.value(
+            "(row => [row.dataset.board, row.dataset.table, row.querySelector('[data-field=ns_percent]').dataset.value])"
+            "([...document.querySelectorAll('tr[data-board]')].pop())"
+        )
         self.assertEqual(last, ["127", "128", json.dumps(first["boards"][0]["rows"][-1]["ns_percent"])])
         self.browser.value("location.hash = '#board-127'")
         self.assertTrue(self.browser.value("document.querySelector('#title-127').getBoundingClientRect().top < innerHeight"))
 
     def test_other_shapes(self):
         """No board at all; no pairs; all passed; a result alone; awards alone."""
-        cases = [results([]), results(named(write_record(1, 1, SUITS, [0] * 4, []), write_record(1, 2, SUITS, [0] * 4, []))), results(named(record(1, 1))),
-                 results([], pairs_of("7,1,A,B,60,40\n7,2,A,A,,\n8,1,C,D,,\n"))]
+        cases = [
+            results([]),
+            results(named(write_record(1, 1, SUITS, [0] * 4, []), write_record(1, 2, SUITS, [0] * 4, []))),
+            results(named(record(1, 1))),
+            results([], pairs_of("7,1,A,B,60,40\n7,2,A,A,,\n8,1,C,D,,\n")),
+        ]
         for place, found in enumerate(cases):
             self.browser.open(self.put(f"other-{place}.html", page(found)))
             self.same(found)

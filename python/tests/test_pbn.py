@@ -1,16 +1,10 @@
-"""What each sentence on files of games says, one case each; the samples, with what is printed of them; and the command `import`."""
-import contextlib
-import io
-import os
-import tempfile
+"""What each sentence on files of games says, one case each."""
 import unittest
-from unittest import mock
 
 from clubscore import Refused, judge
-from clubscore.__main__ import main
 from clubscore.pbn import Difference, games
 
-from .common import MIXED, SAMPLES
+from .common import MIXED
 
 DEAL = f'[Deal "N:{MIXED}"]\n'
 WHOLE = """DA D9 D6 D3
@@ -43,14 +37,6 @@ def only(text, table=None):
     return found[0]
 
 
-def run(*words):
-    """What the command prints, on standard output and on standard error, and its exit status."""
-    out, err = io.StringIO(), io.StringIO()
-    with contextlib.redirect_stdout(out), contextlib.redirect_stderr(err):
-        status = main(list(words))
-    return out.getvalue(), err.getvalue(), status
-
-
 DUE = only(game_of()).record
 
 
@@ -60,16 +46,46 @@ class Games(unittest.TestCase):
 
     def test_read_alike(self):
         ways = [
-            game_of().replace("\n", "\r\n"), game_of().replace("\n", "\r"), "\xef\xbb\xbf" + game_of(), game_of() + "\x1a", "\n\n \t\n" + game_of() + " \n\t\n",
-            "% escaped {\n" + game_of(), "; [Board\n" + game_of(), "{a comment\n\n[Board \"9\"]}" + game_of(), game_of("1NT{x}AP\n"), game_of("1NT ; x\nAP\n"),
-            game_of("1NT Pass Pass\nPass\n"), game_of("1NT\nP\npass\nPass"  "\n"), game_of("1N Pass AP\n"), game_of("1NT Pass Pass AP\n"), game_of("1NT Pass Pass Pass AP\n"),
-            game_of("1NT! AP\n"), game_of("1NT !! AP\n"), game_of("1NT=1= Pass =12= AP $7\n"), game_of("1NT$7 AP\n"), game_of("1NT=1=! $1 AP *\n"),
-            game_of(play=WHOLE + "*\n"), game_of(play=WHOLE.replace("\n", " ")), game_of(play=WHOLE.replace(" ", "\n")), game_of(play=WHOLE.replace("DA", "DA!? =3=")),
-            game_of(play=WHOLE.replace("DA", "^R DA").replace("DK", "^RDK")), game_of(tags='[Event "a\\"b"][Site "?"]\n'), game_of(tags='[Note "1:x"]\n'),
-            game_of(deal=DEAL.replace("AKQ.876", "QAK.687")), game_of(tags='[ScoreTable "A;B"]\n1 "; { [" 2\n"x\n'), game_of(tags="[Room\n\"Open\"\n]\n"),
-            game_of(deal='[Deal "E:JT9.543.AKQ2.876 876.AKQ2.JT9.543 5432.JT9.876.AKQ AKQ.876.543.JT92"]\n'), game_of(board="01"), game_of(board=" 1 "),
-            game_of().replace("\n", "  \t\n"), game_of().replace('[Auction "N"]\n', '[Auction "N"]\t'), game_of(tags='[Table "x1"]\n'), game_of(tags='[Table ""]\n'),
-            game_of(tags='[Note "1:x"]\n') + '[Note "2:y"]\n', game_of(tags='[West "\xff\xfe"]\n'), game_of(tags='[Board "1"]\n'),
+            game_of().replace("\n", "\r\n"),
+            game_of().replace("\n", "\r"),
+            "\xef\xbb\xbf" + game_of(),
+            game_of() + "\x1a",
+            "\n\n \t\n" + game_of() + " \n\t\n",
+            "% escaped {\n" + game_of(),
+            "; [Board\n" + game_of(),
+            '{a comment\n\n[Board "9"]}' + game_of(),
+            game_of("1NT{x}AP\n"),
+            game_of("1NT ; x\nAP\n"),
+            game_of("1NT Pass Pass\nPass\n"),
+            game_of("1NT\nP\npass\nPass" "\n"),
+            game_of("1N Pass AP\n"),
+            game_of("1NT Pass Pass AP\n"),
+            game_of("1NT Pass Pass Pass AP\n"),
+            game_of("1NT! AP\n"),
+            game_of("1NT !! AP\n"),
+            game_of("1NT=1= Pass =12= AP $7\n"),
+            game_of("1NT$7 AP\n"),
+            game_of("1NT=1=! $1 AP *\n"),
+            game_of(play=WHOLE + "*\n"),
+            game_of(play=WHOLE.replace("\n", " ")),
+            game_of(play=WHOLE.replace(" ", "\n")),
+            game_of(play=WHOLE.replace("DA", "DA!? =3=")),
+            game_of(play=WHOLE.replace("DA", "^R DA").replace("DK", "^RDK")),
+            game_of(tags='[Event "a\\"b"][Site "?"]\n'),
+            game_of(tags='[Note "1:x"]\n'),
+            game_of(deal=DEAL.replace("AKQ.876", "QAK.687")),
+            game_of(tags='[ScoreTable "A;B"]\n1 "; { [" 2\n"x\n'),
+            game_of(tags='[Room\n"Open"\n]\n'),
+            game_of(deal='[Deal "E:JT9.543.AKQ2.876 876.AKQ2.JT9.543 5432.JT9.876.AKQ AKQ.876.543.JT92"]\n'),
+            game_of(board="01"),
+            game_of(board=" 1 "),
+            game_of().replace("\n", "  \t\n"),
+            game_of().replace('[Auction "N"]\n', '[Auction "N"]\t'),
+            game_of(tags='[Table "x1"]\n'),
+            game_of(tags='[Table ""]\n'),
+            game_of(tags='[Note "1:x"]\n') + '[Note "2:y"]\n',
+            game_of(tags='[West "\xff\xfe"]\n'),
+            game_of(tags='[Board "1"]\n'),
         ]
         for text in ways:
             game = only(text)
@@ -91,7 +107,9 @@ class Games(unittest.TestCase):
 
     def test_words_outside(self):
         found = games(("hello\nworld\n" + game_of() + "\nthe end").encode())
-        self.assertEqual([(game.line, game.left_out) for game in found], [(1, "line 1: words outside any game"), (3, None), (22, "line 22: words outside any game")])
+        self.assertEqual(
+            [(game.line, game.left_out) for game in found], [(1, "line 1: words outside any game"), (3, None), (22, "line 22: words outside any game")]
+        )
 
     def test_types(self):
         for wrong in ("x", 1, None, [1]):
@@ -182,23 +200,38 @@ class EndedEarly(unittest.TestCase):
 class LeftOut(unittest.TestCase):
     def test_words(self):
         cases = [
-            (game_of("^L 1NT AP\n"), "line 4: ^L, which a record cannot say"), (game_of("^S AP\n"), "line 4: ^S, which a record cannot say"),
-            (game_of("1NT - AP\n"), "line 4: - among the calls, which a record cannot say"), (game_of("1NT +\n"), "line 4: + among the calls, which a record cannot say"),
-            (game_of(play="DA\n+\n"), "line 7: +, an unfinished play, which a record cannot say"), (game_of(play="^L DA\n"), "line 6: ^L, which a record cannot say"),
-            (game_of("1NT XXX AP\n"), "line 4: XXX, which is no call"), (game_of(play="DA D10\n"), "line 6: D10, which is no card"),
-            (game_of("8C AP\n"), "line 4: 8C, which is no call"), (game_of('"1C" AP\n'), 'line 4: "1C", which is no call'),
+            (game_of("^L 1NT AP\n"), "line 4: ^L, which a record cannot say"),
+            (game_of("^S AP\n"), "line 4: ^S, which a record cannot say"),
+            (game_of("1NT - AP\n"), "line 4: - among the calls, which a record cannot say"),
+            (game_of("1NT +\n"), "line 4: + among the calls, which a record cannot say"),
+            (game_of(play="DA\n+\n"), "line 7: +, an unfinished play, which a record cannot say"),
+            (game_of(play="^L DA\n"), "line 6: ^L, which a record cannot say"),
+            (game_of("1NT XXX AP\n"), "line 4: XXX, which is no call"),
+            (game_of(play="DA D10\n"), "line 6: D10, which is no card"),
+            (game_of("8C AP\n"), "line 4: 8C, which is no call"),
+            (game_of('"1C" AP\n'), 'line 4: "1C", which is no call'),
             (game_of(tags='[Event "x\n'), "line 3: a tag without its end, or without a name and a value in quotes"),
             (game_of(tags="[Event x]\n"), "line 3: a tag without its end, or without a name and a value in quotes"),
-            (game_of(tags="{x\n"), "line 3: a comment without its end"), (game_of(board="x"), 'line 1: Board "x", which is no number'),
-            (game_of(board=None), "without Board no record can be made"), (game_of(deal=""), "without Deal no record can be made"),
-            ('[Board "1"]\n' + DEAL + '[Contract "1NT"]\n[Result "7"]', "without Auction no record can be made"), (game_of(""), "without a call no record can be made"),
-            (game_of(deal=DEAL.replace("AKQ.876", "AKQ.886")), "line 2: Deal: H8 stands twice"), (game_of(deal=DEAL.replace("AKQ.876", "AKQ.86")), "line 2: Deal: no hand has H7"),
-            (game_of(deal=DEAL.replace("AKQ.876", "AKQ.1086")), "line 2: Deal: AKQ.1086.543.JT92, which is no hand"), (game_of(deal='[Deal "N:- - - -"]\n'), "line 2: Deal: -, which is no hand"),
-            (game_of(deal=DEAL.replace("N:", "Q:")), 'line 2: Deal "Q", which is no seat'), (game_of(deal='[Deal "N:AKQ"]\n'), "line 2: Deal: not four hands"),
-            (game_of().replace('Auction "N"', 'Auction "x"'), 'line 3: Auction "x", which is no seat'), (game_of(play=WHOLE + "* DA\n"), "line 19: DA behind the end of the play"),
-            (game_of(play=WHOLE + "DA\n"), "line 19: more than 13 tricks of four cards"), (game_of(tags='[Board "2"]\n'), "line 3: a second Board tag"),
-            (game_of() + '[Play "E"]\n', "line 19: a second Play tag"), (game_of("1NT AP * Pass\n"), "line 4: Pass behind the end of the auction"),
-            (game_of("\x1b[2J\n"), "line 4: a tag without its end, or without a name and a value in quotes"), (game_of("\x1b2J\n"), "line 4: \\x1b2J, which is no call"),
+            (game_of(tags="{x\n"), "line 3: a comment without its end"),
+            (game_of(board="x"), 'line 1: Board "x", which is no number'),
+            (game_of(board=None), "without Board no record can be made"),
+            (game_of(deal=""), "without Deal no record can be made"),
+            ('[Board "1"]\n' + DEAL + '[Contract "1NT"]\n[Result "7"]', "without Auction no record can be made"),
+            (game_of(""), "without a call no record can be made"),
+            (game_of(deal=DEAL.replace("AKQ.876", "AKQ.886")), "line 2: Deal: H8 stands twice"),
+            (game_of(deal=DEAL.replace("AKQ.876", "AKQ.86")), "line 2: Deal: no hand has H7"),
+            (game_of(deal=DEAL.replace("AKQ.876", "AKQ.1086")), "line 2: Deal: AKQ.1086.543.JT92, which is no hand"),
+            (game_of(deal='[Deal "N:- - - -"]\n'), "line 2: Deal: -, which is no hand"),
+            (game_of(deal=DEAL.replace("N:", "Q:")), 'line 2: Deal "Q", which is no seat'),
+            (game_of(deal='[Deal "N:AKQ"]\n'), "line 2: Deal: not four hands"),
+            (game_of().replace('Auction "N"', 'Auction "x"'), 'line 3: Auction "x", which is no seat'),
+            (game_of(play=WHOLE + "* DA\n"), "line 19: DA behind the end of the play"),
+            (game_of(play=WHOLE + "DA\n"), "line 19: more than 13 tricks of four cards"),
+            (game_of(tags='[Board "2"]\n'), "line 3: a second Board tag"),
+            (game_of() + '[Play "E"]\n', "line 19: a second Play tag"),
+            (game_of("1NT AP * Pass\n"), "line 4: Pass behind the end of the auction"),
+            (game_of("\x1b[2J\n"), "line 4: a tag without its end, or without a name and a value in quotes"),
+            (game_of("\x1b2J\n"), "line 4: \\x1b2J, which is no call"),
             (game_of("x" * 100 + "\n"), "line 4: " + "x" * 40 + ".., which is no call"),
         ]
         for text, words in cases:
@@ -207,11 +240,23 @@ class LeftOut(unittest.TestCase):
 
     def test_refused_by_the_library(self):
         cases = [
-            (game_of(board="0"), (3, 0)), (game_of(board="128"), (3, 0)), (game_of(board="4" * 30), (3, 0)), (game_of(deal=DEAL.replace("876.543.JT92", "876.543.JT924").replace("876.AKQ2.JT9.543", "876.AKQ2.JT9.53")), (4, 0)),
-            (game_of("1D 1C AP\n"), (6, 1)), (game_of("X AP\n"), (7, 0)), (game_of("1NT AP Pass\n"), (8, 4)), (game_of("1NT Pass\n"), (9, 2)), (game_of("P " * 512 + "\n"), (33, 511)),
-            (game_of(play=WHOLE.replace("DA D9", "D9 DA")), (12, 0)), (game_of(play=WHOLE.replace("DK", "DA")), (23, 4)), (game_of(play="D9 DA\n", tags='[Result "7"]\n'), (12, 0)),
-            (game_of(play="DA D9 D6 D3\nDA\n", tags='[Result "7"]\n'), (23, 4)), (game_of(board="2"), (32, 3)), (game_of().replace('Play "E"', 'Play "S"'), (32, 5)),
-            (game_of(play="DA\n", tags='[Result "7"]\n').replace('Play "E"', 'Play "S"'), (32, 5)), (game_of(play="DA\n", tags='[Result "7"]\n', board="2"), (32, 3)),
+            (game_of(board="0"), (3, 0)),
+            (game_of(board="128"), (3, 0)),
+            (game_of(board="4" * 30), (3, 0)),
+            (game_of(deal=DEAL.replace("876.543.JT92", "876.543.JT924").replace("876.AKQ2.JT9.543", "876.AKQ2.JT9.53")), (4, 0)),
+            (game_of("1D 1C AP\n"), (6, 1)),
+            (game_of("X AP\n"), (7, 0)),
+            (game_of("1NT AP Pass\n"), (8, 4)),
+            (game_of("1NT Pass\n"), (9, 2)),
+            (game_of("P " * 512 + "\n"), (33, 511)),
+            (game_of(play=WHOLE.replace("DA D9", "D9 DA")), (12, 0)),
+            (game_of(play=WHOLE.replace("DK", "DA")), (23, 4)),
+            (game_of(play="D9 DA\n", tags='[Result "7"]\n'), (12, 0)),
+            (game_of(play="DA D9 D6 D3\nDA\n", tags='[Result "7"]\n'), (23, 4)),
+            (game_of(board="2"), (32, 3)),
+            (game_of().replace('Play "E"', 'Play "S"'), (32, 5)),
+            (game_of(play="DA\n", tags='[Result "7"]\n').replace('Play "E"', 'Play "S"'), (32, 5)),
+            (game_of(play="DA\n", tags='[Result "7"]\n', board="2"), (32, 3)),
         ]
         for text, (number, place) in cases:
             game = only(text)
@@ -219,7 +264,7 @@ class LeftOut(unittest.TestCase):
             self.assertIn(str(game.refused), game.left_out)
 
     def test_others_are_read(self):
-        for wrong in ("{cut\n", '[Event "cut\n', "[Cut\n", game_of("Q\n"), "{cut\n\n[Board \"1\"] {and\n"):
+        for wrong in ("{cut\n", '[Event "cut\n', "[Cut\n", game_of("Q\n"), '{cut\n\n[Board "1"] {and\n'):
             found = games((game_of() + "\n" + wrong + "\n" + game_of(tags="{a comment}\n")).encode())
             self.assertEqual([found[0].record, found[-1].left_out], [DUE, None], wrong)
             self.assertTrue(all(game.left_out for game in found[1:-1]) and len(found) > 2)
@@ -230,83 +275,49 @@ class Differences(unittest.TestCase):
         return only(game_of(tags="".join(f'[{name} "{value}"]\n' for name, value in tags.items()))).differences
 
     def test_agree(self):
-        for tags in (dict(Dealer="N"), dict(Vulnerable="None"), dict(Vulnerable="Love"), dict(Vulnerable="-"), dict(Declarer="N"), dict(Declarer="^N"), dict(Contract="1NT"),
-                     dict(Contract="1N"), dict(Result="7"), dict(Result="NS 7"), dict(Result="EW 6"), dict(Result="EW 6 NS 7"), dict(Score="90"), dict(Score="NS 90"),
-                     dict(Score="EW -90"), dict(Score="NS 90 EW -90"), dict(Score="NS +90"), dict(Dealer=""), dict(Score="?"), dict(Result="#")):
+        for tags in (
+            dict(Dealer="N"),
+            dict(Vulnerable="None"),
+            dict(Vulnerable="Love"),
+            dict(Vulnerable="-"),
+            dict(Declarer="N"),
+            dict(Declarer="^N"),
+            dict(Contract="1NT"),
+            dict(Contract="1N"),
+            dict(Result="7"),
+            dict(Result="NS 7"),
+            dict(Result="EW 6"),
+            dict(Result="EW 6 NS 7"),
+            dict(Score="90"),
+            dict(Score="NS 90"),
+            dict(Score="EW -90"),
+            dict(Score="NS 90 EW -90"),
+            dict(Score="NS +90"),
+            dict(Dealer=""),
+            dict(Score="?"),
+            dict(Result="#"),
+        ):
             self.assertEqual(self.said(**tags), (), tags)
 
     def test_differ(self):
         judged = {"Dealer": "N", "Vulnerable": "None", "Declarer": "N", "Contract": "1NT", "Result": "7", "Score": "NS 90"}
-        wrong = {"Dealer": ("E", "n", "North"), "Vulnerable": ("All", "Both", "none"), "Declarer": ("S", "^S"), "Contract": ("1NTX", "2NT", "1C", "Pass"), "Result": ("8", "NS 8", "EW 7", "NS 7 EW 7", "+1"),
-                 "Score": ("-90", "NS 120", "EW 90", "NS 90 EW 90", "90.5")}
+        wrong = {
+            "Dealer": ("E", "n", "North"),
+            "Vulnerable": ("All", "Both", "none"),
+            "Declarer": ("S", "^S"),
+            "Contract": ("1NTX", "2NT", "1C", "Pass"),
+            "Result": ("8", "NS 8", "EW 7", "NS 7 EW 7", "+1"),
+            "Score": ("-90", "NS 120", "EW 90", "NS 90 EW 90", "90.5"),
+        }
         for tag, ways in wrong.items():
             for way in ways:
                 self.assertEqual(self.said(**{tag: way}), (Difference(tag, way, judged[tag]),))
-        self.assertEqual([difference.tag for difference in self.said(Score="1", Result="1", Contract="7C", Declarer="W", Vulnerable="EW", Dealer="W")], list(judged))
+        self.assertEqual(
+            [difference.tag for difference in self.said(Score="1", Result="1", Contract="7C", Declarer="W", Vulnerable="EW", Dealer="W")], list(judged)
+        )
 
     def test_passed_out(self):
         tags = '[Declarer "N"]\n[Contract "1C"]\n[Result "7"]\n[Score "NS 10"]\n'
         due = (Difference("Declarer", "N", ""), Difference("Contract", "1C", "Pass"), Difference("Result", "7", ""), Difference("Score", "NS 10", "NS 0"))
         self.assertEqual(only(game_of("AP\n", None, tags)).differences, due)
         self.assertEqual(only(game_of("AP\n", None, '[Declarer ""]\n[Contract "Pass"]\n[Result ""]\n[Score "0"]\n')).differences, ())
-
-
-class Import(unittest.TestCase):
-    def setUp(self):
-        folder = tempfile.TemporaryDirectory()
-        self.addCleanup(folder.cleanup)
-        self.folder = folder.name
-
-    def path(self, *names):
-        return os.path.join(self.folder, *names)
-
-    def put(self, text, name="club.pbn"):
-        with open(self.path(name), "wb") as file:
-            file.write(text.encode("latin-1") if isinstance(text, str) else text)
-        return self.path(name)
-
-    def test_samples(self):
-        for name in ("evening", "by-hand", "irregular"):
-            with open(os.path.join(SAMPLES, "pbn", "files", name + ".printed"), encoding="ascii") as file:
-                due = file.read()
-            out, err, status = run("import", os.path.join(SAMPLES, "pbn", "files", name + ".pbn"), "-o", self.path(name))
-            self.assertEqual((out + f"exit {status}\n", err), (due, ""))
-            self.assertEqual(sorted(os.listdir(self.path(name))), sorted(set(word.rstrip(";") for word in due.split() if word.rstrip(";").endswith(".record"))))
-
-    def test_nothing_is_overwritten(self):
-        club = self.put(game_of() + "\n" + game_of(tags='[Table "1"]\n') + "\n" + game_of("2NT AP\n", tags='[Table "1"]\n'))
-        name = "board-001-table-001.record"
-        due = f"game 1, line 1: {name}\ngame 2, line 20: {name}\ngame 3, line 40: left out: {name} is there already, with other bytes\n"
-        for _ in range(2):
-            self.assertEqual(run("import", club, "-o", self.path("out")), (due, "", 1))
-        with open(self.path("out", name), "rb") as file:
-            self.assertEqual(file.read(), DUE)
-
-    def test_exit(self):
-        self.assertEqual(run("import", self.put(""), "-o", self.path("out")), ("", "", 0))
-        self.assertEqual(run("import", self.put("no game at all"), "-o", self.path("out")), ("game 1, line 1: left out: line 1: words outside any game\n", "", 1))
-        out, err, status = run("import", self.path("missing"), "-o", self.path("out"))
-        self.assertEqual((out, err, status), ("", f"clubscore: {self.path('missing')}: No such file or directory\n", 2))
-        out, err, status = run("import", self.put(game_of()), "-o", self.put("", "file"))
-        self.assertEqual((out, status), ("", 2))
-        self.assertIn("file: File exists", err)
-        os.makedirs(self.path("out", "board-001-table-001.record"))
-        out, err, status = run("import", self.put(game_of()), "-o", self.path("out"))
-        self.assertEqual((out, status), ("game 1, line 1: left out: board-001-table-001.record cannot be written\n", 2))
-
-    def test_table(self):
-        self.assertEqual(run("import", self.put(game_of()), "--table", "12", "-o", self.path("out"))[0], "game 1, line 1: board-001-table-012.record\n")
-        with self.assertRaises(SystemExit) as caught, contextlib.redirect_stderr(io.StringIO()):
-            main(["import", "x", "--table", "x", "-o", "y"])
-        self.assertEqual(caught.exception.code, 2)
-
-    def test_printed_as_text(self):
-        out = run("import", self.put(game_of(tags='[Contract "\x1b[31m\xc3\xa4\xff"]\n')), "-o", self.path("out"))[0]
-        self.assertEqual(out, 'game 1, line 1: board-001-table-001.record; Contract "\\x1b[31mä\ufffd", judged "1NT"\n')
-
-    def test_progress_on_a_terminal(self):
-        screen = io.StringIO()
-        screen.isatty = lambda: True
-        with contextlib.redirect_stdout(io.StringIO()), mock.patch("sys.stderr", screen):
-            main(["import", self.put(game_of() + "\n" + game_of()), "-o", self.path("out")])
-        self.assertIn("1 of 2 games", screen.getvalue())

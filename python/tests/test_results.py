@@ -1,18 +1,11 @@
 """Results and rankings: numbers worked out here from the Laws, what is left out and told, and the same bytes for every order of the records."""
-import contextlib
-import io
 import itertools
-import json
-import os
 import random
 import struct
-import tempfile
 import unittest
 from fractions import Fraction
 
 from clubscore import schema, write_record
-from clubscore.__main__ import main
-from clubscore.files import NotRead
 from clubscore.pairs import read_pairs
 from clubscore.scoring import results
 
@@ -50,12 +43,28 @@ class Boards(unittest.TestCase):
     def test_rows(self):
         found = results(named(record(1, 1, 7), record(1, 2, 8), record(1, 3, 6), record(1, 9, 7)))
         board = found["boards"][0]
-        self.assertEqual((found["format"], board["board"], board["dealer"], board["vulnerable"], board["refused"]), ("clubscore results 1", 1, "N", "None", None))
+        self.assertEqual(
+            (found["format"], board["board"], board["dealer"], board["vulnerable"], board["refused"]), ("clubscore results 1", 1, "N", "None", None)
+        )
         self.assertEqual(board["hands"], dict(zip("NESW", MIXED.split())))
-        seen = [(row["table"], row["kind"], row["score"], row["ns_matchpoints"], row["ew_matchpoints"], row["ns_percent"], row["ew_percent"]) for row in board["rows"]]
-        self.assertEqual(seen, [(1, "played", 90, 3, 3, 50.0, 50.0), (2, "played", 120, 6, 0, 100.0, 0.0), (3, "played", -50, 0, 6, 0.0, 100.0), (9, "played", 90, 3, 3, 50.0, 50.0)])
+        seen = [
+            (row["table"], row["kind"], row["score"], row["ns_matchpoints"], row["ew_matchpoints"], row["ns_percent"], row["ew_percent"])
+            for row in board["rows"]
+        ]
+        self.assertEqual(
+            seen,
+            [
+                (1, "played", 90, 3, 3, 50.0, 50.0),
+                (2, "played", 120, 6, 0, 100.0, 0.0),
+                (3, "played", -50, 0, 6, 0.0, 100.0),
+                (9, "played", 90, 3, 3, 50.0, 50.0),
+            ],
+        )
         row = board["rows"][1]
-        self.assertEqual((row["contract"], row["declarer"], row["lead"], row["tricks"], row["tricks_after"], row["revokes"], row["failures"]), ("1NT", "N", "C6", 8, 8, [], []))
+        self.assertEqual(
+            (row["contract"], row["declarer"], row["lead"], row["tricks"], row["tricks_after"], row["revokes"], row["failures"]),
+            ("1NT", "N", "C6", 8, 8, [], []),
+        )
         self.assertEqual(row["items"], [{"name": "TRICKS", "points": 40}, {"name": "OVERTRICKS", "points": 30}, {"name": "PARTSCORE", "points": 50}])
         self.assertEqual((row["ns"], row["ew"], found["ranking"], found["left_out"]), (None, None, [], []))
         self.assertIsNone(schema.fault(found, schema.load()))
@@ -72,7 +81,9 @@ class Boards(unittest.TestCase):
     def test_alone_and_passed_out(self):
         found = results(named(record(1, 1), write_record(2, 5, SUITS, [0] * 4, [])))
         first, second = found["boards"][0]["rows"][0], found["boards"][1]["rows"][0]
-        self.assertEqual((first["kind"], first["ns_matchpoints"], first["ew_matchpoints"], first["ns_percent"], first["ew_percent"]), ("alone", 0, 0, None, None))
+        self.assertEqual(
+            (first["kind"], first["ns_matchpoints"], first["ew_matchpoints"], first["ns_percent"], first["ew_percent"]), ("alone", 0, 0, None, None)
+        )
         keys = ("kind", "contract", "declarer", "lead", "tricks", "tricks_after", "score", "items", "revokes", "failures")
         self.assertEqual([second[key] for key in keys], ["alone", "Pass", None, None, None, None, 0, [], [], []])
 
@@ -97,8 +108,21 @@ class Boards(unittest.TestCase):
         self.assertEqual(fouled["boards"][0]["refused"], results(named(*reversed(many + [record(1, 200, deal=SUITS)])))["boards"][0]["refused"])
 
     def test_same_and_two(self):
-        found = results([("b", record(1, 1)), ("a", record(1, 1)), ("c", record(1, 2, 7)), ("d", record(1, 2, 8)), ("e", record(1, 2, 8)), ("f", b"\0\1"), ("g", record(1, 3))])
-        self.assertEqual(told(found), [("refused", ["f"], None, None, None, 3, 0), ("same", ["a", "b"], 1, 1, None, None, None), ("two", ["c", "d", "e"], 1, 2, None, None, None)])
+        found = results(
+            [
+                ("b", record(1, 1)),
+                ("a", record(1, 1)),
+                ("c", record(1, 2, 7)),
+                ("d", record(1, 2, 8)),
+                ("e", record(1, 2, 8)),
+                ("f", b"\0\1"),
+                ("g", record(1, 3)),
+            ]
+        )
+        self.assertEqual(
+            told(found),
+            [("refused", ["f"], None, None, None, 3, 0), ("same", ["a", "b"], 1, 1, None, None, None), ("two", ["c", "d", "e"], 1, 2, None, None, None)],
+        )
         self.assertEqual([row["table"] for row in found["boards"][0]["rows"]], [1, 3])
 
     def test_nothing(self):
@@ -112,7 +136,10 @@ class Rankings(unittest.TestCase):
         ns, ew = found["ranking"]
         self.assertEqual((ns["field"], ew["field"]), ("NS", "EW"))
         # Board 1: NS 4, 2, 0 of 4. Board 2, East plays: 4 tricks is 150 to NS, 5 is 100: 3, 3, 0 of 4.
-        self.assertEqual([(row["rank"], row["pair"], row["boards"], row["exact"], row["percent"]) for row in ns["rows"]], [(1, "A", 2, "175/2", 87.5), (2, "B", 2, "125/2", 62.5), (3, "C", 2, "0/1", 0.0)])
+        self.assertEqual(
+            [(row["rank"], row["pair"], row["boards"], row["exact"], row["percent"]) for row in ns["rows"]],
+            [(1, "A", 2, "175/2", 87.5), (2, "B", 2, "125/2", 62.5), (3, "C", 2, "0/1", 0.0)],
+        )
         self.assertEqual([(row["rank"], row["pair"], row["exact"]) for row in ew["rows"]], [(1, "Z", "125/2"), (2, "X", "50/1"), (3, "Y", "75/2")])
 
     def test_ties_and_one_field(self):
@@ -120,7 +147,17 @@ class Rankings(unittest.TestCase):
         found = results(named(record(1, 1, 7), record(1, 2, 7), record(1, 3, 7)), pairs_of(text))
         self.assertEqual([field["field"] for field in found["ranking"]], ["all"])
         rows = [(row["rank"], row["pair"], row["boards"], row["percent"], row["exact"]) for row in found["ranking"][0]["rows"]]
-        self.assertEqual(rows, [(1, "A", 2, 50.0, "50/1"), (1, "B", 2, 50.0, "50/1"), (1, "C", 1, 50.0, "50/1"), (1, "D", 1, 50.0, "50/1"), (None, "Y", 0, None, None), (None, "Z", 0, None, None)])
+        self.assertEqual(
+            rows,
+            [
+                (1, "A", 2, 50.0, "50/1"),
+                (1, "B", 2, 50.0, "50/1"),
+                (1, "C", 1, 50.0, "50/1"),
+                (1, "D", 1, 50.0, "50/1"),
+                (None, "Y", 0, None, None),
+                (None, "Z", 0, None, None),
+            ],
+        )
 
     def test_shared_ranks(self):
         text = "".join(f"1,{table},N{table},E{table},,\n" for table in range(1, 5))
@@ -140,13 +177,18 @@ class Rankings(unittest.TestCase):
         rows = {row["pair"]: row for row in results(named(*some), pairs_of(text))["ranking"][0]["rows"]}
         self.assertEqual((rows["N1"]["rank"], rows["N1"]["exact"]), (rows["N2"]["rank"], rows["N2"]["exact"]))
         mean = sum(Fraction(100 * 2 * rank, 12) for rank in first) / 3
-        self.assertEqual((rows["N1"]["exact"], bits(rows["N1"]["percent"])), (f"{mean.numerator}/{mean.denominator}", bits(mean.numerator / mean.denominator)))
+        self.assertEqual(
+            (rows["N1"]["exact"], bits(rows["N1"]["percent"])), (f"{mean.numerator}/{mean.denominator}", bits(mean.numerator / mean.denominator))
+        )
 
     def test_awards(self):
         text = "1,1,A,X,,\n1,2,B,Y,,\n1,3,C,Z,60,40\n2,1,A,X,60,60\n2,2,C,Y,,\n3,1,A,X,50,40\n"
         found = results(named(record(1, 1, 8), record(1, 2, 7), record(2, 2)), pairs_of(text))
         rows = found["boards"][0]["rows"]
-        self.assertEqual([(row["kind"], row["ns_percent"], row["ew_percent"], row["ns_matchpoints"], row["contract"], row["score"]) for row in rows][2], ("awarded", 60.0, 40.0, None, None, None))
+        self.assertEqual(
+            [(row["kind"], row["ns_percent"], row["ew_percent"], row["ns_matchpoints"], row["contract"], row["score"]) for row in rows][2],
+            ("awarded", 60.0, 40.0, None, None, None),
+        )
         self.assertEqual([(row["kind"]) for row in found["boards"][1]["rows"]], ["awarded", "alone"])
         self.assertEqual((found["boards"][2]["hands"], found["boards"][2]["rows"][0]["ew_percent"]), (None, 40.0))
         ns = {row["pair"]: (row["boards"], row["exact"]) for row in found["ranking"][0]["rows"]}
@@ -160,149 +202,16 @@ class Rankings(unittest.TestCase):
 
     def test_what_does_not_fit(self):
         text = "1,1,A,X,60,40\n1,2,B,Y,,\n1,9,C,Z,,\n"
-        found = results([("one", record(1, 1)), ("two", record(1, 2)), ("three", record(1, 3)), ("four", record(1, 9)), ("five", record(1, 9, 8))], pairs_of(text))
-        due = [("two", ["five", "four"], 1, 9, None, None, None), ("no record", [], 1, 9, 4, None, None), ("no pair", ["three"], 1, 3, None, None, None), ("award", [], 1, 1, 2, None, None)]
+        found = results(
+            [("one", record(1, 1)), ("two", record(1, 2)), ("three", record(1, 3)), ("four", record(1, 9)), ("five", record(1, 9, 8))], pairs_of(text)
+        )
+        due = [
+            ("two", ["five", "four"], 1, 9, None, None, None),
+            ("no record", [], 1, 9, 4, None, None),
+            ("no pair", ["three"], 1, 3, None, None, None),
+            ("award", [], 1, 1, 2, None, None),
+        ]
         self.assertEqual(told(found), due)
-        self.assertEqual([(row["table"], row["ns"], row["kind"]) for row in found["boards"][0]["rows"]], [(1, "A", "played"), (2, "B", "played"), (3, None, "played")])
-
-
-class PairsFiles(unittest.TestCase):
-    def test_rows_that_cannot_be_used(self):
-        lines = ["1,1,A,B", "1,2,A,B,,,", "0,1,A,B,,", "128,1,A,B,,", "x,1,A,B,,", "1,0,A,B,,", "1,512,A,B,,", "1,3,,B,,", "1,3,A, ,,", "1,4,A,A,,", "1,5,A,B,60,", "1,5,A,B,,40", "1,6,A,B,70,30",
-                 "1,7,A,B,60%,40", "2,1,A,B,,", "2,1,C,D,,", "3,1,A,B,60,50", "-1,1,A,B,,", "4294967297,1,A,B,,"]
-        found = pairs_of("".join(line + "\n" for line in lines))
-        self.assertEqual([fault.line for fault in found.faults], [2, 3, 4, 5, 6, 7, 8, 9, 10, 11, 12, 13, 14, 15, 16, 17, 19, 20])
-        self.assertEqual(list(found.seatings), [(3, 1)])
-        self.assertEqual(told(results([], found))[0], ("pairs", [], None, None, 2, None, None))
-
-    def test_files(self):
-        four = "board,table,ns,ew\n"
-        for content in (HEAD + "7,3,A,B,,\n", four + "7,3,A,B\n", "\ufeff" + four + "7,3,A,B", four + "\n\n07,3,A,B\n\n", (four + "7,3,A,B\n").replace("\n", "\r\n")):
-            found = read_pairs("x", content.encode())
-            self.assertEqual(([(place, seating.ns, seating.ew) for place, seating in found.seatings.items()], found.faults), ([((7, 3), "A", "B")], []))
-        names = read_pairs("x", (four + '7,3," a ,""b""\nc",<b>\n').encode()).seatings[7, 3]
-        self.assertEqual((names.ns, names.ew, names.line), (' a ,"b"\nc', "<b>", 2))
-        self.assertEqual(read_pairs("x", (four + '7,3,"A\nA",B\n7,4,C,C\n').encode()).faults[0].line, 4)
-
-    def test_not_read(self):
-        for content in (b"", b"\n", b"7,3,A,B\n", b"board,table,ns,ew,award_ns\n", b"Board,Table,NS,EW\n", b"board;table;ns;ew\n", b"\xff\xfe", HEAD.encode() + b"7,3,\xff,B,,\n"):
-            self.assertRaises(NotRead, read_pairs, "x", content)
-
-
-class Schema(unittest.TestCase):
-    def setUp(self):
-        text = "1,1,A,X,,\n1,2,B,Y,,\n1,3,C,Z,60,40\n1,4,C,C,,\n"
-        self.found = results(named(record(1, 1, 8), record(1, 2, 7), b"\0"), pairs_of(text))
-        self.whole = schema.load()
-
-    def faulty(self, change):
-        found = json.loads(json.dumps(self.found))
-        change(found)
-        return schema.fault(found, self.whole)
-
-    def test_whole(self):
-        self.assertIsNone(schema.fault(self.found, self.whole))
-
-    def test_every_key(self):
-        """Another key, or one that is missing, in every object."""
-        def objects(value, at=()):
-            if isinstance(value, dict):
-                yield at
-            for key, one in value.items() if isinstance(value, dict) else enumerate(value) if isinstance(value, list) else ():
-                yield from objects(one, at + (key,))
-
-        def reach(found, at):
-            for key in at:
-                found = found[key]
-            return found
-
-        places = list(objects(self.found))
-        self.assertGreater(len(places), 15)
-        for at in places:
-            self.assertIsNotNone(self.faulty(lambda found: reach(found, at).update(other=1)), at)
-            for key in list(reach(self.found, at)):
-                self.assertIsNotNone(self.faulty(lambda found: reach(found, at).pop(key)), (at, key))
-                self.assertIsNotNone(self.faulty(lambda found: reach(found, at).update({key: True})), (at, key))
-
-    def test_values(self):
-        changes = [lambda f: f.update(format="clubscore results 2"), lambda f: f["boards"][0].update(board=0), lambda f: f["boards"][0].update(board=128), lambda f: f["boards"][0].update(board=1.5),
-                   lambda f: f["boards"][0].update(dealer="n"), lambda f: f["boards"][0]["hands"].update(N="AKQ"), lambda f: f["boards"][0]["rows"][0].update(contract="8C"),
-                   lambda f: f["boards"][0]["rows"][0].update(contract="1C\n"), lambda f: f["boards"][0]["rows"][0].update(kind="other"), lambda f: f["boards"][0]["rows"][0].update(ns_percent="60"),
-                   lambda f: f["boards"][0]["rows"][0].update(ns_percent=100.5), lambda f: f["ranking"][0]["rows"][0].update(exact="1/0"), lambda f: f["boards"][0].update(rows=[]), lambda f: f.update(boards={})]
-        for place, change in enumerate(changes):
-            self.assertIsNotNone(self.faulty(change), place)
-
-    def test_unknown_keyword(self):
-        self.assertRaises(AttributeError, schema.fault, 1, {"oneOf": []})
-
-
-class Command(unittest.TestCase):
-    def setUp(self):
-        folder = tempfile.TemporaryDirectory()
-        self.addCleanup(folder.cleanup)
-        self.folder = folder.name
-
-    def put(self, name, content):
-        path = os.path.join(self.folder, name)
-        with open(path, "wb") as file:
-            file.write(content)
-        return path
-
-    def run_(self, *words):
-        out, err = io.StringIO(), io.StringIO()
-        with contextlib.redirect_stdout(out), contextlib.redirect_stderr(err):
-            status = main(list(words))
-        return status, out.getvalue(), err.getvalue()
-
-    def test_exit(self):
-        good, bad, out = self.put("good", record(1, 1)), self.put("bad", b"\0\1"), os.path.join(self.folder, "out.json")
-        self.assertEqual(self.run_("results", good, "-o", out), (0, "", ""))
-        self.assertEqual(self.run_("results", good, bad, "-o", out), (1, "", f"clubscore: {bad}: refused: board not 1 to 127\n"))
-        with open(out, "rb") as file:
-            before = file.read()
-        missing = os.path.join(self.folder, "missing")
-        self.assertEqual(self.run_("results", good, missing, "-o", out), (2, "", f"clubscore: {missing}: No such file or directory\n"))
-        for pairs in (missing, self.put("p.csv", b"x\n"), self.put("q.csv", b"\xff")):
-            self.assertEqual(self.run_("results", good, "--pairs", pairs, "-o", out)[0], 2)
-        self.assertEqual(self.run_("results", good, "-o", os.path.join(missing, "x"))[0], 2)
-        with open(out, "rb") as file:
-            self.assertEqual(file.read(), before)
-        self.assertEqual([name for name in os.listdir(self.folder) if name.startswith(".")], [])
-
-    def test_hexadecimal(self):
-        good, out = record(1, 1), os.path.join(self.folder, "out.json")
-        text = "# a comment\n" + " ".join(f"{byte:02x}" for byte in good[:9]) + " # more\n" + good[9:].hex().upper() + "\n"
-        self.assertEqual(self.run_("results", self.put("a.hex", text.encode()), "-o", out)[0], 0)
-        for wrong in (b"0", b"0 2", b"zz", b"02 0#\n1"):
-            status, _, err = self.run_("results", self.put("b.hex", wrong), "-o", out)
-            self.assertEqual(status, 2)
-            self.assertIn("b.hex: is not hexadecimal, two digits a byte", err)
-        self.assertEqual(self.run_("results", self.put("hex", good), "-o", out)[0], 0)
-
-    def test_any_order(self):
-        chance = random.Random(41)
-        names = [self.put(f"r-{board}-{table}", record(board, table, chance.randrange(13), SUITS if (board, table) == (2, 3) else DEAL)) for board in range(1, 5) for table in range(1, 6)]
-        names += [self.put("bad-1", b""), self.put("bad-2", b"\0\1"), self.put("again", record(1, 1, 3)), self.put("again-2", record(3, 9, 3)), self.put("again-3", record(3, 9, 3))]
-        text = HEAD + "".join(f"{board},{table},N{table},E{(table + board) % 5},,\n" for board in range(1, 5) for table in range(1, 6)) + "9,9,A,B,60,60\n1,1,x,y,,\n"
-        pairs, written = self.put("pairs.csv", text.encode()), set()
-        for count in range(6):
-            out = os.path.join(self.folder, f"out-{count}.json")
-            self.assertEqual(self.run_("results", *names, "--pairs", pairs, "-o", out)[0], 1)
-            with open(out, "rb") as file:
-                written.add(file.read())
-            chance.shuffle(names)
-        self.assertEqual(len(written), 1)
-        found = json.loads(written.pop())
-        self.assertIsNone(schema.fault(found, schema.load()))
-
-    def test_page(self):
-        out = os.path.join(self.folder, "out.html")
-        for content in (b"", b"{}", b"[]", b"nothing", b"\xff", b'{"format": NaN}', b"[" * 100000, b"1" * 5000):
-            status, _, err = self.run_("page", self.put("x.json", content), "-o", out)
-            self.assertEqual((status, os.path.exists(out)), (2, False), content[:20])
-            self.assertTrue(err.startswith("clubscore: ") and err.count("\n") == 1, err)
-        self.assertEqual(self.run_("page", os.path.join(self.folder, "none"), "-o", out)[0], 2)
-
-
-if __name__ == "__main__":
-    unittest.main()
+        self.assertEqual(
+            [(row["table"], row["ns"], row["kind"]) for row in found["boards"][0]["rows"]], [(1, "A", "played"), (2, "B", "played"), (3, None, "played")]
+        )

@@ -75,7 +75,12 @@ class Tallies(unittest.TestCase):
         self.assertEqual(len({tally, tally_of([420]), Tally(7)}), 2)
         self.assertNotEqual(tally, bytes(tally))
         self.assertNotEqual(tally, None)
-        for change in (lambda: setattr(tally, "board", 8), lambda: setattr(tally, "_block", b""), lambda: delattr(tally, "_block"), lambda: setattr(tally, "x", 1)):
+        for change in (
+            lambda: setattr(tally, "board", 8),
+            lambda: setattr(tally, "_block", b""),
+            lambda: delattr(tally, "_block"),
+            lambda: setattr(tally, "x", 1),
+        ):
             self.assertRaises(AttributeError, change)
         before = bytes(tally)
         tally.add(10, SUITS)
@@ -107,7 +112,14 @@ class Copies(unittest.TestCase):
         tally = tally_of([420, -50])
         for protocol in range(pickle.HIGHEST_PROTOCOL + 1):
             self.assertEqual(pickle.loads(pickle.dumps(tally, protocol)), tally)
-            for value in (Refused(28, 0), Played(50.0), Alone(), Awarded(60.0), tally.results()[0], judge(bytes.fromhex("0201 0000001555555AAAAAABFFFFFF0200000000"))):
+            for value in (
+                Refused(28, 0),
+                Played(50.0),
+                Alone(),
+                Awarded(60.0),
+                tally.results()[0],
+                judge(bytes.fromhex("0201 0000001555555AAAAAABFFFFFF0200000000")),
+            ):
                 self.assertEqual(pickle.loads(pickle.dumps(value, protocol)), value)
         self.assertEqual((copy.copy(tally), copy.deepcopy([tally])), (tally, [tally]))
         refusal = pickle.loads(pickle.dumps(Refused(6, 7)))
@@ -130,13 +142,21 @@ class Refusals(unittest.TestCase):
         self.assertEqual(refused(operator.add, tally, tally_of([420], board=8)), (18, 0))
         self.assertEqual((refused(full.add, 420, SUITS), refused(operator.add, full, tally)), ((19, 0),) * 2)
         self.assertEqual((refused(tally.matchpoints, 430, SUITS), refused(tally.cell, 430, SUITS)), ((21, 0),) * 2)
-        self.assertEqual((refused(tally.add, 420, OTHER), refused(operator.add, tally, tally_of([0], deal=OTHER)), refused(tally.cell, 420, OTHER)), ((28, 0),) * 3)
+        self.assertEqual(
+            (refused(tally.add, 420, OTHER), refused(operator.add, tally, tally_of([0], deal=OTHER)), refused(tally.cell, 420, OTHER)), ((28, 0),) * 3
+        )
         self.assertEqual([refused(award, percent) for percent in (0, 55, 61, -60, 2**32 + 60, 2**64 + 50)], [(20, 0)] * 6)
         self.assertEqual([award(percent) for percent in (60, 50, 40)], [Awarded(60.0), Awarded(50.0), Awarded(40.0)])
 
     def test_words(self):
-        due = {17: "a tally that is not as described", 18: "tallies of two boards", 19: "more than 128 results", 20: "a score that is not valid",
-               21: "a score that no result has", 28: "a fouled board, results of two deals"}
+        due = {
+            17: "a tally that is not as described",
+            18: "tallies of two boards",
+            19: "more than 128 results",
+            20: "a score that is not valid",
+            21: "a score that no result has",
+            28: "a fouled board, results of two deals",
+        }
         self.assertEqual({number: str(Refused(number, 0)) for number in due}, due)
         self.assertEqual(str(Refused(4, 4)), "deal: a card is in no hand")
         self.assertEqual(str(Refused(99, 5)), "refusal 99, place 5")
@@ -144,7 +164,13 @@ class Refusals(unittest.TestCase):
     def test_types(self):
         tally = tally_of([420])
         for wrong in (1.0, "1", None):
-            for call in (Tally, award, lambda score: tally.add(score, SUITS), lambda score: tally.matchpoints(score, SUITS), lambda score: tally.cell(score, SUITS)):
+            for call in (
+                Tally,
+                award,
+                lambda score: tally.add(score, SUITS),
+                lambda score: tally.matchpoints(score, SUITS),
+                lambda score: tally.cell(score, SUITS),
+            ):
                 self.assertRaises(TypeError, call, wrong)
         for wrong in ("0" * 52, 7, None, 0.5):
             self.assertRaises(TypeError, tally.add, 420, wrong)

@@ -19,8 +19,10 @@ from clubscore import Refused, judge, write_record
 
 TABLES, SECTION_A, ROUNDS, BOARDS = 13, 7, 6, 4
 NAMES = (
-    "Adler Berg Christen Dahl Evers Falk Gerber Hahn Iversen Jansen Keller Lund Maas Nowak Olsen Peters Quist Rossi Sand Thoma Ulrich Vogt Weber Xander Yilmaz Zeller "
-    "Amsel Brandt Conrad Dorn Ebert Frey Graf Holm Imhof Jung Kaya Lorenz Moser Noll Otto Paul Quast Reiter Stein Tietz Uhl Voss Winter Xu York Zorn"
+    "Adler Berg Christen Dahl Evers Falk Gerber Hahn Iversen Jansen Keller Lund Maas "
+    "Nowak Olsen Peters Quist Rossi Sand Thoma Ulrich Vogt Weber Xander Yilmaz Zeller "
+    "Amsel Brandt Conrad Dorn Ebert Frey Graf Holm Imhof Jung Kaya Lorenz Moser "
+    "Noll Otto Paul Quast Reiter Stein Tietz Uhl Voss Winter Xu York Zorn"
 ).split()
 NOT_PLAYED, FOULED, REVOKE, EXPOSED, CUT = (9, 6), 17, (5, 4), (11, 2), (21, 11)
 
