@@ -51,13 +51,15 @@ def read_pairs(name: str, content: bytes) -> Pairs:
     width = len(rows[0][1])
     places = [(line, fields, _place(fields)) for line, fields in rows[1:] if fields]
     count = Counter(place for _, _, place in places if place is not None)
-    found, faults = {}, []
+    found: Dict[Tuple[int, int], Seating] = {}
+    faults: List[Fault] = []
     for line, fields, place in places:
         try:
             seating = _seating(line, fields, width)
-            if count[place] > 1:
+            if place is not None and count[place] > 1:
                 raise _Unusable(f"{count[place]} rows of board {place[0]} and table {place[1]}")
-            found[place] = seating
+            if place is not None:
+                found[place] = seating
         except _Unusable as why:
             faults.append(Fault(line, str(why)))
     return Pairs(found, faults)

@@ -86,7 +86,7 @@ def _record(raw: Raw, board: Optional[int], table: Optional[int]) -> bytes:
     for tag in ("Board", "Deal", "Auction"):
         if tag not in raw.tags or tag != "Auction" and not raw.tags[tag].value.strip():
             raise LeftOut(f"without {tag} no record can be made")
-    if board is None:
+    if board is None or table is None:
         raise at(raw.tags["Board"].line, f'Board "{shown(raw.tags["Board"].value)}", which is no number')
     return _Contents(raw, board, table).record()
 
@@ -94,13 +94,13 @@ def _record(raw: Raw, board: Optional[int], table: Optional[int]) -> bytes:
 class _Contents:
     """A game's contents as plain numbers, and the calls of the library that make a record of them."""
 
-    def __init__(self, raw: Raw, board: int, table: Optional[int]) -> None:
+    def __init__(self, raw: Raw, board: int, table: int) -> None:
         self.raw, self.board, self.table = raw, board, table
         self.holders = holders(raw.tags["Deal"])
         self.first_call = seat("Auction", raw.tags["Auction"])
         self.calls = calls(raw.sections["Auction"], self._passes_due)
         self.places = places(raw.sections["Play"]) if "Play" in raw.sections else []
-        self.first_card = seat("Play", raw.tags["Play"]) if self.places else None
+        self.first_card = seat("Play", raw.tags["Play"]) if self.places else 0
 
     def record(self) -> bytes:
         if not self.calls:
@@ -110,7 +110,7 @@ class _Contents:
         if MARK in self.calls:
             return self._by_contents()
         if sum(card is not None for card, _ in self.places) == 4 * _ROWS:
-            return self._by_text(self._rows())
+            return self._by_text(self._filled())
         return self._ended_early() if self.places else self._passed_out()
 
     def _passes_due(self, codes: List[int]) -> int:
@@ -145,7 +145,7 @@ class _Contents:
     def _wrong_seat(self, place: int) -> str:
         if place == 3:
             return f"line {self.raw.tags['Auction'].line}: Auction is not from the board's dealer on"
-        if self.first_card is None:
+        if not self.places:
             return "no card was played, and without one no record can be made of a contract"
         return f"line {self.raw.tags['Play'].line}: Play is not from the opening leader on, or all passed"
 
@@ -153,12 +153,16 @@ class _Contents:
         cards = [card for card, _ in self.places]
         return [cards[k : k + 4] + [None] * (4 - len(cards[k : k + 4])) for k in range(0, len(cards), 4)]
 
+    def _filled(self) -> List[List[int]]:
+        """The same with some card in each place that was not played."""
+        return [[0 if card is None else card for card in row] for row in self._rows()]
+
     def _passed_out(self) -> bytes:
         return self._by_text([])
 
     def _ended_early(self) -> bytes:
         """With a claim. What the subset refuses before the cards is asked first, with rows filled up; which card is wrong is seen in order of play."""
-        filled = [[0 if card is None else card for card in row] for row in self._rows()]
+        filled = self._filled()
         try:
             self._by_text(filled + [[0] * 4] * (_ROWS - len(filled)))
         except Refused as refused:
@@ -171,7 +175,7 @@ class _Contents:
         if self.first_call != dealer(self.board):
             raise at(self.raw.tags["Auction"].line, "Auction is not from the board's dealer on")
         leader = self._opening_leader()
-        if self.first_card is None:
+        if not self.places:
             raise LeftOut(self._wrong_seat(0))
         if self.first_card != leader:
             raise at(self.raw.tags["Play"].line, "Play is not from the opening leader on")
@@ -199,7 +203,7 @@ class _Contents:
             played = turn.index(None) if None in turn else 4
             if any(card is not None for card in turn[played:]):
                 raise at(self.places[4 * trick][1], f"trick {trick + 1} has a card and not the one that was played before it")
-            plays += turn[:played]
+            plays += [card for card in turn[:played] if card is not None]
             if trick + 1 < len(rows):
                 leader = self._judged(plays).winners[-1].seat
         return plays
@@ -207,7 +211,7 @@ class _Contents:
     def _with_claim(self, plays: List[int]) -> bytes:
         """The tricks of Result less those that declarer's side has won are the claim."""
         said, judged = value(self.raw.tags, "Result"), self._judged(plays)
-        tricks = None if said is None else declarers_tricks(said, judged.declarer)
+        tricks = None if said is None or judged.declarer is None else declarers_tricks(said, judged.declarer)
         if tricks is None:
             raise LeftOut(f"the play ended after {len(plays)} cards, and Result does not say with how many tricks")
         if tricks < judged.tricks:

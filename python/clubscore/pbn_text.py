@@ -18,7 +18,7 @@ _WHOLE_TAG = re.compile(r'[ \t]*\[[ \t]*(\w+)[ \t]+"([^"\\]*)"[ \t]*\][ \t]*\Z',
 _TAG = re.compile(r'\[\s*(\w+)\s*"((?:[^"\\\n]|\\[^\n])*)"\s*\]', re.ASCII)
 _STRING = re.compile(r'"(?:[^"\\]|\\.)*"')
 _WORD = re.compile(r'[^\s{;\["]+')
-_BLANKS = re.compile(r"\s*")
+_BLANKS = re.compile(r"\s+")
 _SIGNS = re.compile(r'[{;\["]')
 #: A tag may be written over so many lines.
 _TAG_LINES = 4
@@ -91,7 +91,8 @@ class _Reader:
         place = 0
         while True:
             line = self.lines[at]
-            place = _BLANKS.match(line, place).end()
+            blanks = _BLANKS.match(line, place)
+            place = blanks.end() if blanks else place
             sign = line[place : place + 1]
             if sign in ("", ";"):
                 return at + 1
@@ -146,9 +147,8 @@ class _Reader:
         return at + newlines, len(tag.group()) - tag.group().rfind("\n") - 1
 
     def _tag(self, name: str, value: str, line: int) -> None:
-        if self.game is None or not self.game.tagged:
-            self._start(line)
-            self.game.tagged = True
+        game = self.game if self.game is not None and self.game.tagged else self._start(line)
+        game.tagged = True
         if name == "Note":
             return
         self.section = None
@@ -157,29 +157,28 @@ class _Reader:
         value = re.sub(r"\\(.)", r"\1", value)
         if value == "#":
             value = self.before[name].value if name in self.before else ""
-        known = self.game.tags.get(name)
+        known = game.tags.get(name)
         if known is not None and (known.value != value or name in SECTIONS):
             self._fault(f"a second {name} tag", line)
             return
-        self.game.tags[name] = Tag(value, line)
+        game.tags[name] = Tag(value, line)
         if name in SECTIONS:
-            self.section = self.game.sections[name] = []
+            self.section = game.sections[name] = []
 
     def _words(self, words: List[str], line: int) -> None:
         if self.game is None:
-            self._start(line)
             self._fault("words outside any game", line)
         if self.section is not None:
             self.section.extend([Word(word, line) for word in words])
 
     def _fault(self, words: str, line: int) -> None:
-        if self.game is None:
-            self._start(line)
-        self.game.faults.append((line, words))
+        game = self.game if self.game is not None else self._start(line)
+        game.faults.append((line, words))
 
-    def _start(self, line: int) -> None:
+    def _start(self, line: int) -> Raw:
         self._end()
         self.game = Raw(line)
+        return self.game
 
     def _end(self) -> None:
         if self.game is not None:

@@ -12,7 +12,7 @@ _CALLS.update({word[:2]: code for word, code in _CALLS.items() if word.endswith(
 _CALLS.update({"pass": 0, "P": 0})
 
 #: A word with an irregularity in front, and notes, suffixes and the sign of the end behind.
-_MARKED = re.compile(r"(\^[A-Za-z]?)?(.*?)((?:=[0-9]+=|\$[0-9]+|[!?]+)*)(\*?)\Z")
+_MARKED = re.compile(r"(\^[A-Za-z]?)?(.*?)((?:=[0-9]+=|\$[0-9]+|[!?]+)*)(\*?)", re.DOTALL)
 #: No call or card with its notes is longer.
 _LONGEST = 40
 _HAND = re.compile(f"[{RANKS}]*")
@@ -49,8 +49,8 @@ def seat(name: str, tag: Tag) -> int:
 
 def holders(tag: Tag) -> List[int]:
     """The seat of each card, from a Deal tag that may start from any seat, with ranks in any order."""
-    first, colon, hands = tag.value.strip().partition(":")
-    start, hands = seat("Deal", Tag(first, tag.line)), hands.split()
+    first, colon, rest = tag.value.strip().partition(":")
+    start, hands = seat("Deal", Tag(first, tag.line)), rest.split()
     if not colon or len(hands) != 4:
         raise at(tag.line, "Deal: not four hands")
     found: Dict[int, int] = {}
@@ -76,8 +76,8 @@ def _apart(word: Word, kind: str) -> Tuple[str, str, bool]:
     """A word without its notes: the irregularity in front, the call or card, and whether the section ends behind it."""
     if len(word.text) > _LONGEST:
         raise at(word.line, f"{shown(word.text)}, which is no {kind}")
-    front, core, _, end = _MARKED.match(word.text).groups()
-    return front or "", core, bool(end)
+    found = _MARKED.fullmatch(word.text)
+    return (found.group(1) or "", found.group(2), bool(found.group(4))) if found else ("", word.text, False)
 
 
 def calls(words: List[Word], due: Callable[[List[int]], int]) -> List[int]:

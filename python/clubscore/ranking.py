@@ -39,13 +39,17 @@ def rankings(seatings: Iterable[Seating], counted: Iterable[Counted]) -> List[di
 
 
 def _rows(percentages: Dict[str, List[Fraction]]) -> List[dict]:
-    means = {pair: sum(some) / len(some) if some else None for pair, some in percentages.items()}
+    means = {pair: _mean(some) for pair, some in percentages.items()}
     order = sorted(percentages, key=lambda pair: (means[pair] is None, -(means[pair] or 0), pair))
     rows: List[dict] = []
     for place, pair in enumerate(order, 1):
         mean = means[pair]
         rows.append(_row(_rank(mean, place, rows), pair, len(percentages[pair]), mean))
     return rows
+
+
+def _mean(some: List[Fraction]) -> Optional[Fraction]:
+    return sum(some, Fraction(0)) / len(some) if some else None
 
 
 def _rank(mean: Optional[Fraction], place: int, rows: List[dict]) -> Optional[int]:

@@ -150,11 +150,13 @@ class _Board:
                 tally = tally.add(record.judgement.score, layout.holders(record.content))
             except Refused as refused:
                 refusals.append(refused)
-        fouled = [refused for refused in refusals if refused.number == _FOULED]
-        return tally, (fouled or refusals or [None])[0]
+        refusals.sort(key=lambda refused: refused.number != _FOULED)
+        return tally, refusals[0] if refusals else None
 
     def told(self) -> dict:
-        rows = [self._played(table) if table in self.records else self._awarded(table) for table in self._tables()]
+        awards = {table: seating.awards for table, seating in self.seatings.items() if seating.awards is not None}
+        tables = sorted(set(self.records) | set(awards))
+        rows = [self._played(table) if table in self.records else self._awarded(table, awards[table]) for table in tables]
         holders = None if self.refused is not None and self.refused.number == _FOULED else self.tally.holders
         hands = None if holders is None else {seat: hand(holders, number) for number, seat in enumerate(SEATS)}
         refused = None if self.refused is None else {"number": self.refused.number, "place": self.refused.place, "words": str(self.refused)}
@@ -167,14 +169,10 @@ class _Board:
             "rows": rows,
         }
 
-    def _tables(self) -> List[int]:
-        return sorted(set(self.records) | {table for table, seating in self.seatings.items() if seating.awards is not None})
-
-    def _awarded(self, table: int) -> dict:
-        seating = self.seatings[table]
-        ns, ew = (award(percent).percent for percent in seating.awards)
-        self.counted.append(Counted(seating, *(Fraction(percent) for percent in seating.awards)))
-        return self._row(table, "awarded", ns_percent=ns, ew_percent=ew)
+    def _awarded(self, table: int, awards: Tuple[int, int]) -> dict:
+        ns, ew = awards
+        self.counted.append(Counted(self.seatings[table], Fraction(ns), Fraction(ew)))
+        return self._row(table, "awarded", ns_percent=award(ns).percent, ew_percent=award(ew).percent)
 
     def _played(self, table: int) -> dict:
         record = self.records[table]
@@ -193,7 +191,7 @@ class _Board:
 
     def _row(self, table: int, kind: str, **told: object) -> dict:
         seating = self.seatings.get(table)
-        row = {"table": table, "ns": seating.ns if seating else None, "ew": seating.ew if seating else None, "kind": kind}
+        row: Dict[str, object] = {"table": table, "ns": seating.ns if seating else None, "ew": seating.ew if seating else None, "kind": kind}
         row.update({key: [] if key in ("revokes", "failures", "items") else None for key in _TOLD})
         row.update(told)
         return row
@@ -219,7 +217,7 @@ _TOLD = (
 def _judged(record: Record) -> dict:
     """What is told of a record's judgement; of a passed-out one the contract and the score alone."""
     judgement, lead = record.judgement, layout.lead(record.content)
-    if judgement.contract is None:
+    if judgement.declarer is None or lead is None:
         return {"contract": "Pass", "score": judgement.score}
     return {
         "contract": str(judgement.contract),

@@ -42,7 +42,7 @@ class Result(NamedTuple):
     """A score of a tally: how many results have it, and the matchpoints and the cell of one of them."""
 
     score: int
-    count: int
+    count: int  # type: ignore[assignment]
     ns_matchpoints: int
     ew_matchpoints: int
     cell: Cell
@@ -133,7 +133,8 @@ class Tally:
         """Law 78A's matchpoints of one result with that score, NS and EW; raises `Refused`."""
         deal, points = _native.numbers(holders), ctypes.create_string_buffer(_native.POINTS_BYTES)
         unless_refused(_native.tally_matchpoints(self._block, TALLY_BYTES, _native.i32(score), deal, len(deal), points, len(points)))
-        return struct.unpack(">HH", points.raw)
+        ns, ew = struct.unpack(">HH", points.raw)
+        return ns, ew
 
     def cell(self, score: int, holders: Sequence[int]) -> Cell:
         """The cell of one result with that score; raises `Refused`."""
@@ -145,7 +146,9 @@ class Tally:
         return self._block
 
     def __eq__(self, other: object) -> bool:
-        return self._block == other._block if isinstance(other, Tally) else NotImplemented
+        if not isinstance(other, Tally):
+            return NotImplemented
+        return self._block == other._block
 
     def __hash__(self) -> int:
         return hash(self._block)
