@@ -1,11 +1,11 @@
 # make test      the whole gate; its last line is that of `rt ci`
-# make demo      judges the records in samples/, prints a sheet and a slip, reads a game in Portable Bridge Notation, and merges two sections both ways, and makes a club's page
-# make install   puts headers, archives and pkg-config files under PREFIX
+# make demo      judges the records in samples/, prints a sheet and a slip, reads a game in Portable Bridge Notation, and merges two sections both ways
+# make install   puts headers, archives, shared libraries and pkg-config files under PREFIX
 # make bench     the proved judge's speed beside the Rust judge's, and that of merges
-# make python    the Python package `clubscore`, to run from the checkout; make python-test tries it
-# make fuzz      compares on random records, contents, texts, tallies, trees, sheets, slips, endings and team matches for FUZZ_SECONDS, from SEED where given
+# make fuzz      compares on random records, contents, texts, tallies, trees, sheets, slips, endings and team matches for FUZZ_SECONDS, and feeds the C programs
+#                for as long again (make fuzz-programs alone), from SEED where given
 # What is built beside the proofs stands in build/, since `rt ci` removes target/.
-.PHONY: test demo install install-files bench fuzz outside proved clean tools rt-tool FORCE
+.PHONY: test demo install install-files bench fuzz fuzz-programs outside proved clean tools rt-tool FORCE
 
 PREFIX = /usr/local
 FUZZ_SECONDS = 60
@@ -129,6 +129,31 @@ build/section: $(ARCHIVE) $(TALLY_ARCHIVE) $(COMMON) $(WORDS_ARCHIVE) scoring/se
 build/standings: $(TALLY_ARCHIVE) $(COMMON) $(WORDS_ARCHIVE) scoring/standings.c $(PLAIN_HEADERS)
 	$(CC) $(CFLAGS) -Iinclude -Icommon scoring/standings.c $(COMMON) $(WORDS_ARCHIVE) $(TALLY_ARCHIVE) -o $@
 
+# The C programs and the headers' helpers with sanitizers, as one target of libFuzzer, which Debian's clang has. It starts from tests/corpus, and from the samples.
+CLANG = clang
+SANITIZERS = -std=c99 -g -O1 -fno-sanitize-recover=all -Iinclude -Icommon -Iterminal
+FUZZED = $(wildcard common/*.c library/*.c) $(filter-out terminal/main.c,$(wildcard terminal/*.c))
+GATE_FUZZ_SECONDS = 20
+
+build/fuzz/%.o: FORCE
+	$(call need,$(CLANG))
+	@mkdir -p $(@D)
+	$(CLANG) $(SANITIZERS) -fsanitize=address,undefined,fuzzer-no-link -Dmain=$*_main -c $(if $(filter terminal,$*),terminal/main.c,scoring/$*.c) -o $@
+
+build/fuzz/programs: build/fuzz/terminal.o build/fuzz/section.o build/fuzz/standings.o tests/fuzz/programs.c $(FUZZED) $(PLAIN_HEADERS) $(ARCHIVE) $(TALLY_ARCHIVE)
+	$(CLANG) $(SANITIZERS) -Wall -Wextra -fsanitize=address,undefined,fuzzer $(filter %.c %.o,$^) $(ARCHIVE) $(TALLY_ARCHIVE) -o $@
+
+# fuzz-programs SECONDS: a finding is kept in build/fuzz; what is learnt stays in build/fuzz/corpus.
+define fuzz-programs
+	@mkdir -p build/fuzz/corpus
+	tests/fuzz/seeds.sh build/fuzz/seeds build/terminal build/section
+	build/fuzz/programs -max_total_time=$(1) -timeout=10 -max_len=8192 -rss_limit_mb=2048 -verbosity=0 -print_final_stats=1 -artifact_prefix=build/fuzz/ \
+	    $(if $(SEED),-seed=$(SEED)) build/fuzz/corpus tests/corpus build/fuzz/seeds
+endef
+
+fuzz-programs: build/fuzz/programs build/terminal build/section
+	$(call fuzz-programs,$(FUZZ_SECONDS))
+
 # The programs under valgrind, as the scripts call them: a fault or a leak is a status that no script expects.
 build/valgrind/%: build/%
 	$(call need,valgrind)
@@ -208,7 +233,7 @@ build/rust-built: $(ARCHIVE) $(TALLY_ARCHIVE) FORCE | tools
 proved: rt-tool
 	rt check $(JUDGE_MEMBERS) tally_calls $(notdir $(TREE) $(SHEET) $(CELLS) $(SLIP) $(BEST) $(PBN) $(TEAM))
 
-outside: tools proved build/rust-built build/terminal build/section build/standings $(VALGRIND) $(SHARED) $(TREE) $(SHEET) $(CELLS) $(SLIP) $(BEST) $(PBN) $(TEAM)
+outside: tools proved build/rust-built build/terminal build/section build/standings build/fuzz/programs $(VALGRIND) $(SHARED) $(TREE) $(SHEET) $(CELLS) $(SLIP) $(BEST) $(PBN) $(TEAM)
 	$(CC) $(CFLAGS) -Iinclude tests/c/header.c $(ARCHIVE) -o build/header-c
 	valgrind --quiet --error-exitcode=1 build/header-c
 	$(CXX) $(CXXFLAGS) -Iinclude -x c++ tests/c/header.c -x none $(ARCHIVE) -o build/header-c++
@@ -223,6 +248,7 @@ outside: tools proved build/rust-built build/terminal build/section build/standi
 	build/words-c++
 	tests/samples.sh $(RUST)/write_record
 	@mkdir -p build/work
+	$(call fuzz-programs,$(GATE_FUZZ_SECONDS))
 	tests/terminal.sh build/valgrind/terminal build/work
 	tests/pbn.sh $(PBN) $(RUST)/write_record build/terminal build/work
 	tests/pbn.sh $(RUST)/read_pbn $(RUST)/write_record build/terminal build/work
@@ -260,8 +286,9 @@ outside: tools proved build/rust-built build/terminal build/section build/standi
 	$(CC) $(CFLAGS) -Iinclude tests/c/stack.c $(ARCHIVE) -o build/stack
 	build/stack build/blocks.records
 
-# A tenth of the time each for records, records with penalty cards, contents, texts, tallies, trees, sheets, slips, endings and team matches.
-fuzz: build/rust-built $(TREE) $(SHEET) $(CELLS) $(SLIP) $(BEST) $(PBN) $(TEAM)
+# A tenth of the time each for records, records with penalty cards, contents, texts, tallies, trees, sheets, slips, endings and team matches, and as long again
+# for the C programs.
+fuzz: build/rust-built fuzz-programs $(TREE) $(SHEET) $(CELLS) $(SLIP) $(BEST) $(PBN) $(TEAM)
 	$(RUST)/records --seconds $$(($(FUZZ_SECONDS) / 10)) $(SEED_WORDS)
 	$(RUST)/penalties --seconds $$(($(FUZZ_SECONDS) / 10)) $(SEED_WORDS)
 	$(RUST)/writes --seconds $$(($(FUZZ_SECONDS) / 10)) $(SEED_WORDS)
@@ -276,7 +303,8 @@ fuzz: build/rust-built $(TREE) $(SHEET) $(CELLS) $(SLIP) $(BEST) $(PBN) $(TEAM)
 bench: build/rust-built $(MERGES)
 	$(RUST)/bench --merges $(MERGES)
 
-# The Python package: the shared libraries stand beside its modules, so that it runs from the checkout.
+# make python       the Python package `clubscore`: the shared libraries stand beside its modules, so that it runs from the checkout
+# make python-test  tries it, and the page in chromium
 PYTHON = python3
 CLUBSCORE = PYTHONPATH=python $(PYTHON) -m clubscore
 .PHONY: python python-test chromium

@@ -9,7 +9,10 @@
 
 struct records *new_records(void) {
     struct records *records = calloc(1, sizeof *records);
-    if (records) records->end = &records->first;
+    if (records)
+        records->end = &records->first;
+    else
+        fprintf(stderr, "%s\n", NO_MEMORY);
     return records;
 }
 

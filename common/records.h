@@ -27,7 +27,7 @@ struct records {
     unsigned long left_out;              /* records that were refused, could not be read, or stand beside a different one of their board and table */
 };
 
-/* No records, in memory of their own; null where there is none. */
+/* No records, in memory of their own; null where there is none, which is then said. */
 struct records *new_records(void);
 void free_records(struct records *records);
 

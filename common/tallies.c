@@ -1,6 +1,15 @@
 #include "tallies.h"
 
+#include <stdlib.h>
 #include <string.h>
+
+#include "input.h"
+
+struct tallies *new_tallies(void) {
+    struct tallies *tallies = calloc(1, sizeof *tallies);
+    if (!tallies) fprintf(stderr, "%s\n", NO_MEMORY);
+    return tallies;
+}
 
 void meet_board(struct tallies *tallies, unsigned board) {
     if (tallies->met[board]) return;

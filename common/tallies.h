@@ -16,6 +16,9 @@ struct tallies {
     int met[BOARDS]; /* whether anything was added or merged */
 };
 
+/* No tallies, in memory of their own; null where there is none, which is then said. The caller frees them. */
+struct tallies *new_tallies(void);
+
 /* The empty tally of a board that was not met before. The board has to be 1 to 127. */
 void meet_board(struct tallies *tallies, unsigned board);
 

@@ -1,6 +1,7 @@
 /* The tallies of one section: judges table records, adds each score with its deal to its board's tally, and writes one file of tallies, 398
  * bytes a board, boards rising. A board at which an addition is refused is written as its number and 397 bytes of 255, which is no tally. */
 #include <stdio.h>
+#include <stdlib.h>
 
 #include "input.h"
 #include "output.h"
@@ -53,16 +54,16 @@ static int is_input(const char *out, int count, char **names) {
 }
 
 static enum status make_section(const char *out, int keep_on, int count, char **names) {
-    static struct tallies tallies;
+    enum status worst = NOT_READ;
     if (is_input(out, count, names)) return NOT_READ;
     struct records *records = new_records();
-    if (!records) {
-        fprintf(stderr, "%s\n", NO_MEMORY);
-        return NOT_READ;
+    struct tallies *tallies = records ? new_tallies() : NULL;
+    if (tallies) {
+        worst = take_all(records, count, names);
+        worst = worse(worst, add_results(records, tallies));
+        worst = worse(worst, write_tallies(out, records, tallies, keep_on));
     }
-    enum status worst = take_all(records, count, names);
-    worst = worse(worst, add_results(records, &tallies));
-    worst = worse(worst, write_tallies(out, records, &tallies, keep_on));
+    free(tallies);
     free_records(records);
     return worst;
 }

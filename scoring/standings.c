@@ -55,19 +55,25 @@ static enum status take_file(struct tallies *merged, const char *name) {
     return status;
 }
 
+static enum status merge_files(int count, char **names) {
+    enum status worst = ACCEPTED;
+    struct tallies *merged = new_tallies();
+    if (!merged) return NOT_READ;
+    for (int k = 0; k < count; k++) worst = worse(worst, take_file(merged, names[k]));
+    for (unsigned board = 1; board < BOARDS; board++)
+        if (merged->met[board]) print_board(stdout, board, merged->of[board]);
+    free(merged);
+    return finish(worst);
+}
+
 int main(int count, char **words) {
-    static struct tallies merged;
     struct options options = {count, words, 1, NULL};
     const char *argument = NULL;
-    enum status worst = ACCEPTED;
     for (int option; (option = next_option(&options, "", &argument)) != OPTIONS_END;) {
         if (option == OPTION_HELP) return print_help(&PROGRAM);
         if (option == OPTION_VERSION) return print_version(&PROGRAM);
         return print_usage(&PROGRAM);
     }
     if (options.next == count) return print_usage(&PROGRAM);
-    for (int k = options.next; k < count; k++) worst = worse(worst, take_file(&merged, words[k]));
-    for (unsigned board = 1; board < BOARDS; board++)
-        if (merged.met[board]) print_board(stdout, board, merged.of[board]);
-    return finish(worst);
+    return merge_files(count - options.next, words + options.next);
 }

@@ -107,7 +107,8 @@ class InTheBrowser(unittest.TestCase):
         told = self.browser.value("[...document.querySelectorAll('[data-left-out]')].map(one => [+one.dataset.leftOut, one.textContent])")
         self.assertEqual([place for place, _ in told], list(range(len(found["left_out"]))))
         for (_, text), entry in zip(told, found["left_out"]):
-            self.assertIn(entry["words"], text)
+            for words in [entry["words"]] + [file.encode("utf-8", "backslashreplace").decode("utf-8") for file in entry["files"]]:
+                self.assertIn(words, text)
 
     def test_values(self):
         self.browser.look(1280)

@@ -56,7 +56,7 @@ by-list l s =
     (λ (v : validScore s ≡ false). rw v)
 
 -- the refusals before the answer are the same
-by-asked : (l : List Result) (r : Result) → byPoints (asked matchpoints l r) ≡ asked sharesAsked l r
+pub by-asked : (l : List Result) (r : Result) → byPoints (asked matchpoints l r) ≡ asked sharesAsked l r
 unfolding asked
 by-asked l r =
     by-test (eqb (givenRefusal l r .number) 0)

@@ -33,5 +33,6 @@ pub mod TallyInRecord
 pub mod TallyBytes
 pub mod Demand3Bytes
 pub mod Reduction
+pub mod Hundredths
 pub mod Pbn
 pub mod PbnProgram

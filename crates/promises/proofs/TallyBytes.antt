@@ -83,7 +83,7 @@ module _ (needed : ℕ) (said : Placed (List ℕ)) (good : Good needed said) whe
       (λ (q : ltb room needed ≡ true). subst (Good needed) (sym (in-short room (ltb-true room needed q))) (refl, omega arith))
       (λ (q : ltb room needed ≡ false). subst (Good needed) (sym (in-long room (ltb-false room needed q))) good)
 
-  in-room : OfCall needed (λ room. inRoom needed room said)
+  pub in-room : OfCall needed (λ room. inRoom needed room said)
   in-room =
       record {
         number = λ room. number-of needed (inRoom needed room said) (in-good room);

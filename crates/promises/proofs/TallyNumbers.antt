@@ -185,17 +185,17 @@ merge-made a b =
         (sound-merge (a .board) (a .deal) l (b .deal) m x (rw (k .0) y) (omega (arith, k .2, length-on (a .deal) l, length-on (b .deal) m)))))
 
 -- ---- answers to questions
-abbrev Allowed : {A : Type 0} → Placed A → Type 0
+abbrev pub Allowed : {A : Type 0} → Placed A → Type 0
 Allowed (refusedAt n place) = (refusesCall n ≡ true) × (place ≤ 4)
 Allowed (given a) = Unit {0}
 
-spelled-good : {A : Type 0} (needed : ℕ) (bytes : A → List ℕ) (x : Placed A) → Allowed x → ((a : A) → (length (bytes a) ≡ needed) × Bytes (bytes a))
+pub spelled-good : {A : Type 0} (needed : ℕ) (bytes : A → List ℕ) (x : Placed A) → Allowed x → ((a : A) → (length (bytes a) ≡ needed) × Bytes (bytes a))
     → Good needed (spelled bytes x)
 spelled-good needed bytes (refusedAt n place) h f = h
 spelled-good needed bytes (given a) h f = f a
 
 module _ {A : Type 0} (question : List ℤ → ℤ → Answer A) (h : (l : List ℤ) (s : ℤ) → Allowed (placed (question l s))) where
-  asked-allowed : (l : List Result) (r : Result) → Allowed (asked question l r)
+  pub asked-allowed : (l : List Result) (r : Result) → Allowed (asked question l r)
   unfolding asked
   asked-allowed l r =
       let g = givenRefusal l r in
@@ -224,7 +224,7 @@ cells-allowed l s =
     (λ (v : validScore s ≡ false). rw v (refl, omega arith))
 
 -- of a tally
-of-tally : {A : Type 0} (t : Tally) (x : Placed A) → Allowed x → Allowed (if wellFormed t then x else refusedAt 17 0)
+pub of-tally : {A : Type 0} (t : Tally) (x : Placed A) → Allowed x → Allowed (if wellFormed t then x else refusedAt 17 0)
 of-tally t x h =
     by-test (wellFormed t)
     (λ (w : wellFormed t ≡ true). rw w h)

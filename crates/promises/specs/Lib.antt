@@ -21,4 +21,5 @@ pub mod BestRecord
 pub mod TallyBytes
 pub mod Demand3Bytes
 pub mod Reduction
+pub mod Hundredths
 pub mod Pbn
