@@ -4,6 +4,7 @@ from __future__ import annotations
 import os
 import re
 import tempfile
+from typing import Iterable
 
 OK, LEFT_OUT, NOT_READ = 0, 1, 2
 
@@ -31,8 +32,10 @@ def read_record(name: str) -> bytes:
     return bytes.fromhex(digits.decode("ascii"))
 
 
-def write_whole(name: str, content: bytes) -> None:
-    """Writes a file beside the name and renames it, so that what stands there is whole or as it was."""
+def write_whole(name: str, content: bytes, inputs: Iterable[str]) -> None:
+    """Writes a file beside the name and renames it, so that what stands there is whole or as it was; never over one of the inputs."""
+    if os.path.exists(name) and any(os.path.samefile(name, one) for one in inputs):
+        raise NotRead(f"{name}: is one of the inputs, and is not written over")
     folder = os.path.dirname(name) or "."
     handle, beside = tempfile.mkstemp(prefix=".clubscore-", dir=folder)
     try:

@@ -47,7 +47,7 @@ def write_page(results: str, out: str) -> int:
     fault = schema.fault(found, schema.load())
     if fault is not None:
         raise NotRead(f"{results}: is not of the schema of {FORMAT}: {fault}")
-    write_whole(out, page(found).encode("utf-8", "backslashreplace"))
+    write_whole(out, page(found).encode("utf-8", "backslashreplace"), [results])
     return OK
 
 

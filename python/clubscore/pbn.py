@@ -83,9 +83,10 @@ def _unread(count: int, raw: Raw, board: Optional[int], table: Optional[int]) ->
 def _record(raw: Raw, board: Optional[int], table: Optional[int]) -> bytes:
     if raw.faults:
         raise at(*min(raw.faults))
-    for tag in ("Board", "Deal", "Auction"):
-        if tag not in raw.tags or tag != "Auction" and not raw.tags[tag].value.strip():
-            raise LeftOut(f"without {tag} no record can be made")
+    for name in ("Board", "Deal", "Auction"):
+        tag = raw.tags.get(name)
+        if tag is None or not tag.value.strip() and not raw.sections.get(name):
+            raise LeftOut(f"without {name} no record can be made")
     if board is None or table is None:
         raise at(raw.tags["Board"].line, f'Board "{shown(raw.tags["Board"].value)}", which is no number')
     return _Contents(raw, board, table).record()

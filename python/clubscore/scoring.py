@@ -43,7 +43,8 @@ def write_results(records: Sequence[str], pairs: Optional[str], out: str) -> int
     if missing:
         return NOT_READ
     found = results(contents, None if pairs is None else read_pairs(pairs, read(pairs)))
-    write_whole(out, (json.dumps(found, indent=1, allow_nan=False) + "\n").encode("ascii"))
+    inputs = list(records) + ([] if pairs is None else [pairs])
+    write_whole(out, (json.dumps(found, indent=1, allow_nan=False) + "\n").encode("ascii"), inputs)
     for entry in found["left_out"]:
         print(f"clubscore: {_told(entry)}", file=sys.stderr)
     return LEFT_OUT if found["left_out"] else OK

@@ -2,6 +2,7 @@
 import base64
 import hashlib
 import os
+import shutil
 import subprocess
 import sys
 import tempfile
@@ -24,6 +25,25 @@ class Wheel(unittest.TestCase):
             used = subprocess.run([sys.executable, "-c", use], check=True, capture_output=True, text=True, cwd=folder, env=environment)
             self.assertEqual(used.stdout.split()[1:], ["2", "#/$defs/file"])
             self.assertTrue(used.stdout.startswith(folder))
+
+    def test_missing_library(self):
+        """Where a library is not there, its path and what makes it are named; one without a function names that when it is called."""
+        with tempfile.TemporaryDirectory() as folder:
+            shutil.copytree(
+                os.path.join(ROOT, "python", "clubscore"), os.path.join(folder, "clubscore"), ignore=shutil.ignore_patterns("libtally.so", "__pycache__")
+            )
+            environment = dict(os.environ, PYTHONPATH=folder)
+            failed = subprocess.run([sys.executable, "-c", "import clubscore"], capture_output=True, text=True, cwd=folder, env=environment)
+            self.assertIn(f"ImportError: clubscore needs {os.path.join(folder, 'clubscore', 'libtally.so')}, which is missing: `make python`", failed.stderr)
+            shutil.copy(os.path.join(folder, "clubscore", "libjudge.so"), os.path.join(folder, "clubscore", "libtally.so"))
+            failed = subprocess.run(
+                [sys.executable, "-c", "import clubscore; clubscore.Tally(7)"], capture_output=True, text=True, cwd=folder, env=environment
+            )
+            self.assertIn("ImportError: clubscore needs the function tally_fresh", failed.stderr)
+            with open(os.path.join(folder, "clubscore", "libtally.so"), "wb") as file:
+                file.write(b"no library")
+            failed = subprocess.run([sys.executable, "-c", "import clubscore"], capture_output=True, text=True, cwd=folder, env=environment)
+            self.assertIn("ImportError: clubscore cannot load", failed.stderr)
 
     def listed(self, wheel):
         """RECORD names every file with its digest."""

@@ -218,6 +218,7 @@ class LeftOut(unittest.TestCase):
             (game_of(deal=""), "without Deal no record can be made"),
             ('[Board "1"]\n' + DEAL + '[Contract "1NT"]\n[Result "7"]', "without Auction no record can be made"),
             (game_of(""), "without a call no record can be made"),
+            (game_of("", None).replace('Auction "N"', 'Auction ""'), "without Auction no record can be made"),
             (game_of(deal=DEAL.replace("AKQ.876", "AKQ.886")), "line 2: Deal: H8 stands twice"),
             (game_of(deal=DEAL.replace("AKQ.876", "AKQ.86")), "line 2: Deal: no hand has H7"),
             (game_of(deal=DEAL.replace("AKQ.876", "AKQ.1086")), "line 2: Deal: AKQ.1086.543.JT92, which is no hand"),

@@ -1,5 +1,7 @@
 """Results and rankings: numbers worked out here from the Laws, what is left out and told, and the same bytes for every order of the records."""
+import functools
 import itertools
+import operator
 import random
 import struct
 import unittest
@@ -166,7 +168,7 @@ class Rankings(unittest.TestCase):
 
     def test_exact_where_floats_differ(self):
         """Two pairs with the same three percentages in another order tie, though floats added in that order would not."""
-        sums = lambda ranks: sum((100 * 2 * rank / 12 for rank in ranks), 0.0)
+        sums = lambda ranks: functools.reduce(operator.add, (100 * 2 * rank / 12 for rank in ranks))
         first = next(ranks for ranks in itertools.permutations(range(7), 3) if sums(ranks) != sums(ranks[1:] + ranks[:1]))
         text, some = "", []
         for place, board in enumerate((1, 3, 5)):

@@ -167,6 +167,15 @@ class Command(unittest.TestCase):
             self.assertEqual(file.read(), before)
         self.assertEqual([name for name in os.listdir(self.folder) if name.startswith(".")], [])
 
+    def test_no_input_is_written_over(self):
+        good, pairs = self.put("good", record(1, 1)), self.put("pairs.csv", (HEAD + "1,1,A,B,,\n").encode())
+        for out in (good, pairs):
+            status, _, err = self.run_("results", good, "--pairs", pairs, "-o", out)
+            self.assertEqual((status, err), (2, f"clubscore: {out}: is one of the inputs, and is not written over\n"))
+        found = os.path.join(self.folder, "out.json")
+        self.assertEqual(self.run_("results", good, "-o", found)[0], 0)
+        self.assertEqual((self.run_("results", good, "-o", found)[0], self.run_("page", found, "-o", found)[0]), (0, 2))
+
     def test_hexadecimal(self):
         good, out = record(1, 1), os.path.join(self.folder, "out.json")
         text = "# a comment\n" + " ".join(f"{byte:02x}" for byte in good[:9]) + " # more\n" + good[9:].hex().upper() + "\n"
