@@ -147,8 +147,8 @@ build/fuzz/programs: build/fuzz/terminal.o build/fuzz/section.o build/fuzz/stand
 define fuzz-programs
 	@mkdir -p build/fuzz/corpus
 	tests/fuzz/seeds.sh build/fuzz/seeds build/terminal build/section
-	build/fuzz/programs -max_total_time=$(1) -timeout=10 -max_len=8192 -rss_limit_mb=2048 -verbosity=0 -print_final_stats=1 -artifact_prefix=build/fuzz/ \
-	    $(if $(SEED),-seed=$(SEED)) build/fuzz/corpus tests/corpus build/fuzz/seeds
+	build/fuzz/programs -max_total_time=$(1) -timeout=10 -max_len=8192 -rss_limit_mb=2048 -verbosity=0 -print_final_stats=1 -artifact_prefix=$(abspath build/fuzz)/ \
+	    $(if $(SEED),-seed=$(SEED)) $(abspath build/fuzz/corpus tests/corpus build/fuzz/seeds)
 endef
 
 fuzz-programs: build/fuzz/programs build/terminal build/section
