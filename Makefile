@@ -8,7 +8,8 @@ help:
 	echo "make test      the whole gate: layout, every proof from nothing, the edits that must be refused, every program, and the library tried from outside;"
 	echo "               about 35 minutes on two cores, the last line is 'N passed, 0 failed'"
 	echo "make demo      proves what it shows (about 6 minutes, once), judges the records in samples/, prints a sheet and a slip, reads a game in Portable"
-	echo "               Bridge Notation, and merges two sections both ways"
+	echo "               Bridge Notation, merges two sections both ways, and makes a club's page"
+	echo "make python    the shared libraries and the Python package clubscore, to run from the checkout; make python-test tries it, in 2 minutes"
 	echo "make install   headers, archives, shared libraries and pkg-config files under PREFIX; 5 minutes where nothing is proved yet"
 	echo "make bench     the speed of the proved judge, writer and merges beside Rust's; 2 minutes once built"
 	echo "make fuzz      compares on random input for FUZZ_SECONDS (60), from SEED where given, and feeds the C programs for as long again"
@@ -40,6 +41,7 @@ ENDINGS = 32000
 PBNS = 120000
 BLOCKS = 20000
 PBN_BLOCKS = 5000
+PBN_GAMES = 3000
 
 # The archive that judges, writes, tells best play, reads Portable Bridge Notation, and knows slips and boards, a member for each; build/stand-in/libjudge.a has the Rust ones
 # behind the same interface, as build/stand-in/libtally.a has the Rust tally behind that of build/libtally.a.
@@ -185,7 +187,7 @@ build/valgrind/%: build/%
 	printf '#!/bin/sh\nexec valgrind --quiet --error-exitcode=99 --leak-check=full --errors-for-leak-kinds=all %s "$$@"\n' $(abspath $<) >$@
 	chmod +x $@
 
-demo: demo-proved build/terminal build/section build/standings $(SHEET) $(CELLS) $(SLIP) $(BEST) $(PBN)
+demo: demo-proved build/terminal build/section build/standings $(SHEET) $(CELLS) $(SLIP) $(BEST) $(PBN) python
 	@echo "Records that are accepted:"
 	@build/terminal $(sort $(filter-out samples/refused-%,$(wildcard samples/*.hex)))
 	@echo "Records that are refused:"
@@ -208,6 +210,9 @@ demo: demo-proved build/terminal build/section build/standings $(SHEET) $(CELLS)
 	@build/terminal -w samples/claim-best-play.txt | $(BEST)
 	@echo "The same game as it was exported, with tags and words that are not of the subset:"
 	@(echo 3; cat samples/pbn/ending.export) | $(PBN)
+	@echo "The same file by the Python package, which brings it into the subset:"
+	@$(CLUBSCORE) import samples/pbn/ending.export --table 3 -o build/work/demo/imported
+	@cmp build/work/demo/ending build/work/demo/imported/board-001-table-003.record
 	@for text in samples/sections/*.txt; do build/terminal -w $$text >build/work/demo/$$(basename $$text .txt) || exit 1; done
 	@build/section -o build/work/demo/A build/work/demo/a-*
 	@build/section -o build/work/demo/B build/work/demo/b-*
@@ -215,6 +220,12 @@ demo: demo-proved build/terminal build/section build/standings $(SHEET) $(CELLS)
 	@build/standings build/work/demo/A build/work/demo/B; test $$? = 1
 	@echo "And B before A:"
 	@build/standings build/work/demo/B build/work/demo/A; test $$? = 1
+	@echo "An evening of the sample club, 24 boards at 13 tables, from its records to its page; what is left out stands at its head:"
+	@rm -rf build/work/demo/club
+	@PYTHONPATH=python $(PYTHON) samples/club/make.py build/work/demo/club
+	@$(CLUBSCORE) results build/work/demo/club/*.record --pairs build/work/demo/club/pairs.csv -o build/club.json; test $$? = 1
+	@$(CLUBSCORE) page build/club.json -o build/club.html
+	@echo "The page is build/club.html"
 
 install: $(ARCHIVE) $(TALLY_ARCHIVE) $(WORDS_ARCHIVE) $(SHARED)
 	@$(MAKE) --no-print-directory install-files
@@ -300,6 +311,7 @@ outside: tools proved build/rust-built build/terminal build/section build/standi
 	$(call blocks,tally_blocks,$(TALLY_ARCHIVE),tallies)
 	$(CC) $(CFLAGS) -Iinclude tests/c/stack.c $(ARCHIVE) -o build/stack
 	$(STEP) stack build/stack build/blocks.records
+	$(MAKE) --no-print-directory python-test
 
 TESTS = examples refusals faults write_refusals write_faults penalty_cards penalty_bounds penalty_faults pbn_texts pbn_faults tally_bytes tally_faults boards
 
@@ -325,6 +337,27 @@ fuzz: build/rust-built fuzz-programs $(TREE) $(SHEET) $(CELLS) $(SLIP) $(BEST) $
 
 bench: build/rust-built $(MERGES)
 	$(RUST)/bench --merges $(MERGES)
+
+# The Python package `clubscore`: the shared libraries stand beside its modules, so that it runs from the checkout. `python-test` tries it, and the page in chromium.
+PYTHON = python3
+CLUBSCORE = PYTHONPATH=python $(PYTHON) -m clubscore
+.PHONY: python python-test chromium
+python: python/clubscore/libjudge.so python/clubscore/libtally.so
+	$(call need,$(PYTHON))
+
+python/clubscore/lib%.so: build/lib%.so
+	cp $< $@
+
+# The page is tried in Debian's chromium, which is installed where it is missing and can be.
+chromium:
+	@command -v chromium >/dev/null || test "$$(id -u)" != 0 || ! command -v apt-get >/dev/null || \
+	    { apt-get update -qq && apt-get install -y -qq --no-install-recommends chromium >/dev/null; }
+	$(call need,chromium)
+
+python-test: python build/rust-built chromium
+	mkdir -p build/work
+	$(RUST)/games $(or $(SEED),114) $(PBN_GAMES) >build/work/games
+	$(STEP) clubscore sh -c 'cd python && $(PYTHON) -W error -m unittest -q'
 
 clean:
 	rm -rf build target
