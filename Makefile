@@ -326,6 +326,6 @@ python-test: python build/rust-built chromium
 	cd python && $(PYTHON) -W error -m unittest -q
 
 clean:
-	rm -rf build target
+	rm -rf build target python/clubscore/*.so
 
 FORCE:
