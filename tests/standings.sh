@@ -106,6 +106,13 @@ section_says "a bad line, going on" 2 "$bad
 $work/out: 1 record left out" -k <"$work/lines"
 written "a bad line, going on" "2 3 "
 
+section_says "a folder for lines" 2 "standard input cannot be read to its end
+$work/out: 1 record left out, not written" <"$work"
+unwritten "a folder for lines"
+section_says "a folder for a record" 2 "$work cannot be read to its end
+$work/out: 1 record left out, not written" "$work"
+unwritten "a folder for a record"
+
 # Two records of one board and table.
 cp samples/slam.hex "$work/again.hex"
 sed 's/^claim.*/claim 2/' samples/claim.txt >"$work/other.txt"
