@@ -1,5 +1,6 @@
-/* Feeds the C programs whole, and the helpers of the headers, for libFuzzer with the address and undefined behaviour sanitizers. The first byte of an input says
- * which program with which options, the others are what it reads. A crash, a leak, a hang or an exit status that does not match what was printed is a finding.
+/* Feeds the C programs whole, and the helpers of the headers, for libFuzzer with the address and undefined behaviour sanitizers. The first byte of an input
+ * says which program with which options, the others are what it reads. A crash, a leak, a hang or an exit status that does not match what was printed is a
+ * finding.
  *
  * The mains are compiled under other names; standard input, output and error are put in memory, which glibc allows. It runs in a folder of its own, and no word
  * that it hands to a program has a slash, so that nothing else is written to. */
