@@ -161,10 +161,13 @@ SANITIZERS = -std=c99 -g -O1 -fno-sanitize-recover=all -Iinclude -Icommon -Iterm
 FUZZED = $(wildcard common/*.c library/*.c) $(filter-out terminal/main.c,$(wildcard terminal/*.c))
 GATE_FUZZ_SECONDS = 20
 
-build/fuzz/%.o: FORCE
+build/fuzz/terminal.o: terminal/main.c
+build/fuzz/section.o: scoring/section.c
+build/fuzz/standings.o: scoring/standings.c
+build/fuzz/%.o: $(PLAIN_HEADERS) $(wildcard terminal/*.h)
 	$(call need,$(CLANG))
 	@mkdir -p $(@D)
-	$(CLANG) $(SANITIZERS) -fsanitize=address,undefined,fuzzer-no-link -Dmain=$*_main -c $(if $(filter terminal,$*),terminal/main.c,scoring/$*.c) -o $@
+	$(CLANG) $(SANITIZERS) -fsanitize=address,undefined,fuzzer-no-link -Dmain=$*_main -c $(filter %.c,$^) -o $@
 
 build/fuzz/programs: build/fuzz/terminal.o build/fuzz/section.o build/fuzz/standings.o tests/fuzz/programs.c $(FUZZED) $(PLAIN_HEADERS) $(ARCHIVE) $(TALLY_ARCHIVE)
 	$(CLANG) $(SANITIZERS) -Wall -Wextra -fsanitize=address,undefined,fuzzer $(filter %.c %.o,$^) $(ARCHIVE) $(TALLY_ARCHIVE) -o $@
@@ -360,6 +363,6 @@ python-test: python build/rust-built chromium
 	$(STEP) clubscore sh -c 'cd python && $(PYTHON) -W error -m unittest -q'
 
 clean:
-	rm -rf build target
+	rm -rf build target python/clubscore/*.so
 
 FORCE:

@@ -36,8 +36,7 @@ static void say_place(const char *name, unsigned long line) {
     if (line) fprintf(stderr, ", line %lu", line);
 }
 
-/* Says why a record cannot be read, and counts it. */
-static enum status not_read(struct records *records, const char *name, unsigned long line, const char *why) {
+enum status leave_unread(struct records *records, const char *name, unsigned long line, const char *why) {
     records->left_out++;
     say_place(name, line);
     fprintf(stderr, " %s\n", why);
@@ -65,7 +64,7 @@ enum status take_record(struct records *records, const char *name, unsigned long
         return REFUSED;
     }
     struct accepted *accepted = calloc(1, sizeof *accepted);
-    if (!accepted) return not_read(records, name, line, NO_MEMORY);
+    if (!accepted) return leave_unread(records, name, line, NO_MEMORY);
     accepted->name = name;
     accepted->line = line;
     accepted->record = *record;
@@ -96,11 +95,11 @@ enum status take_lines(struct records *records, FILE *file, const char *name) {
         struct bytes record;
         const char *fault = NULL;
         read = read_hex_line(file, &record, &fault);
-        if (read == LINE_BAD) worst = worse(worst, not_read(records, name, line, fault));
+        if (read == LINE_BAD) worst = worse(worst, leave_unread(records, name, line, fault));
         if (read == LINE_RECORD) worst = worse(worst, take_record(records, name, line, &record));
         free(record.at);
     }
-    return ferror(file) ? not_read(records, name, 0, NOT_READ_WHOLE) : worst;
+    return ferror(file) ? leave_unread(records, name, 0, NOT_READ_WHOLE) : worst;
 }
 
 static int is_same(const struct bytes *a, const struct bytes *b) { return a->length == b->length && memcmp(a->at, b->at, a->length) == 0; }

@@ -35,6 +35,9 @@ void free_records(struct records *records);
  * stay as long as the records. */
 enum status take_record(struct records *records, const char *name, unsigned long line, struct bytes *record);
 
+/* Leaves a record out that cannot be read, and says why on standard error. */
+enum status leave_unread(struct records *records, const char *name, unsigned long line, const char *why);
+
 /* Judges the record of a file, or those of a stream, one a line in hexadecimal. What cannot be read is said on standard error. */
 enum status take_file(struct records *records, const char *name);
 enum status take_lines(struct records *records, FILE *file, const char *name);

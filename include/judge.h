@@ -117,9 +117,9 @@ uint32_t judge_read_pbn(const uint8_t *text, size_t text_len, uint32_t table, ui
  * their sum, signed for NS, as docs/RULES.md, 14, has it: `TRICKS -80`, .. `SUM -280`, each line ended by a newline, no zero behind them. A passed-out board
  * has `SUM 0` alone.
  *
- * Returns the number of bytes written, at most JUDGE_SLIP_MOST: they stand at the front of `text`, and the bytes behind them stay as they were. Otherwise returns
- * refusal * 1024 + place, and no byte is changed: what judge_record refuses the record with, given buffers that are long enough; then 22, for a text buffer that
- * is too short. So a number from 1024 on is a refusal, and one below it is not.
+ * Returns the number of bytes written, at most JUDGE_SLIP_MOST: they stand at the front of `text`, and the bytes behind them stay as they were. Otherwise
+ * returns refusal * 1024 + place, and no byte is changed: what judge_record refuses the record with, given buffers that are long enough; then 22, for a text
+ * buffer that is too short. So a number from 1024 on is a refusal, and one below it is not.
  *
  * No record and no length is trusted. What C has to see to is true lengths, and a buffer that is writable and apart from the record. A null pointer beside the
  * length 0 is taken. Nothing is kept between calls. */
@@ -198,7 +198,8 @@ enum { JUDGE_MARK = 38, JUDGE_EXPOSED = 52, JUDGE_CHOICE = 53 };
 /* What stands for no call, no card, and no strain, suit or rank; as a call it is refused with 5, as a card with 11. */
 enum { JUDGE_NONE = 63 };
 
-/* The code of a bid by its level and strain, and back. JUDGE_NONE for what is no level or strain; level 0, and JUDGE_NONE for the strain, for what is no bid. */
+/* The code of a bid by its level and strain, and back. JUDGE_NONE for what is no level or strain; level 0, and JUDGE_NONE for the strain, for what is no
+ * bid. */
 static inline unsigned judge_call(unsigned level, unsigned strain) {
     return level >= 1 && level <= 7 && strain <= 4 ? JUDGE_FIRST_BID + 5 * (level - 1) + strain : (unsigned)JUDGE_NONE;
 }

@@ -106,6 +106,13 @@ section_says "a bad line, going on" 2 "$bad
 $work/out: 1 record left out" -k <"$work/lines"
 written "a bad line, going on" "2 3 "
 
+section_says "a folder for lines" 2 "standard input cannot be read to its end
+$work/out: 1 record left out, not written" <"$work"
+unwritten "a folder for lines"
+section_says "a folder for a record" 2 "$work cannot be read to its end
+$work/out: 1 record left out, not written" "$work"
+unwritten "a folder for a record"
+
 # Two records of one board and table.
 cp samples/slam.hex "$work/again.hex"
 sed 's/^claim.*/claim 2/' samples/claim.txt >"$work/other.txt"
@@ -173,14 +180,15 @@ same "standings of standard input" "$("$standings" - <"$work/tallies")" "$("$sta
 for program in "$section" "$standings"; do
     same "$program --help" "$("$program" --help 2>&1 >/dev/null; echo $?; "$program" --help | head -1 | cut -d ' ' -f 1-2)" "0
 usage: $(basename "$program")"
-    same "$program --version" "$("$program" --version 2>&1 | sed 's/[0-9]\.[0-9]*/N/g'; echo $?)" "$(basename "$program") ($([ "$program" = "$standings" ] || echo 'judge N, ')tally N)
+    interfaces=$([ "$program" = "$standings" ] || echo 'judge N, ')'tally N'
+    same "$program --version" "$("$program" --version 2>&1 | sed 's/[0-9]\.[0-9]*/N/g'; echo $?)" "$(basename "$program") ($interfaces)
 0"
     same "$program with an unknown option" "$("$program" -q 2>/dev/null; echo $?)" 2
     same "$program with help for a full device" "$("$program" --help 2>&1 >/dev/full; echo $?)" "what is due cannot be written
 2"
 done
-same "no output named" "$("$section" samples/slam.hex 2>&1 | head -1; "$section" -k samples/slam.hex 2>/dev/null; echo $?)" "usage: section [-k] -o OUT [FILE]...
-2"
+same "no output named" "$("$section" samples/slam.hex 2>&1 | head -1)" "usage: section [-k] -o OUT [FILE]..."
+same "no output named, going on" "$("$section" -k samples/slam.hex 2>/dev/null; echo $?)" 2
 same "an output without a name" "$("$section" -o 2>/dev/null; echo $?)" 2
 (cd "$work" && "$OLDPWD/$section" -ko-out -- "$OLDPWD/samples/slam.hex" && "$OLDPWD/$standings" -- -out) >"$work/out"
 same "options in one word" "$? $(head -1 "$work/out")" "0 BOARD 2"

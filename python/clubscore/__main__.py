@@ -25,7 +25,7 @@ def parser() -> argparse.ArgumentParser:
         help="results and rankings from records",
         epilog="Exits 0 where nothing was left out, 1 where something was, 2 where something could not be read or written.",
     )
-    results.add_argument("records", nargs="+", metavar="RECORD", help="a table record; hexadecimal where its name ends in .hex")
+    results.add_argument("records", nargs="+", metavar="RECORD", help="a table record; hexadecimal where its name ends in .hex; - for standard input")
     results.add_argument("--pairs", metavar="PAIRS.csv", help="first line board,table,ns,ew,award_ns,award_ew; the last two may be missing")
     results.add_argument("-o", dest="out", metavar="results.json", required=True)
     page = commands.add_parser(

@@ -3,6 +3,7 @@ from __future__ import annotations
 
 import os
 import re
+import sys
 import tempfile
 from typing import Iterable
 
@@ -22,8 +23,8 @@ def read(name: str) -> bytes:
 
 
 def read_record(name: str) -> bytes:
-    """A record's bytes, as the terminal reads them: hexadecimal, with comments from # on, where the name ends in .hex."""
-    content = read(name)
+    """A record's bytes, as the terminal reads them: standard input where the name is -, hexadecimal, with comments from # on, where it ends in .hex."""
+    content = sys.stdin.buffer.read() if name == "-" else read(name)
     if not name.endswith(".hex"):
         return content
     digits = _COMMENT.sub(b"", content)
@@ -34,7 +35,7 @@ def read_record(name: str) -> bytes:
 
 def write_whole(name: str, content: bytes, inputs: Iterable[str]) -> None:
     """Writes a file beside the name and renames it, so that what stands there is whole or as it was; never over one of the inputs."""
-    if os.path.exists(name) and any(os.path.samefile(name, one) for one in inputs):
+    if os.path.exists(name) and any(os.path.exists(one) and os.path.samefile(name, one) for one in inputs):
         raise NotRead(f"{name}: is one of the inputs, and is not written over")
     folder = os.path.dirname(name) or "."
     handle, beside = tempfile.mkstemp(prefix=".clubscore-", dir=folder)

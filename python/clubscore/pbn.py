@@ -20,7 +20,7 @@ from .words import CALLS, CARDS, MARK, SEATS, hand
 __all__ = ["Difference", "Game", "games"]
 
 _NOT_OVER, _OUTSIDE, _CARD_REFUSALS = 9, 32, (12, 23)
-_ROWS = 13
+_ROWS, _MOST_CODES = 13, 511
 
 
 @dataclass(frozen=True)
@@ -115,15 +115,16 @@ class _Contents:
         return self._ended_early() if self.places else self._passed_out()
 
     def _passes_due(self, codes: List[int]) -> int:
-        """How many passes end the auction after these codes, by asking the library whether it is over."""
-        for count in range(4):
+        """How many passes end the auction after these codes, by asking the library whether it is over; none after more codes than a record has, which
+        are refused whatever follows."""
+        for count in range(4 if len(codes) <= _MOST_CODES else 0):
             try:
                 write_record(self.board, 1, self.holders, codes + [0] * count, [])
             except Refused as refused:
                 if refused.number == _NOT_OVER:
                     continue
             return count
-        return 4
+        return 4 if len(codes) <= _MOST_CODES else 0
 
     def _by_text(self, rows: List[List[int]]) -> bytes:
         """The record of a text of the subset with these tricks in columns."""

@@ -297,6 +297,14 @@ class InTheBrowser(unittest.TestCase):
         self.browser.value("location.hash = '#board-127'")
         self.assertTrue(self.browser.value("document.querySelector('#title-127').getBoundingClientRect().top < innerHeight"))
 
+    def test_half_up(self):
+        """Two of 17 results are lowest and equal: 1 of 32 matchpoints is 3.125 per cent, and 31 are 96.875."""
+        found = results(named(*(record(1, table, 1 if table < 3 else 2 + table % 9) for table in range(1, 18))))
+        self.browser.open(self.put("half.html", page(found)))
+        fields = ("ns_matchpoints", "ew_matchpoints", "ns_percent", "ew_percent")
+        seen = [self.browser.value(f"document.querySelector('tr[data-table=\"1\"] [data-field={field}]').textContent") for field in fields]
+        self.assertEqual(seen, ["1", "31", "3.13", "96.88"])
+
     def test_other_shapes(self):
         """No board at all; no pairs; all passed; a result alone; awards alone."""
         cases = [

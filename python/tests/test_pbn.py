@@ -126,6 +126,8 @@ class Tables(unittest.TestCase):
         tagged, plain, wrong = game_of(tags='[Table "7"]\n'), game_of(), game_of("Q\n")
         self.assertEqual(self.tables(plain, tagged, plain, wrong, game_of(board="2"), plain), [1, 7, 3, 4, 1, 5])
         self.assertEqual(self.tables(plain, tagged, wrong, table=9), [9, 7, 9])
+        cut = game_of(tags='[Event "cut\n')
+        self.assertEqual(self.tables(cut, plain, cut, plain), [1, 2, 3, 4])
 
     def test_refused(self):
         for table, beyond in (("0", None), ("512", None), ("9" * 5000, None), ("", 0), ("", 512), ("", -1), ("", 2**32 + 1)):
@@ -139,6 +141,10 @@ class Tables(unittest.TestCase):
         self.assertEqual([(game.board, game.table, game.differences) for game in found], [(1, 7, ()), (1, 7, (Difference("Contract", "1NT", "2NT"),))])
         left_out = games((game_of("Q\n") + "\n" + again).encode())
         self.assertEqual([game.left_out for game in left_out], ["line 4: Q, which is no call", None])
+        cut = games((game_of(tags='[Event "cut\n[Table "9"]\n') + "\n" + again).encode())
+        self.assertEqual([(game.table, game.left_out is None) for game in cut], [(9, False), (9, True)])
+        beyond = games((game_of() + "\nwords of no game\n\n" + again).encode())
+        self.assertEqual([(game.board, game.left_out is None) for game in beyond], [(1, True), (None, False), (1, True)])
         self.assertEqual(only(again.replace("2NT", "1NT")).left_out, "without Board no record can be made")
 
 

@@ -106,7 +106,7 @@ class AnyBytes(unittest.TestCase):
             self.seen(b"".join(chance.choice((b"[", b'"', b"]", b"{", b"}", b"\n", b"\n\n", b"Board", b"Auction", b" 1C", b"#", b"%")) for _ in range(100)))
 
     def test_long(self):
-        for piece in (b"{\n\n", b"[", b'"', b'[A "\\', b"!?", b"1C!?", b"9", b"\r", b"=1=", b"x"):
+        for piece in (b"{\n\n", b"[", b'"', b'[A "\\', b"!?", b"1C!?", b"9", b"\r", b"=1=", b"x", b"1C AP "):
             self.seen(b'[Board "1"]\n[Auction "N"]\n' + piece * 60000)
             self.seen(b'[Board "' + piece * 30000 + b'"]\n[Deal "' + piece * 30000 + b'"]\n[Auction "N"]\n')
 

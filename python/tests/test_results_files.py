@@ -6,6 +6,7 @@ import os
 import random
 import tempfile
 import unittest
+from unittest import mock
 
 from clubscore import schema
 from clubscore.__main__ import main
@@ -185,6 +186,8 @@ class Command(unittest.TestCase):
             self.assertEqual(status, 2)
             self.assertIn("b.hex: is not hexadecimal, two digits a byte", err)
         self.assertEqual(self.run_("results", self.put("hex", good), "-o", out)[0], 0)
+        with mock.patch("sys.stdin", io.TextIOWrapper(io.BytesIO(good))):
+            self.assertEqual(self.run_("results", "-", "-o", out)[0], 0)
 
     def test_any_order(self):
         chance = random.Random(41)

@@ -1,9 +1,11 @@
-/* Feeds the C programs whole, and the helpers of the headers, for libFuzzer with the address and undefined behaviour sanitizers. The first byte of an input says
- * which program with which options, the others are what it reads. A crash, a leak, a hang or an exit status that does not match what was printed is a finding.
+/* Feeds the C programs whole, and the helpers of the headers, for libFuzzer with the address and undefined behaviour sanitizers. The first byte of an input
+ * says which program with which options, the others are what it reads. A crash, a leak, a hang or an exit status that does not match what was printed is a
+ * finding.
  *
  * The mains are compiled under other names; standard input, output and error are put in memory, which glibc allows. It runs in a folder of its own, and no word
  * that it hands to a program has a slash, so that nothing else is written to. */
 #define _GNU_SOURCE
+#include <dirent.h>
 #include <stdint.h>
 #include <stdio.h>
 #include <stdlib.h>
@@ -104,6 +106,14 @@ static void try_program(int (*program)(int, char **), int count, char **words, c
     forget(&run);
 }
 
+/* Removes what programs wrote in the folder. */
+static void clear_folder(void) {
+    DIR *here = opendir(".");
+    if (!here) return;
+    for (struct dirent *entry = readdir(here); entry; entry = readdir(here)) unlink(entry->d_name);
+    closedir(here);
+}
+
 /* The words of an input, a line each, without slashes; the number of them. */
 static int cut_words(char *text, char **words) {
     int count = 1;
@@ -121,8 +131,8 @@ static void try_options(const uint8_t *data, size_t size) {
         if (text[k] == '/') text[k] = '_';
     int count = cut_words(text, words);
     try_program(PROGRAMS[size % 3], count, words, data, size);
-    for (int k = 1; k < count; k++) unlink(words[k]);
     free(text);
+    clear_folder();
 }
 
 /* The helpers on any bytes and numbers: they stay within their bounds, and those that are each other's inverse agree. */
@@ -156,14 +166,13 @@ static void try_helpers(const uint8_t *data, size_t size) {
 static char folder[] = "/tmp/fuzz-programs.XXXXXX";
 
 static void leave(void) {
-    unlink(OUT), unlink(IN), unlink(OTHER);
+    if (chdir(folder) == 0) clear_folder();
     if (chdir("/") == 0) rmdir(folder);
 }
 
 int LLVMFuzzerInitialize(int *count, char ***words) {
     (void)count, (void)words;
-    static char kept[4096];
-    if (!getcwd(kept, sizeof kept) || !mkdtemp(folder)) abort();
+    if (!mkdtemp(folder)) abort();
     atexit(leave);
     return 0;
 }

@@ -1,5 +1,5 @@
-//! Compares the proved program `slip`, and the slip that C asks for, with the independent ones, on records of all shapes, with penalty cards among them, whole, damaged and with many bytes
-//! behind them.
+//! Compares the proved program `slip`, and the slip that C asks for, with the independent ones, on records of all shapes, with penalty cards among them,
+//! whole, damaged and with many bytes behind them.
 use outside::damage::{self, codes};
 use outside::making::{self, Made};
 use outside::proved;
