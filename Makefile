@@ -172,16 +172,16 @@ build/fuzz/%.o: $(PLAIN_HEADERS) $(wildcard terminal/*.h)
 build/fuzz/programs: build/fuzz/terminal.o build/fuzz/section.o build/fuzz/standings.o tests/fuzz/programs.c $(FUZZED) $(PLAIN_HEADERS) $(ARCHIVE) $(TALLY_ARCHIVE)
 	$(CLANG) $(SANITIZERS) -Wall -Wextra -fsanitize=address,undefined,fuzzer $(filter %.c %.o,$^) $(ARCHIVE) $(TALLY_ARCHIVE) -o $@
 
-# fuzz-programs SECONDS: a finding is kept in build/fuzz; what is learnt stays in build/fuzz/corpus.
+# fuzz-programs SECONDS SEED: a finding is kept in build/fuzz; what is learnt stays in build/fuzz/corpus. The seed 0 is any.
 define fuzz-programs
 	mkdir -p build/fuzz/corpus
 	tests/fuzz/seeds.sh build/fuzz/seeds build/terminal build/section
 	$(STEP) fuzz-programs build/fuzz/programs -max_total_time=$(1) -timeout=10 -max_len=8192 -rss_limit_mb=2048 -verbosity=0 -print_final_stats=1 -artifact_prefix=$(abspath build/fuzz)/ \
-	    $(if $(SEED),-seed=$(SEED)) $(abspath build/fuzz/corpus tests/corpus build/fuzz/seeds)
+	    -seed=$(or $(SEED),$(2)) $(abspath build/fuzz/corpus tests/corpus build/fuzz/seeds)
 endef
 
 fuzz-programs: build/fuzz/programs build/terminal build/section
-	$(call fuzz-programs,$(FUZZ_SECONDS))
+	$(call fuzz-programs,$(FUZZ_SECONDS),0)
 
 # The programs under valgrind, as the scripts call them: a fault or a leak is a status that no script expects.
 build/valgrind/%: build/%
@@ -282,7 +282,7 @@ outside: tools proved build/rust-built build/terminal build/section build/standi
 	$(CXX) $(CXXFLAGS) -Iinclude -x c++ tests/c/words.c -x none $(WORDS_ARCHIVE) -o build/words-c++
 	$(STEP) words-c++ build/words-c++
 	$(STEP) samples tests/samples.sh $(RUST)/write_record
-	$(call fuzz-programs,$(GATE_FUZZ_SECONDS))
+	$(call fuzz-programs,$(GATE_FUZZ_SECONDS),64)
 	$(STEP) terminal tests/terminal.sh build/valgrind/terminal build/work
 	$(STEP) pbn tests/pbn.sh $(PBN) $(RUST)/write_record build/terminal build/work
 	$(STEP) pbn-rust tests/pbn.sh $(RUST)/read_pbn $(RUST)/write_record build/terminal build/work
