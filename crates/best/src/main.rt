@@ -1,7 +1,7 @@
 // What best play would give from the table record on standard input, on standard output. Its first 505 bytes decide it, and 8 bytes are enough.
 use libc::STDIN_FILENO;
 use libc::STDOUT_FILENO;
-use sheet_text::Outcome;
+use text::Outcome;
 
 fn main() {
     let mut input = [0u8; 505];

@@ -10,7 +10,7 @@ use Rattle.laws.specs.Decimal.{decimal}
 use Rattle.laws.specs.Slip.{refusalLine}
 use Rattle.laws.specs.BestRecord.{bestOf, bestNumber}
 use Rattle.laws.specs.BestText.{tricksLine, textOf, bestText, mostTextBytes}
-use Rattle.sheet_text.proofs.Printed.{one-digit, length-by}
+use Rattle.text.proofs.Printed.{one-digit, length-by}
 use Rattle.best_record.proofs.Told.{Tricks, Refusal, told, told-tricks, told-refusal}
 
 -- a number of one digit

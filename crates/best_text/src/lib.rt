@@ -1,13 +1,13 @@
 // What best play would give from a table record, as text: the tricks, or the refusal's number, a space and its place; and a newline.
 use best_record::judge_best_play;
-use sheet_text::Outcome;
-use sheet_text::lend;
-use sheet_text::write_pair;
+use text::Outcome;
+use text::lend;
+use text::write_pair;
 ghost use mathlib.Core.Path.{_≡_};
 ghost use Prim.Native.Nat.{_<_};
 ghost use lib.ListN.{length};
 ghost use Rattle.laws.specs.BestText.{tricksLine, bestText};
-ghost use Rattle.sheet_text.specs.Putting.{written, lengthWithin, leftIn};
+ghost use Rattle.text.specs.Putting.{written, lengthWithin, leftIn};
 
 // Writes a number of one digit and a newline to lent bytes.
 fn write_tricks(tricks: u32, out: &mut [u8]) -> Outcome

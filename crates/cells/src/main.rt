@@ -1,7 +1,7 @@
 // The sheet with percentages of standard input on standard output. Its first 769 bytes decide it, and 3097 bytes are enough for every one.
 use libc::STDIN_FILENO;
 use libc::STDOUT_FILENO;
-use sheet_text::Outcome;
+use text::Outcome;
 
 fn main() {
     let mut input = [0u8; 769];

@@ -2,7 +2,7 @@
 // the refusal. The first 65,537 bytes of input decide it, and 505 bytes are enough.
 use libc::STDIN_FILENO;
 use libc::STDOUT_FILENO;
-use sheet_text::Outcome;
+use text::Outcome;
 
 fn main() {
     let mut input = [0u8; 65537];

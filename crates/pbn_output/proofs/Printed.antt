@@ -24,7 +24,7 @@ use Rattle.laws.proofs.Counts.{everyBelow, every-below}
 use Rattle.laws.proofs.Lengths.{at-most-505}
 use Rattle.laws.proofs.PbnNumbers.{said-refused, said-lawful}
 use Rattle.pbn_words.specs.WordNumbers.{partLength}
-use Rattle.sheet_text.proofs.Printed.{length-by}
+use Rattle.text.proofs.Printed.{length-by}
 
 -- ---- the first line
 pub line-length : (s : List ℕ) → partLength newline s ≡ length (firstLine s)

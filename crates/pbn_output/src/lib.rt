@@ -4,15 +4,15 @@ use decimal::Number;
 use decimal::read_number;
 use pbn_record::judge_read_pbn;
 use pbn_text::line_end;
-use sheet_text::Outcome;
-use sheet_text::lend;
-use sheet_text::write_pair;
+use text::Outcome;
+use text::lend;
+use text::write_pair;
 ghost use mathlib.Core.Path.{_≡_};
 ghost use lib.ListN.{length};
 ghost use Rattle.laws.specs.PbnReading.{parse};
 ghost use Rattle.laws.specs.Pbn.{pbnOutcome};
 ghost use Rattle.laws.specs.PbnInput.{tableOn, printed, pbnPrinted};
-ghost use Rattle.sheet_text.specs.Putting.{written, lengthWithin, leftIn};
+ghost use Rattle.text.specs.Putting.{written, lengthWithin, leftIn};
 
 // The table that a line says, 0 where it says none.
 fn table_on(line: &[u8]) -> u32

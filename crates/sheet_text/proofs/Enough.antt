@@ -25,18 +25,15 @@ use Rattle.laws.proofs.Counts.{many-le}
 use Rattle.laws.proofs.Scores.{is-self}
 use Rattle.laws.proofs.Tests.{by-test, and-right, or-left, or-right}
 use Rattle.score.proofs.Validity.{valid-size}
+use Rattle.text.proofs.RefusalLengths.{refusal-length}
 use Rattle.sheet_text.specs.declared.columns.Columns.{Columns}
 use Rattle.sheet_text.specs.declared.columns.Columns.the-variants.{Matchpoints, Percentages}
 use Rattle.sheet_text.specs.Columns.{tableAs, sheetAs, roomAs}
-use Rattle.sheet_text.proofs.Printed.{length-3, length-4}
+use Rattle.text.proofs.Printed.{length-3, length-4}
 
 -- ---- lengths by parts
 pub fields-length : (a b c d : List ℕ) → length (fields a b c d) ≡ length a + length b + length c + length d + 4
 fields-length a b c d = simp length-append (omega arith)
-
-pub refusal-length : (k : ℕ) → length (refusal k) ≡ length (decimal k) + 14
-unfolding refusal
-refusal-length k = simp length-append (omega arith)
 
 -- ---- a row
 comparison-low : (s r : ℤ) → comparison s r ≤ 2

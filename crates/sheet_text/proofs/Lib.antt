@@ -1,11 +1,5 @@
-pub mod Puts
-pub mod Printed
-pub mod Signs
 pub mod Enough
 pub mod Rows
 pub mod FirstBytes
 pub mod Example
-pub mod Answering
-pub mod Teams
-pub mod SingleLines
 pub mod Sheets

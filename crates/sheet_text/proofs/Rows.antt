@@ -42,8 +42,8 @@ use Rattle.score_lines.proofs.Saying.{valid-fits}
 use Rattle.sheet_text.specs.declared.columns.Columns.{Columns}
 use Rattle.sheet_text.specs.declared.columns.Columns.the-variants.{Matchpoints as ByPoints, Percentages as ByPercentages}
 use Rattle.sheet_text.specs.Columns.{shareText, rowText, headerAs, rowAs, tableAs}
-use Rattle.sheet_text.specs.Putting.{Put}
-use Rattle.sheet_text.proofs.Puts.{then, put-length, put-none}
+use Rattle.text.specs.Putting.{Put}
+use Rattle.text.proofs.Puts.{then, put-next}
 use Rattle.tally.proofs.Tables.{distinct-entries, Suffix, entry-valid, entry-count, entry-some, suffix-next}
 
 -- ---- a row by its numbers
@@ -77,7 +77,7 @@ row-numbers ByPercentages l s h =
 abbrev pub rowsFrom : Columns → Tally → ℕ → List ℕ
 rowsFrom k t i = rows (rowAs k (scoresIn t)) (map score (entriesAt (t .scores) (t .counts) i))
 
--- the rows before place i are put, and there is room for the others
+-- the rows before place i are put
 pub record Printed (k : Columns) (t : Tally) (out₀ : List ℕ) (at₀ : ℕ) (out : List ℕ) (at i : ℕ) : Type 0 where
   pub places : i ≤ 128
   pub scores : length (t .scores) ≡ 128
@@ -88,27 +88,25 @@ pub record Printed (k : Columns) (t : Tally) (out₀ : List ℕ) (at₀ : ℕ) (
   pub top : ℤ
   pub suffix : Suffix (entriesIn t) (entriesAt (t .scores) (t .counts) i) top
   pub whole : rowsFrom k t 0 ≡ done ++ rowsFrom k t i
-  pub room : at + length (rowsFrom k t i) ≤ length out
 
 pub table-rows : (k : Columns) (t : Tally) → wellFormed t ≡ true → tableAs k (scoresIn t) ≡ headerAs k ++ rowsFrom k t 0
 unfolding table cellTable
 table-rows ByPoints t w = rw (distinct-entries (scoresIn t), entries-scores t (formed t w))
 table-rows ByPercentages t w = rw (distinct-entries (scoresIn t), entries-scores t (formed t w))
 
-pub begins : (k : Columns) (t : Tally) (out : List ℕ) (at : ℕ) → length (t .scores) ≡ 128 → length (t .counts) ≡ 128 → wellFormed t ≡ true
-    → at ≡ 0 + length (headerAs k) → length (tableAs k (scoresIn t)) ≤ length out → Printed k t out at out at 0
-begins k t out at ss cs w e h =
+pub begins : (k : Columns) (t : Tally) {before out : List ℕ} {at : ℕ} → length (t .scores) ≡ 128 → length (t .counts) ≡ 128 → wellFormed t ≡ true
+    → Put before 0 (headerAs k) out at → Printed k t out at out at 0
+begins k t ss cs w p =
     record {
       places = omega arith;
       scores = ss;
       counts = cs;
       well = w;
       done = [];
-      put = put-none out at;
+      put = put-next p;
       top = ceiling;
       suffix = record { ordered = formed t w .ordered; same = λ (y : ℤ) e. refl };
       whole = refl;
-      room = omega (arith, rw (table-rows k t w, length-append (headerAs k) (rowsFrom k t 0)) at h);
     }
 
 module _ (k : Columns) (t : Tally) (out₀ : List ℕ) (at₀ : ℕ) (out : List ℕ) (at i : ℕ) (w : Printed k t out₀ at₀ out at i) where
@@ -198,12 +196,8 @@ module _ (k : Columns) (t : Tally) (out₀ : List ℕ) (at₀ : ℕ) (out : List
       row-is : rowsFrom k t i ≡ text ++ rowsFrom k t (suc i)
       row-is = its-row ∙ rw (is-n, is-e)
 
-      pub row-room : at + length text ≤ length out
-      row-room = omega (arith, ap length row-is ∙ length-append text (rowsFrom k t (suc i)), w .room)
-
       pub goes : (out′ : List ℕ) (at′ : ℕ) → Put out at text out′ at′ → Printed k t out₀ at₀ out′ at′ (i + 1)
       goes out′ at′ p =
-          let l = ap length row-is ∙ length-append text (rowsFrom k t (suc i)) in
           rw (add-one i)
           (record {
             places = omega arith;
@@ -215,5 +209,4 @@ module _ (k : Columns) (t : Tally) (out₀ : List ℕ) (at₀ : ℕ) (out : List
             top = at-i;
             suffix = suffix-next _ _ _ _ here;
             whole = w .whole ∙ rw row-is (sym (append-assoc (w .done) text (rowsFrom k t (suc i))));
-            room = omega (arith, l, w .room, p .place, put-length p);
           })

@@ -1,14 +1,14 @@
 // What stands for each side in a table: its matchpoints, or its percentage to two decimals, which are rounded half up from the exact fraction.
-use super::put_byte;
-use super::put_bytes;
-use super::put_digit;
-use super::put_field;
+use text::put_byte;
+use text::put_bytes;
+use text::put_digit;
+use text::put_field;
 ghost use mathlib.Core.List.{_∷_};
 ghost use Prim.Native.Nat.{_+_, _≤_};
 ghost use lib.ListN.{length};
 ghost use Rattle.laws.specs.CellSheet.{twoDecimals};
 ghost use Rattle.sheet_text.specs.Columns.{shareText, sideText, headerAs};
-ghost use Rattle.sheet_text.specs.Putting.{Put};
+ghost use Rattle.text.specs.Putting.{Put};
 
 // What a table gives for each side.
 pub(crate) enum Columns {
@@ -17,7 +17,6 @@ pub(crate) enum Columns {
 }
 
 pub(crate) fn put_header(out: &mut [u8], columns: Columns) -> usize
-    requires { ⌜ length (headerAs columns) ≤ length (now out) ⌝ }
     ensures { λ r. ⌜ Put (now (out .entry)) 0 (headerAs columns) (now (out .exit)) r ⌝ }
 {
     match columns {
@@ -28,18 +27,17 @@ pub(crate) fn put_header(out: &mut [u8], columns: Columns) -> usize
 
 // A space and so many hundredths with two decimals.
 fn put_hundredths(out: &mut [u8], at: usize, n: u32) -> usize
-    requires { ⌜ at + length (32 ∷ twoDecimals n) ≤ length (now out) ⌝ }
     ensures { λ r. ⌜ Put (now (out .entry)) at (32 ∷ twoDecimals n) (now (out .exit)) r ⌝ }
 {
     let a = put_field(out, at, n / 100);
     let b = put_byte(out, a, 46);
-    let c = put_digit(out, b, (n / 10 % 10) as u64);
-    put_digit(out, c, (n % 10) as u64)
+    let c = put_digit(out, b, (n / 10) as u64);
+    put_digit(out, c, n as u64)
 }
 
 // A space and the percentage of so many points of so many.
 fn put_share(out: &mut [u8], at: usize, points: u32, most: u32) -> usize
-    requires { ⌜ (at + length (32 ∷ shareText points most) ≤ length (now out)) × (points ≤ 254) × (most ≤ 254) ⌝ }
+    requires { ⌜ (points ≤ 254) × (most ≤ 254) ⌝ }
     ensures { λ r. ⌜ Put (now (out .entry)) at (32 ∷ shareText points most) (now (out .exit)) r ⌝ }
 {
     if most == 0 {
@@ -57,7 +55,7 @@ pub(crate) fn put_side(
     points: u32,
     other: u32,
 ) -> usize
-    requires { ⌜ (at + length (32 ∷ sideText columns points other) ≤ length (now out)) × (points + other ≤ 254) ⌝ }
+    requires { ⌜ points + other ≤ 254 ⌝ }
     ensures { λ r. ⌜ Put (now (out .entry)) at (32 ∷ sideText columns points other) (now (out .exit)) r ⌝ }
 {
     match columns {

@@ -2,14 +2,15 @@
 use super::columns::Columns;
 use super::columns::put_header;
 use super::columns::put_side;
-use super::put_byte;
-use super::put_bytes;
-use super::put_decimal;
-use super::put_field;
-use super::put_score;
 use matchpoints::MatchpointAnswer;
 use score_lines::results_of;
 use tally::Tally;
+use text::Outcome;
+use text::lend;
+use text::put_byte;
+use text::put_field;
+use text::put_refusal;
+use text::put_score;
 ghost use mathlib.Core.Path.{_≡_};
 ghost use mathlib.Core.Bool.{true};
 ghost use Prim.Native.Nat.{_+_, _≤_};
@@ -19,14 +20,8 @@ ghost use Rattle.laws.specs.Sheet.{refusal, sheet};
 ghost use Rattle.tally.specs.Points.{matchpointsOf};
 ghost use Rattle.matchpoints.specs.Points.{pointsAnswer};
 ghost use Rattle.tally.specs.Tallies.{scoresIn, wellFormed};
-ghost use Rattle.sheet_text.specs.Columns.{rowText, tableAs, sheetAs, roomAs};
-ghost use Rattle.sheet_text.specs.Putting.{Put, written, lengthWithin, leftIn};
-
-// How the writing of a sheet went: so many bytes written, or too few lent and none written.
-pub enum Outcome {
-    Written(usize),
-    TooShort,
-}
+ghost use Rattle.sheet_text.specs.Columns.{rowText, tableAs, sheetAs};
+ghost use Rattle.text.specs.Putting.{Put, written, lengthWithin, leftIn};
 
 fn put_row(
     out: &mut [u8],
@@ -37,7 +32,7 @@ fn put_row(
     ns: u32,
     ew: u32,
 ) -> usize
-    requires { ⌜ (at + length (rowText columns score count ns ew) ≤ length (now out)) × (ns + ew ≤ 254) ⌝ }
+    requires { ⌜ ns + ew ≤ 254 ⌝ }
     ensures { λ r. ⌜ Put (now (out .entry)) at (rowText columns score count ns ew) (now (out .exit)) r ⌝ }
 {
     let a = put_score(out, at, score);
@@ -57,7 +52,7 @@ fn points_of(t: Tally, score: i16) -> MatchpointAnswer
 
 // The table of a tally that is well formed.
 fn put_table(out: &mut [u8], t: Tally, columns: Columns) -> usize
-    requires { ⌜ (length (tableAs columns (scoresIn t)) ≤ length (now out)) × (wellFormed t ≡ true) ⌝ }
+    requires { ⌜ wellFormed t ≡ true ⌝ }
     ensures { λ r. ⌜ Put (now (out .entry)) 0 (tableAs columns (scoresIn t)) (now (out .exit)) r ⌝ }
 {
     let mut at = put_header(out, columns);
@@ -78,18 +73,8 @@ fn put_table(out: &mut [u8], t: Tally, columns: Columns) -> usize
     at
 }
 
-pub(crate) fn put_refusal(out: &mut [u8], k: u64) -> usize
-    requires { ⌜ length (refusal k) ≤ length (now out) ⌝ }
-    ensures { λ r. ⌜ Put (now (out .entry)) 0 (refusal k) (now (out .exit)) r ⌝ }
-{
-    let number = put_bytes(out, 0, b"line ");
-    let end = put_decimal(out, number, k);
-    put_bytes(out, end, b" refused\n")
-}
-
-// A sheet, where there is room for every one.
+// A sheet.
 fn put_sheet(out: &mut [u8], bytes: &[u8], columns: Columns) -> usize
-    requires { ⌜ roomAs columns ≤ length (now out) ⌝ }
     ensures { λ r. ⌜ Put (now (out .entry)) 0 (sheetAs columns (now (bytes .entry))) (now (out .exit)) r ⌝ }
 {
     let results = results_of(bytes);
@@ -99,19 +84,6 @@ fn put_sheet(out: &mut [u8], bytes: &[u8], columns: Columns) -> usize
     }
     let t = results.tally;
     put_table(out, t, columns)
-}
-
-// Copies a text to lent bytes where it fits them.
-pub fn lend(text: &[u8], out: &mut [u8]) -> Outcome
-    ensures answer { λ r. ⌜ written r ≡ lengthWithin (now (text .entry)) (length (now (out .entry))) ⌝ }
-    ensures bytes { λ r. ⌜ now (out .exit) ≡ leftIn (now (out .entry)) (now (text .entry)) ⌝ }
-{
-    let n = text.len();
-    if out.len() < n {
-        return Outcome::TooShort;
-    }
-    put_bytes(out, 0, text);
-    Outcome::Written(n)
 }
 
 // Writes the sheet of a text of scores to lent bytes. 2331 bytes are enough for every sheet.

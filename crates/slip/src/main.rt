@@ -1,7 +1,7 @@
 // The slip of the table record on standard input, on standard output. Its first 506 bytes decide it, and 72 bytes are enough for every slip.
 use libc::STDIN_FILENO;
 use libc::STDOUT_FILENO;
-use sheet_text::Outcome;
+use text::Outcome;
 
 fn main() {
     let mut input = [0u8; 506];

@@ -19,9 +19,9 @@ use Rattle.explanation.specs.declared.slip.Items.{Items}
 use Rattle.explanation.specs.declared.slip.Explained.{Explained}
 use Rattle.explanation.specs.declared.slip.Explained.the-variants.{Refused, Granted}
 use Rattle.explanation.specs.Explained.{itemsIn, explainedOf}
-use Rattle.sheet_text.specs.declared.whole.Outcome.{Outcome as Ended}
-use Rattle.sheet_text.specs.declared.whole.Outcome.the-variants.{Written, TooShort}
-use Rattle.sheet_text.specs.Putting.{written, lengthWithin, leftIn}
+use Rattle.text.specs.declared.Outcome.{Outcome as Ended}
+use Rattle.text.specs.declared.Outcome.the-variants.{Written, TooShort}
+use Rattle.text.specs.Putting.{written, lengthWithin, leftIn}
 use Rattle.slip_text.specs.Call.{slipBy, slipCall}
 use Rattle.slip_text.specs.Text.{itemsText}
 use Rattle.slip_text.proofs.Slips.{number-le, items-text, granted-slip}

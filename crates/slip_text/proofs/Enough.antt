@@ -19,8 +19,8 @@ use Rattle.laws.proofs.Slip.{size-ns}
 use Rattle.laws.proofs.Tests.{by-test}
 use Rattle.explanation.specs.Explained.{Possible, itemsFor}
 use Rattle.explanation.proofs.Granting.{score-small, gain-small, ns-small}
-use Rattle.sheet_text.proofs.Printed.{length-by}
-use Rattle.sheet_text.proofs.SingleLines.{after-length, line-length}
+use Rattle.text.proofs.Printed.{length-by}
+use Rattle.text.proofs.SingleLines.{line-length}
 use Rattle.slip_text.specs.Text.{itemLine, itemsText}
 
 -- ---- a line's length by the size of its points
@@ -51,7 +51,7 @@ abbrev itemSize : ℕ → ℕ → ℕ
 itemSize letters n = if eqb n 0 then 0 else lineSize letters n
 
 line-le : (word : List ℕ) (z : ℤ) → natAbs z ≤ 7600 → length (line word z) ≤ lineSize (length word) (natAbs z)
-line-le word z h = omega (arith, line-length word z, after-length z, signed-le z h)
+line-le word z h = omega (arith, line-length word z, signed-le z h)
 
 item-le : (word : List ℕ) (z : ℤ) {n : ℕ} → natAbs z ≡ n → natAbs z ≤ 7600 → length (itemLine word z) ≤ itemSize (length word) n
 unfolding itemLine

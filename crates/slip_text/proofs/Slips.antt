@@ -25,7 +25,7 @@ use Rattle.explanation.specs.declared.slip.Explained.{Explained}
 use Rattle.explanation.specs.declared.slip.Explained.the-variants.{Refused, Granted}
 use Rattle.explanation.specs.Explained.{noItems, itemsIn, explainedOf}
 use Rattle.explanation.proofs.Explaining.{bid-parts, out-parts, parts-possible}
-use Rattle.sheet_text.proofs.Printed.{length-by}
+use Rattle.text.proofs.Printed.{length-by}
 use Rattle.slip_text.specs.Text.{itemLine, itemsText}
 use Rattle.slip_text.proofs.Enough.{contract-le}
 

@@ -3,44 +3,32 @@ use explanation::Explained;
 use explanation::Items;
 use laws::SHORT_RECORD_BUFFER;
 use laws::refusal_number;
-use sheet_text::Outcome;
-use sheet_text::lend;
-use sheet_text::write_named;
-use sheet_text::write_pair;
+use text::Outcome;
+use text::lend;
+use text::put_bytes;
+use text::put_named;
+use text::write_pair;
 ghost use mathlib.Core.Path.{_≡_};
 ghost use Prim.Native.Nat.{_+_, _≤_};
 ghost use lib.ListN.{length};
 ghost use Rattle.laws.specs.Slip.{line, slip};
 ghost use Rattle.laws.specs.Writing.{numberOf, recordLeft};
-ghost use Rattle.sheet_text.specs.Putting.{Put, written, lengthWithin, leftIn};
+ghost use Rattle.text.specs.Putting.{Put, written, lengthWithin, leftIn};
 ghost use Rattle.slip_text.specs.Call.{slipCall};
 ghost use Rattle.slip_text.specs.Text.{itemLine, tricksText, premiumsText, itemsText};
 
-// A line at a place: a name, a space and points. The answer is the place after it.
-fn put_line(out: &mut [u8], at: usize, name: &[u8], points: i16) -> usize
-    requires { ⌜ at + length (line (now name) points) ≤ length (now out) ⌝ }
-    ensures { λ r. ⌜ Put (now (out .entry)) at (line (now (name .entry)) points) (now (out .exit)) r ⌝ }
-{
-    let Outcome::Written(n) = write_named(name, points, &mut out[at..]) else {
-        return at;
-    };
-    at + n
-}
-
 // An item's line; nothing where it has no points.
 fn put_item(out: &mut [u8], at: usize, name: &[u8], points: i16) -> usize
-    requires { ⌜ at + length (itemLine (now name) points) ≤ length (now out) ⌝ }
     ensures { λ r. ⌜ Put (now (out .entry)) at (itemLine (now (name .entry)) points) (now (out .exit)) r ⌝ }
 {
     if points == 0 {
-        return at;
+        return put_bytes(out, at, b"");
     }
-    put_line(out, at, name, points)
+    put_named(out, at, name, points)
 }
 
 // The tricks, and those over or under the contract.
 fn put_tricks(out: &mut [u8], items: Items) -> usize
-    requires { ⌜ length (tricksText items) ≤ length (now out) ⌝ }
     ensures { λ r. ⌜ Put (now (out .entry)) 0 (tricksText items) (now (out .exit)) r ⌝ }
 {
     let a = put_item(out, 0, b"TRICKS", items.tricks);
@@ -50,7 +38,6 @@ fn put_tricks(out: &mut [u8], items: Items) -> usize
 
 // The premiums.
 fn put_premiums(out: &mut [u8], at: usize, items: Items) -> usize
-    requires { ⌜ at + length (premiumsText items) ≤ length (now out) ⌝ }
     ensures { λ r. ⌜ Put (now (out .entry)) at (premiumsText items) (now (out .exit)) r ⌝ }
 {
     let a = put_item(out, at, b"PARTSCORE", items.partscore);
@@ -61,12 +48,11 @@ fn put_premiums(out: &mut [u8], at: usize, items: Items) -> usize
 
 // All items, and their sum.
 fn put_items(out: &mut [u8], items: Items) -> usize
-    requires { ⌜ length (itemsText items) ≤ length (now out) ⌝ }
     ensures { λ r. ⌜ Put (now (out .entry)) 0 (itemsText items) (now (out .exit)) r ⌝ }
 {
     let a = put_tricks(out, items);
     let b = put_premiums(out, a, items);
-    put_line(out, b, b"SUM", items.sum)
+    put_named(out, b, b"SUM", items.sum)
 }
 
 // The items, where they are those of a board, in lent bytes.

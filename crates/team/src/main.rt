@@ -3,11 +3,11 @@
 use libc::STDIN_FILENO;
 use libc::STDOUT_FILENO;
 use score::ImpAnswer;
-use sheet_text::Outcome;
 use team_match::TeamMatch;
 use team_match::TotalsAnswer;
 use team_run::Reply;
 use team_run::Run;
+use text::Outcome;
 
 // A run after one read, and whether there may be more to read.
 struct Turn {
@@ -29,14 +29,14 @@ fn show(outcome: Outcome, bytes: &[u8]) {
 // Writes what a board is answered.
 fn say_board(answer: ImpAnswer) {
     let mut text = [0u8; 12];
-    let outcome = sheet_text::write_board(answer, &mut text);
+    let outcome = team_text::write_board(answer, &mut text);
     show(outcome, &text);
 }
 
 // Writes that a line cannot be read.
 fn say_refusal(line: u64) {
     let mut text = [0u8; 34];
-    let outcome = sheet_text::write_refusal(line, &mut text);
+    let outcome = team_text::write_refusal(line, &mut text);
     show(outcome, &text);
 }
 
@@ -46,7 +46,7 @@ fn say_totals(m: TeamMatch) {
         return;
     };
     let mut text = [0u8; 30];
-    let outcome = sheet_text::write_totals(first, second, &mut text);
+    let outcome = team_text::write_totals(first, second, &mut text);
     show(outcome, &text);
 }
 

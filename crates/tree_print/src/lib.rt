@@ -1,8 +1,8 @@
 // A run of a script whose answers are written to standard output as they come, and the top tally at its end. The texts are those that
 // `sheet_text` puts into lent bytes.
 use libc::STDOUT_FILENO;
-use sheet_text::Outcome;
 use tally::Tally;
+use text::Outcome;
 use tree_run::Reply;
 use tree_run::Run;
 use tree_stack::Said;
@@ -13,7 +13,7 @@ ghost use Rattle.tree_print.specs.Printing.{fedOf};
 // Writes what a call on a line answers.
 fn say(said: Said, line: u64) {
     let mut text = [0u8; 34];
-    let Outcome::Written(n) = sheet_text::write_said(said, line, &mut text) else {
+    let Outcome::Written(n) = answer_text::write_said(said, line, &mut text) else {
         return;
     };
     io::write_all(STDOUT_FILENO, &text[..n]);
@@ -30,7 +30,7 @@ fn report(reply: Reply, line: u64) {
 // Writes a tally, an entry a line.
 fn show(t: Tally) {
     let mut text = [0u8; 1408];
-    let Outcome::Written(n) = sheet_text::write_tally(t, &mut text) else {
+    let Outcome::Written(n) = answer_text::write_tally(t, &mut text) else {
         return;
     };
     io::write_all(STDOUT_FILENO, &text[..n]);

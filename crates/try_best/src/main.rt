@@ -1,6 +1,6 @@
 // What best play would give from records in files, each under a line that names it; and one answer with bytes enough and one too few.
 use libc::STDOUT_FILENO;
-use sheet_text::Outcome;
+use text::Outcome;
 
 // The answer for a record.
 fn show(name: &[u8], record: &[u8]) {

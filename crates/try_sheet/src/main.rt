@@ -1,6 +1,6 @@
 // The sheet of many inputs, each under a line that names it; and the example of docs/RULES.md with bytes enough and one too few.
 use libc::STDOUT_FILENO;
-use sheet_text::Outcome;
+use text::Outcome;
 ghost use Prim.Native.Nat.{_≤_};
 
 // The sheet of an input.

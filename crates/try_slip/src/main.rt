@@ -1,6 +1,6 @@
 // The slips of records in files, each under a line that names it; and one slip with bytes enough and one too few.
 use libc::STDOUT_FILENO;
-use sheet_text::Outcome;
+use text::Outcome;
 
 // The slip of a record.
 fn show(name: &[u8], record: &[u8]) {

@@ -1,6 +1,6 @@
 -- `best::main` meets its contract. Assumes nothing.
 use borrow.Author.Needs.{needs}
-use Rattle.sheet_text.proofs.Puts.{written-prefix, written-length}
+use Rattle.text.proofs.Puts.{written-prefix, written-length}
 use Rattle.best.proofs.main.Statement.{statement}
 use Rattle.best.proofs.main.Tie as tie
 

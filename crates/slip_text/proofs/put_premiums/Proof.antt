@@ -4,9 +4,9 @@ use native.Mathlib.Omega.{arith}
 use mathlib.Core.List.{_++_}
 use lib.ListN.{length}
 use Rattle.laws.specs.Slip.{PARTSCORE, GAME, SLAM, DOUBLING, wordOf}
-use Rattle.sheet_text.proofs.Puts.{then, first-room, next-room}
+use Rattle.text.proofs.Puts.{then}
 use Rattle.slip_text.specs.Text.{itemLine}
-use Rattle.slip_text.proofs.Placing.{item-put, item-room}
+use Rattle.slip_text.proofs.Placing.{item-put}
 use borrow.Author.Needs.{needs}
 use Rattle.slip_text.proofs.put_premiums.Statement.{statement}
 use Rattle.slip_text.proofs.put_premiums.Tie as tie
@@ -15,75 +15,25 @@ slice-aggregate-put-item : tie.Need-slice-aggregate-put-item
 slice-aggregate-put-item c = search needs
 
 put-item-requires : tie.Need-put-item-requires
-put-item-requires c κs =
-    let st = c .before .before .before .before in
-    let i = st .args .items in
-    let t1 = itemLine (wordOf PARTSCORE) (i .partscore) in
-    let t2 = itemLine (wordOf GAME) (i .game) in
-    let t3 = itemLine (wordOf SLAM) (i .slam) in
-    let t4 = itemLine (wordOf DOUBLING) (i .doubling) in
-    let h : st .args .at + length (t1 ++ t2 ++ t3 ++ t4) ≤ length (st .args .out .now) = omega (arith, st .pre) in
-    let h4 = first-room (st .args .at) _ (t1 ++ t2 ++ t3) t4 h in
-    let h3 = first-room (st .args .at) _ (t1 ++ t2) t3 h4 in
-    let h2 = first-room (st .args .at) _ (t1) t2 h3 in
-    item-room (wordOf PARTSCORE) (i .partscore) (record { sfits = c .struct-told .given .1 .1 .1 .0 .1 }) _ _ h2
+put-item-requires c κs = search needs
 
 slice-aggregate-put-item-2 : tie.Need-slice-aggregate-put-item-2
 slice-aggregate-put-item-2 c = search needs
 
 put-item-requires-2 : tie.Need-put-item-requires-2
-put-item-requires-2 c κs =
-    let d1 = c .before .before .before .before .before in
-    let st = d1 .before .before .before .before .before in
-    let i = st .args .items in
-    let t1 = itemLine (wordOf PARTSCORE) (i .partscore) in
-    let t2 = itemLine (wordOf GAME) (i .game) in
-    let t3 = itemLine (wordOf SLAM) (i .slam) in
-    let t4 = itemLine (wordOf DOUBLING) (i .doubling) in
-    let p1 = item-put (wordOf PARTSCORE) (i .partscore) (record { sfits = d1 .before .struct-told .given .1 .1 .1 .0 .1 }) (d1 .put-item .ensures) in
-    let h : st .args .at + length (t1 ++ t2 ++ t3 ++ t4) ≤ length (st .args .out .now) = omega (arith, st .pre) in
-    let h4 = first-room (st .args .at) _ (t1 ++ t2 ++ t3) t4 h in
-    let h3 = first-room (st .args .at) _ (t1 ++ t2) t3 h4 in
-    item-room (wordOf GAME) (i .game) (record { sfits = c .struct-told2 .given .1 .1 .1 .1 .0 .1 }) _ _ (next-room t2 p1 h3)
+put-item-requires-2 c κs = search needs
 
 slice-aggregate-put-item-3 : tie.Need-slice-aggregate-put-item-3
 slice-aggregate-put-item-3 c = search needs
 
 put-item-requires-3 : tie.Need-put-item-requires-3
-put-item-requires-3 c κs =
-    let d2 = c .before .before .before .before .before in
-    let d1 = d2 .before .before .before .before .before .before in
-    let st = d1 .before .before .before .before .before in
-    let i = st .args .items in
-    let t1 = itemLine (wordOf PARTSCORE) (i .partscore) in
-    let t2 = itemLine (wordOf GAME) (i .game) in
-    let t3 = itemLine (wordOf SLAM) (i .slam) in
-    let t4 = itemLine (wordOf DOUBLING) (i .doubling) in
-    let p1 = item-put (wordOf PARTSCORE) (i .partscore) (record { sfits = d1 .before .struct-told .given .1 .1 .1 .0 .1 }) (d1 .put-item .ensures) in
-    let p2 = item-put (wordOf GAME) (i .game) (record { sfits = d2 .before .struct-told2 .given .1 .1 .1 .1 .0 .1 }) (d2 .put-item2 .ensures) in
-    let h : st .args .at + length (t1 ++ t2 ++ t3 ++ t4) ≤ length (st .args .out .now) = omega (arith, st .pre) in
-    let h4 = first-room (st .args .at) _ (t1 ++ t2 ++ t3) t4 h in
-    item-room (wordOf SLAM) (i .slam) (record { sfits = c .struct-told3 .given .1 .1 .1 .1 .1 .0 .1 }) _ _ (next-room t3 (then p1 p2) h4)
+put-item-requires-3 c κs = search needs
 
 slice-aggregate-put-item-4 : tie.Need-slice-aggregate-put-item-4
 slice-aggregate-put-item-4 c = search needs
 
 put-item-requires-4 : tie.Need-put-item-requires-4
-put-item-requires-4 c κs =
-    let d3 = c .before .before .before .before .before in
-    let d2 = d3 .before .before .before .before .before .before in
-    let d1 = d2 .before .before .before .before .before .before in
-    let st = d1 .before .before .before .before .before in
-    let i = st .args .items in
-    let t1 = itemLine (wordOf PARTSCORE) (i .partscore) in
-    let t2 = itemLine (wordOf GAME) (i .game) in
-    let t3 = itemLine (wordOf SLAM) (i .slam) in
-    let t4 = itemLine (wordOf DOUBLING) (i .doubling) in
-    let p1 = item-put (wordOf PARTSCORE) (i .partscore) (record { sfits = d1 .before .struct-told .given .1 .1 .1 .0 .1 }) (d1 .put-item .ensures) in
-    let p2 = item-put (wordOf GAME) (i .game) (record { sfits = d2 .before .struct-told2 .given .1 .1 .1 .1 .0 .1 }) (d2 .put-item2 .ensures) in
-    let p3 = item-put (wordOf SLAM) (i .slam) (record { sfits = d3 .before .struct-told3 .given .1 .1 .1 .1 .1 .0 .1 }) (d3 .put-item3 .ensures) in
-    let h : st .args .at + length (t1 ++ t2 ++ t3 ++ t4) ≤ length (st .args .out .now) = omega (arith, st .pre) in
-    item-room (wordOf DOUBLING) (i .doubling) (record { sfits = c .struct-told4 .given .1 .1 .1 .1 .1 .1 .0 .1 }) _ _ (next-room t4 (then (then p1 p2) p3) h)
+put-item-requires-4 c κs = search needs
 
 same-length : tie.Need-same-length
 same-length c = search needs

@@ -4,9 +4,9 @@ use native.Mathlib.Omega.{arith}
 use mathlib.Core.List.{_++_}
 use lib.ListN.{length}
 use Rattle.laws.specs.Slip.{TRICKS, OVERTRICKS, UNDERTRICKS, wordOf}
-use Rattle.sheet_text.proofs.Puts.{then, first-room, next-room}
+use Rattle.text.proofs.Puts.{then}
 use Rattle.slip_text.specs.Text.{itemLine}
-use Rattle.slip_text.proofs.Placing.{item-put, item-room}
+use Rattle.slip_text.proofs.Placing.{item-put}
 use borrow.Author.Needs.{needs}
 use Rattle.slip_text.proofs.put_tricks.Statement.{statement}
 use Rattle.slip_text.proofs.put_tricks.Tie as tie
@@ -15,49 +15,19 @@ slice-aggregate-put-item : tie.Need-slice-aggregate-put-item
 slice-aggregate-put-item c = search needs
 
 put-item-requires : tie.Need-put-item-requires
-put-item-requires c κs =
-    let st = c .before .before .before .before in
-    let i = st .args .items in
-    let t1 = itemLine (wordOf TRICKS) (i .tricks) in
-    let t2 = itemLine (wordOf OVERTRICKS) (i .overtricks) in
-    let t3 = itemLine (wordOf UNDERTRICKS) (i .undertricks) in
-    let h : 0 + length (t1 ++ t2 ++ t3) ≤ length (st .args .out .now) = omega (arith, st .pre) in
-    let h3 = first-room 0 _ (t1 ++ t2) t3 h in
-    let h2 = first-room 0 _ (t1) t2 h3 in
-    item-room (wordOf TRICKS) (i .tricks) (record { sfits = c .struct-told .given .0 .1 }) _ _ h2
+put-item-requires c κs = search needs
 
 slice-aggregate-put-item-2 : tie.Need-slice-aggregate-put-item-2
 slice-aggregate-put-item-2 c = search needs
 
 put-item-requires-2 : tie.Need-put-item-requires-2
-put-item-requires-2 c κs =
-    let d1 = c .before .before .before .before .before in
-    let st = d1 .before .before .before .before .before in
-    let i = st .args .items in
-    let t1 = itemLine (wordOf TRICKS) (i .tricks) in
-    let t2 = itemLine (wordOf OVERTRICKS) (i .overtricks) in
-    let t3 = itemLine (wordOf UNDERTRICKS) (i .undertricks) in
-    let p1 = item-put (wordOf TRICKS) (i .tricks) (record { sfits = d1 .before .struct-told .given .0 .1 }) (d1 .put-item .ensures) in
-    let h : 0 + length (t1 ++ t2 ++ t3) ≤ length (st .args .out .now) = omega (arith, st .pre) in
-    let h3 = first-room 0 _ (t1 ++ t2) t3 h in
-    item-room (wordOf OVERTRICKS) (i .overtricks) (record { sfits = c .struct-told2 .given .1 .0 .1 }) _ _ (next-room t2 p1 h3)
+put-item-requires-2 c κs = search needs
 
 slice-aggregate-put-item-3 : tie.Need-slice-aggregate-put-item-3
 slice-aggregate-put-item-3 c = search needs
 
 put-item-requires-3 : tie.Need-put-item-requires-3
-put-item-requires-3 c κs =
-    let d2 = c .before .before .before .before .before in
-    let d1 = d2 .before .before .before .before .before .before in
-    let st = d1 .before .before .before .before .before in
-    let i = st .args .items in
-    let t1 = itemLine (wordOf TRICKS) (i .tricks) in
-    let t2 = itemLine (wordOf OVERTRICKS) (i .overtricks) in
-    let t3 = itemLine (wordOf UNDERTRICKS) (i .undertricks) in
-    let p1 = item-put (wordOf TRICKS) (i .tricks) (record { sfits = d1 .before .struct-told .given .0 .1 }) (d1 .put-item .ensures) in
-    let p2 = item-put (wordOf OVERTRICKS) (i .overtricks) (record { sfits = d2 .before .struct-told2 .given .1 .0 .1 }) (d2 .put-item2 .ensures) in
-    let h : 0 + length (t1 ++ t2 ++ t3) ≤ length (st .args .out .now) = omega (arith, st .pre) in
-    item-room (wordOf UNDERTRICKS) (i .undertricks) (record { sfits = c .struct-told3 .given .1 .1 .0 .1 }) _ _ (next-room t3 (then p1 p2) h)
+put-item-requires-3 c κs = search needs
 
 same-length : tie.Need-same-length
 same-length c = search needs

@@ -1,5 +1,5 @@
 -- `write_items` meets its contract. Assumes nothing.
-use Rattle.sheet_text.proofs.Puts.{taken-length, taken}
+use Rattle.text.proofs.Puts.{local-length, taken-length, taken}
 use borrow.Author.Needs.{needs}
 use Rattle.slip_text.proofs.write_items.Statement.{statement}
 use Rattle.slip_text.proofs.write_items.Tie as tie
@@ -11,7 +11,7 @@ put-items-requires : tie.Need-put-items-requires
 put-items-requires c κs = search needs
 
 array-share-prefix-text : tie.Need-array-share-prefix-text
-array-share-prefix-text c = search needs
+array-share-prefix-text c = local-length _ _ _ _ (c .before .put-items .ensures) (c .before .before .before .before .pre)
 
 slice-aggregate-lend : tie.Need-slice-aggregate-lend
 slice-aggregate-lend c = taken-length _ _ _ _ (c .before .before .put-items .ensures) (c .before .before .before .before .before .pre)

@@ -1,6 +1,6 @@
 -- `try_sheet::show` meets its contract. Assumes nothing.
 use borrow.Author.Needs.{needs}
-use Rattle.sheet_text.proofs.Puts.{written-prefix, written-length}
+use Rattle.text.proofs.Puts.{written-prefix, written-length}
 use Rattle.try_sheet.proofs.show.Statement.{statement}
 use Rattle.try_sheet.proofs.show.Tie as tie
 

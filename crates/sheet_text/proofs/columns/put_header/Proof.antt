@@ -13,8 +13,7 @@ slice-aggregate-put-bytes : tie.Need-slice-aggregate-put-bytes
 slice-aggregate-put-bytes c = search needs
 
 put-bytes-requires : tie.Need-put-bytes-requires
-unfolding header
-put-bytes-requires c κs = omega (arith, rw (c .before .before .enum-told .given .1) at (c .before .before .before .before .before .pre))
+put-bytes-requires c κs = search needs
 
 enum-told-2 : tie.Need-enum-told-2
 enum-told-2 c = search needs
@@ -23,8 +22,7 @@ slice-aggregate-put-bytes-2 : tie.Need-slice-aggregate-put-bytes-2
 slice-aggregate-put-bytes-2 c = search needs
 
 put-bytes-requires-2 : tie.Need-put-bytes-requires-2
-unfolding cellHeader
-put-bytes-requires-2 c κs = omega (arith, rw (c .before .before .enum-told2 .given .1) at (c .before .before .before .before .before .pre))
+put-bytes-requires-2 c κs = search needs
 
 same-length : tie.Need-same-length
 same-length c = search needs

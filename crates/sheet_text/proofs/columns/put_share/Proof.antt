@@ -18,8 +18,7 @@ slice-aggregate-put-bytes : tie.Need-slice-aggregate-put-bytes
 slice-aggregate-put-bytes c = search needs
 
 put-bytes-requires : tie.Need-put-bytes-requires
-unfolding shareText
-put-bytes-requires c κs = let st = c .before .before .before .before in rw (eq-eqb _ _ (c .before .before .if1 .taken)) at (st .pre .0)
+put-bytes-requires c κs = search needs
 
 same-length : tie.Need-same-length
 same-length c = search needs
@@ -38,10 +37,7 @@ share-requires : tie.Need-share-requires
 share-requires c κs = search needs
 
 put-hundredths-requires : tie.Need-put-hundredths-requires
-unfolding shareText
-put-hundredths-requires c κs =
-    let n = c .before in
-    rw (ne-eqb _ _ (n .before .if1 .left), ← some-share _ _ (n .share .ensures) (n .before .if1 .left)) at (n .before .before .before .pre .0)
+put-hundredths-requires c κs = search needs
 
 same-length-2 : tie.Need-same-length-2
 same-length-2 c = search needs

@@ -8,7 +8,7 @@ enum-told : tie.Need-enum-told
 enum-told c = search needs
 
 put-field-requires : tie.Need-put-field-requires
-put-field-requires c κs = rw (c .before .enum-told .given .1) at (c .before .before .before .before .pre .0)
+put-field-requires c κs = search needs
 
 enum-told-2 : tie.Need-enum-told-2
 enum-told-2 c = search needs
@@ -17,7 +17,7 @@ add-put-share : tie.Need-add-put-share
 add-put-share c = search needs
 
 put-share-requires : tie.Need-put-share-requires
-put-share-requires c κs = let p = c .before .before .before .before .pre in (rw (c .before .enum-told2 .given .1) at (p .0), omega (arith, p .1), p .1)
+put-share-requires c κs = let p = c .before .before .before .before .pre in (omega (arith, p), p)
 
 same-length : tie.Need-same-length
 same-length c = search needs

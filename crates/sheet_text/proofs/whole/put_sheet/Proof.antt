@@ -1,10 +1,6 @@
 -- `sheet_text::whole::put_sheet` meets its contract. Assumes nothing.
-use native.Mathlib.Omega.{arith}
-use mathlib.Core.Path.{_≡_, sym, ap, _∙_}
 use borrow.Author.Needs.{needs}
-use lib.ListN.{length}
-use Rattle.sheet_text.proofs.Enough.{refusal-short, least-room, enough}
-use Rattle.sheet_text.proofs.Sheets.{sheet-refused, refused-few, well, sheet-table}
+use Rattle.sheet_text.proofs.Sheets.{sheet-refused, well, sheet-table}
 use Rattle.sheet_text.proofs.whole.put_sheet.Statement.{statement}
 use Rattle.sheet_text.proofs.whole.put_sheet.Tie as tie
 
@@ -15,9 +11,7 @@ cast-put-refusal : tie.Need-cast-put-refusal
 cast-put-refusal c = search needs
 
 put-refusal-requires : tie.Need-put-refusal-requires
-put-refusal-requires c κs =
-    let st = c .before .before .before .before .before in
-    omega (arith, refusal-short _ (refused-few _ _ (c .before .before .results-of .ensures)), least-room (st .args .columns), st .pre)
+put-refusal-requires c κs = search needs
 
 same-length : tie.Need-same-length
 same-length c = search needs
@@ -28,11 +22,7 @@ returns c =
     (c .before .before .put-refusal .ensures)
 
 put-table-requires : tie.Need-put-table-requires
-put-table-requires c κs =
-    let f = c .before .before .before .results-of .ensures in
-    let h = c .before .before .if1 .left in
-    let st = c .before .before .before .before .before .before in
-    (rw (← sheet-table _ _ f h (st .args .columns)) (omega (arith, enough (st .args .columns) (st .args .bytes .now), st .pre)), well _ _ f h)
+put-table-requires c κs = well _ _ (c .before .before .before .results-of .ensures) (c .before .before .if1 .left)
 
 same-length-2 : tie.Need-same-length-2
 same-length-2 c = search needs

@@ -5,8 +5,8 @@ use mathlib.Core.Path.{_≡_, refl, sym, ap, _∙_}
 use borrow.Author.Needs.{needs}
 use lib.ListN.{length, length-append}
 use Rattle.sheet_text.specs.Columns.{headerAs}
-use Rattle.sheet_text.proofs.Puts.{then, put-length}
-use Rattle.sheet_text.proofs.Rows.{Printed, rowsFrom, table-rows, begins, ends, full, as-held, not-refused, both, few, row-room, goes}
+use Rattle.text.proofs.Puts.{then, put-length}
+use Rattle.sheet_text.proofs.Rows.{Printed, rowsFrom, table-rows, begins, ends, full, as-held, not-refused, both, few, goes}
 use Rattle.sheet_text.proofs.whole.put_table.Statement.{statement}
 use Rattle.sheet_text.proofs.whole.put_table.Tie as tie
 
@@ -17,12 +17,7 @@ abbrev μ-loop : tie.MeasureT-loop
 μ-loop out₀ columns t at₀ i₀ out at i = 128 - i
 
 put-header-requires : tie.Need-put-header-requires Inv-loop μ-loop
-put-header-requires c κs =
-    let st = c .before .before in
-    let t = st .args .t2 in
-    let k = st .args .columns in
-    let h = rw (table-rows k t (st .pre .1), length-append (headerAs k) (rowsFrom k t 0)) at (st .pre .0) in
-    omega arith
+put-header-requires c κs = search needs
 
 loop-holds : tie.Need-loop-holds Inv-loop μ-loop
 loop-holds c =
@@ -31,7 +26,7 @@ loop-holds c =
     let t = st .args .t2 in
     let ss : length (t .scores) ≡ 128 = search needs in
     let cs : length (t .counts) ≡ 128 = search needs in
-    begins (st .args .columns) t _ _ ss cs (st .pre .1) (p .place) (rw (put-length p) (st .pre .0))
+    begins (st .args .columns) t ss cs (st .pre) p
 
 element-copy-out-count : tie.Need-element-copy-out-count Inv-loop μ-loop
 element-copy-out-count c = omega arith
@@ -41,7 +36,7 @@ same-length c = put-length (c .before .before .before .loop .inv .put) ∙ put-l
 
 returns : tie.Need-returns Inv-loop μ-loop
 returns c =
-    rw (table-rows _ _ (c .before .before .before .before .before .before .before .before .before .pre .1))
+    rw (table-rows _ _ (c .before .before .before .before .before .before .before .before .before .pre))
     (then (c .before .before .before .before .before .before .put-header .ensures)
     (ends _ _ _ _ _ _ _ (c .before .before .before .loop .inv) (c .before .before .loop-test .taken) (c .if1 .taken)))
 
@@ -80,7 +75,7 @@ put-row-requires c κs =
     let h = c .before .before .before .before .before .before .before .before .loop-test .taken in
     let u = c .before .before .before .before .before .before .if1 .left in
     let p = both _ _ _ _ _ _ _ (l .inv) h u _ (c .before .before .before .before .points-of .ensures) _ _ (c .before .before .points .given .1) in
-    (rw (as-held _ _ _ _ _ _ _ (l .inv) h u) (row-room _ _ _ _ _ _ _ (l .inv) h u _ _ (p .0) (p .1)), few _ _ _ _ _ _ _ (l .inv) h u _ _ (p .0) (p .1))
+    few _ _ _ _ _ _ _ (l .inv) h u _ _ (p .0) (p .1)
 
 add-i : tie.Need-add-i Inv-loop μ-loop
 add-i c = omega arith
@@ -103,7 +98,7 @@ same-length-3 c = put-length (c .before .loop .inv .put) ∙ put-length (c .befo
 
 returns-3 : tie.Need-returns-3 Inv-loop μ-loop
 returns-3 c =
-    rw (table-rows _ _ (c .before .before .before .before .before .before .before .pre .1))
+    rw (table-rows _ _ (c .before .before .before .before .before .before .before .pre))
     (then (c .before .before .before .before .put-header .ensures) (full _ _ _ _ _ _ _ (c .before .loop .inv) (c .loop-test .left)))
 
 pub put-table-spec : {M : Type 1} → statement M

@@ -1,6 +1,6 @@
 -- `sheet_text::whole::write` meets its contract. Assumes nothing.
 use Rattle.sheet_text.specs.declared.columns.Columns.the-variants.{Matchpoints}
-use Rattle.sheet_text.proofs.Puts.{local-length, taken-length, taken}
+use Rattle.text.proofs.Puts.{local-length, taken-length, taken}
 use Rattle.sheet_text.proofs.Enough.{enough}
 use borrow.Author.Needs.{needs}
 use Rattle.sheet_text.proofs.whole.write.Statement.{statement}
