@@ -317,7 +317,7 @@ outside: tools proved build/rust-built build/terminal build/section build/standi
 	$(STEP) stack build/stack build/blocks.records
 	$(MAKE) --no-print-directory python-test
 
-TESTS = examples refusals faults write_refusals write_faults penalty_cards penalty_bounds penalty_faults pbn_texts pbn_faults tally_bytes tally_faults boards jumps
+TESTS = examples refusals faults write_refusals write_faults penalty_cards penalty_bounds penalty_faults pbn_texts pbn_faults tally_bytes tally_faults boards jumps jumps_in_texts
 
 # A program of tests/c that calls an archive on slices of blocks of their own, each as long as it says, under valgrind.
 define blocks

@@ -33,19 +33,19 @@ RUNTIME = {"_start", "_init", "_fini", "deregister_tm_clones", "register_tm_clon
 # A trial: the cases of a whole and of a short run, and further words, among them the programs that it runs.
 Trial = collections.namedtuple("Trial", "name whole short words")
 TRIALS = [
-    Trial("records", 300_000, 40_000, {}),
+    Trial("records", 300_000, 60_000, {}),
     Trial("penalties", 150_000, 40_000, {}),
-    Trial("writes", 150_000, 40_000, {}),
+    Trial("writes", 200_000, 60_000, {}),
     Trial("tallies", 300_000, 60_000, {}),
-    Trial("endings", 20_000, 5_000, {"--program": "best", "--run-each": "4"}),
+    Trial("endings", 20_000, 3_000, {"--program": "best", "--run-each": "4"}),
     Trial("slips", 8_000, 4_000, {"--program": "slip"}),
-    Trial("pbns", 30_000, 6_000, {"--program": "pbn", "--run-each": "6"}),
-    Trial("trees", 2_000, 400, {"--program": "tree"}),
+    Trial("pbns", 30_000, 5_000, {"--program": "pbn", "--run-each": "6"}),
+    Trial("trees", 2_000, 250, {"--program": "tree"}),
     Trial("sheets", 1_500, 400, {"--program": "sheet", "--cells": "cells"}),
     Trial("teams", 1_500, 500, {"--program": "team"}),
 ]
 # Cases by hand.
-BY_HAND = ["examples", "refusals", "write_refusals", "penalty_cards", "penalty_bounds", "pbn_texts", "tally_bytes", "boards", "jumps"]
+BY_HAND = ["examples", "refusals", "write_refusals", "penalty_cards", "penalty_bounds", "pbn_texts", "tally_bytes", "boards", "jumps", "jumps_in_texts"]
 SEED = 42
 
 

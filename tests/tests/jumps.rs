@@ -1,13 +1,14 @@
-//! Cases by hand for conditional jumps of the archives that the other trials do not make go both ways: a list of revokes that is looked through beyond its
-//! first sixteen, and a tally without an unused place.
+//! Cases for conditional jumps of the archives that the other trials do not make go both ways: a list of revokes that is looked through beyond its first
+//! sixteen, a tally without an unused place, and best play and slips of records that end or go wrong behind an exposure or a choice.
 use outside::compare::Judge;
 use outside::contents::Contents;
 use outside::judge::Least;
 use outside::parts::Parts;
+use outside::random::Random;
 use outside::tally_calls::{Calls, CALLS};
 use outside::words::{self, NOBODY};
 use outside::writer::Writer;
-use outside::{judge, proved, proved_tally, slip, writer};
+use outside::{best, judge, making, proved, proved_tally, slip, writer};
 
 const JUDGES: [Judge; 2] = [judge::judge, proved::judge];
 const WRITERS: [Writer; 2] = [writer::write, proved::write];
@@ -93,5 +94,40 @@ fn a_tally_of_128_scores_that_differ() {
         let mut merged = vec![BEFORE; 398];
         assert_eq!((calls.merge)(&odd, &even, &mut merged), 0);
         assert_eq!(merged, all);
+    }
+}
+
+/// What best play and the slip say of a record, by the proved code as by the independent one.
+fn compare_readers(record: &[u8]) {
+    assert_eq!(best::best(record), proved::best(record), "best play from {record:02X?}");
+    let (mut own, mut proved) = ([BEFORE; 80], [BEFORE; 80]);
+    assert_eq!(slip::written(record, &mut own), proved::slip(record, &mut proved), "the slip of {record:02X?}");
+    assert_eq!(own, proved);
+}
+
+/// Records with penalty cards that end at every byte.
+#[test]
+fn best_play_and_slips_of_records_that_end_anywhere() {
+    let mut random = Random::new(42);
+    for _ in 0..60 {
+        let mut parts = making::with_codes(&mut random).parts;
+        parts.keep_cards(parts.cards.len() / 4 * 4);
+        let record = parts.bytes();
+        (0..=record.len()).for_each(|end| compare_readers(&record[..end]));
+    }
+}
+
+/// Records in which, behind an exposure or a choice, a card is another number of six bits.
+#[test]
+fn best_play_and_slips_with_other_cards_behind_codes() {
+    let mut random = Random::new(43);
+    for _ in 0..60 {
+        let mut parts = making::with_codes(&mut random).parts;
+        let from = parts.codes.first().map_or(0, |&(place, _)| place);
+        let at = random.between(from, parts.cards.len() - 1);
+        for card in 0..64 {
+            parts.cards[at] = card;
+            compare_readers(&parts.bytes());
+        }
     }
 }
