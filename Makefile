@@ -12,7 +12,10 @@ help:
 	echo "make python    the shared libraries and the Python package clubscore, to run from the checkout; make python-test tries it, in 2 minutes"
 	echo "make install   headers, archives, shared libraries and pkg-config files under PREFIX; 5 minutes where nothing is proved yet"
 	echo "make bench     the speed of the proved judge, writer and merges beside Rust's; 2 minutes once built"
-	echo "make fuzz      compares on random input for FUZZ_SECONDS (60), from SEED where given, and feeds the C programs for as long again"
+	echo "make fuzz      compares on random input for FUZZ_SECONDS (60), from SEED where given, and feeds the C programs for as long again; what is found is kept"
+	echo "make jumps     which instructions and jumps of the archives and programs the trials run, by callgrind, and what is left; 3 minutes once built"
+	echo "make other-ways    the same trials on processors of other kinds by qemu-user, and each program compiled in other ways; 2 minutes once built"
+	echo "make reproducible  the archives built again from nothing in another folder, compared byte for byte"
 	echo "make clean     removes build/ and target/"
 	echo "V=1 shows each command."
 
@@ -315,6 +318,7 @@ outside: tools proved build/rust-built build/terminal build/section build/standi
 	$(call blocks,tally_blocks,$(TALLY_ARCHIVE),tallies)
 	$(CC) $(CFLAGS) -Iinclude tests/c/stack.c $(ARCHIVE) -o build/stack
 	$(STEP) stack build/stack build/blocks.records
+	$(MAKE) --no-print-directory jumps-short
 	$(MAKE) --no-print-directory python-test
 
 TESTS = examples refusals faults write_refusals write_faults penalty_cards penalty_bounds penalty_faults pbn_texts pbn_faults tally_bytes tally_faults boards jumps jumps_in_texts
@@ -371,7 +375,7 @@ python-test: python build/rust-built chromium
 	$(RUST)/games $(or $(SEED),114) $(PBN_GAMES) >build/work/games
 	$(STEP) clubscore sh -c 'cd python && $(PYTHON) -W error -m unittest -q'
 
-# What no proof covers: the instructions and jumps of the object code that the trials run. tests/README.md says how, docs/TRUST.md what is left and why.
+# What no proof covers: the instructions and jumps of the object code that the trials run. tests/README.md says how, docs/JUMPS.md what is left and why.
 .PHONY: jumps jumps-short
 JUMPS = $(TREE) $(SHEET) $(CELLS) $(SLIP) $(BEST) $(PBN) $(TEAM) build/rust-built build/jumps/calls build/jumps/again.so
 
@@ -390,6 +394,21 @@ jumps: tools $(JUMPS) $(patsubst crates/%/stdout,target/bin/%,$(wildcard crates/
 
 jumps-short: tools $(JUMPS)
 	$(STEP) jumps tests/jumps/jumps.py --short --bounds tests/jumps/bounds
+
+# The same calls on processors of other kinds, as qemu-user has them; and every program by the kit's other ways to compile: -O0, -O3, with assumptions checked.
+# Not by the kit: pbn, which its trial does not lower, and try_merges, which needs more steps than its interpreter allows.
+PROCESSORS = qemu64 Conroe Nehalem Haswell EPYC-Rome
+NOT_TRIED = pbn try_merges
+.PHONY: other-ways qemu
+qemu:
+	@command -v qemu-x86_64 >/dev/null || test "$$(id -u)" != 0 || ! command -v apt-get >/dev/null || \
+	    { apt-get update -qq && apt-get install -y -qq --no-install-recommends qemu-user >/dev/null; }
+	$(call need,qemu-x86_64)
+
+other-ways: qemu jumps-short
+	for cpu in $(PROCESSORS); do $(STEP) calls-on-$$cpu qemu-x86_64 -cpu $$cpu build/jumps/calls $(CURDIR)/build/jumps/*.calls || exit 1; done
+	for crate in $(filter-out $(NOT_TRIED),$(patsubst crates/%/stdout,%,$(wildcard crates/*/stdout))); do $(STEP) try-$$crate rt try $$crate || exit 1; done
+	echo "not compiled in other ways: $(NOT_TRIED)"
 
 # The archives built from nothing in another folder, of what is committed, have the same bytes.
 .PHONY: reproducible
