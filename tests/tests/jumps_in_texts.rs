@@ -2,7 +2,8 @@
 //! other, words that a space follows, the most calls that are kept, and a Deal line that ends too early.
 use outside::{pbn, proved};
 
-const FRONT: [&str; 3] = ["[Board \"1\"]", "[Deal \"N:...AKQJT98765432 ..AKQJT98765432. .AKQJT98765432.. AKQJT98765432...\"]", "[Auction \"N\"]"];
+const FRONT: [&str; 3] =
+    ["[Board \"1\"]", "[Deal \"N:...AKQJT98765432 ..AKQJT98765432. .AKQJT98765432.. AKQJT98765432...\"]", "[Auction \"N\"]"];
 const BEFORE: u8 = 0xEE;
 
 /// A text as both readers read it: the number returned.
