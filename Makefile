@@ -85,7 +85,7 @@ rt-tool:
 	$(call need,rt)
 
 tools: rt-tool
-	$(call need,$(CC) $(CXX) $(AR) cargo python3 valgrind)
+	$(call need,$(CC) $(CXX) $(AR) cargo python3 valgrind objdump)
 
 $(ARCHIVE) $(TALLY_ARCHIVE) $(TREE) $(SHEET) $(CELLS) $(SLIP) $(BEST) $(PBN) $(TEAM) $(MERGES): | rt-tool
 
@@ -318,10 +318,11 @@ outside: tools proved build/rust-built build/terminal build/section build/standi
 	$(call blocks,tally_blocks,$(TALLY_ARCHIVE),tallies)
 	$(CC) $(CFLAGS) -Iinclude tests/c/stack.c $(ARCHIVE) -o build/stack
 	$(STEP) stack build/stack build/blocks.records
-	$(MAKE) --no-print-directory jumps-short
+	$(jumps-short)
 	$(MAKE) --no-print-directory python-test
 
-TESTS = examples refusals faults write_refusals write_faults penalty_cards penalty_bounds penalty_faults pbn_texts pbn_faults tally_bytes tally_faults boards jumps jumps_in_texts
+TESTS = examples refusals faults write_refusals write_faults penalty_cards penalty_bounds penalty_faults pbn_texts pbn_faults \
+    tally_bytes tally_faults boards jumps jumps_in_texts
 
 # A program of tests/c that calls an archive on slices of blocks of their own, each as long as it says, under valgrind.
 define blocks
@@ -377,6 +378,8 @@ python-test: python build/rust-built chromium
 
 # What no proof covers: the instructions and jumps of the object code that the trials run. tests/README.md says how, docs/JUMPS.md what is left and why.
 .PHONY: jumps jumps-short
+jumps-short = $(STEP) jumps tests/jumps/jumps.py --short --bounds tests/jumps/bounds
+outside: build/jumps/calls build/jumps/again.so
 JUMPS = $(TREE) $(SHEET) $(CELLS) $(SLIP) $(BEST) $(PBN) $(TEAM) build/rust-built build/jumps/calls build/jumps/again.so
 
 build/jumps/calls: tests/jumps/calls.c $(ARCHIVE) $(TALLY_ARCHIVE) $(wildcard include/*.h)
@@ -388,12 +391,11 @@ build/jumps/again.so: tests/jumps/again.c
 	$(CC) $(CFLAGS) -fPIC -shared $< -o $@
 
 jumps: tools $(JUMPS) $(patsubst crates/%/stdout,target/bin/%,$(wildcard crates/*/stdout))
-	$(call need,objdump)
 	tests/jumps/jumps.py $(SEED_WORDS)
 	grep -v 'never ran$$' build/jumps/left | cut -f 1,2,4 | grep '^lib'
 
 jumps-short: tools $(JUMPS)
-	$(STEP) jumps tests/jumps/jumps.py --short --bounds tests/jumps/bounds
+	$(jumps-short)
 
 # The same calls on processors of other kinds, as qemu-user has them; and every program by the kit's other ways to compile: -O0, -O3, with assumptions checked.
 # Not by the kit: pbn, which its trial does not lower, and try_merges, which needs more steps than its interpreter allows.
