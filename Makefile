@@ -12,7 +12,10 @@ help:
 	echo "make python    the shared libraries and the Python package clubscore, to run from the checkout; make python-test tries it, in 2 minutes"
 	echo "make install   headers, archives, shared libraries and pkg-config files under PREFIX; 5 minutes where nothing is proved yet"
 	echo "make bench     the speed of the proved judge, writer and merges beside Rust's; 2 minutes once built"
-	echo "make fuzz      compares on random input for FUZZ_SECONDS (60), from SEED where given, and feeds the C programs for as long again"
+	echo "make fuzz      compares on random input for FUZZ_SECONDS (60), from SEED where given, and feeds the C programs for as long again; what is found is kept"
+	echo "make jumps     which instructions and jumps of the archives and programs the trials run, by callgrind, and what is left; 3 minutes once built"
+	echo "make other-ways    the same trials on processors of other kinds by qemu-user, and each program compiled in other ways; 2 minutes once built"
+	echo "make reproducible  the archives built again from nothing in another folder, compared byte for byte"
 	echo "make clean     removes build/ and target/"
 	echo "V=1 shows each command."
 
@@ -82,7 +85,7 @@ rt-tool:
 	$(call need,rt)
 
 tools: rt-tool
-	$(call need,$(CC) $(CXX) $(AR) cargo python3 valgrind)
+	$(call need,$(CC) $(CXX) $(AR) cargo python3 valgrind objdump)
 
 $(ARCHIVE) $(TALLY_ARCHIVE) $(TREE) $(SHEET) $(CELLS) $(SLIP) $(BEST) $(PBN) $(TEAM) $(MERGES): | rt-tool
 
@@ -232,6 +235,7 @@ demo: demo-proved build/terminal build/section build/standings $(SHEET) $(CELLS)
 
 install: $(ARCHIVE) $(TALLY_ARCHIVE) $(WORDS_ARCHIVE) $(SHARED)
 	@$(MAKE) --no-print-directory install-files
+	@sha256sum $(DESTDIR)$(PREFIX)/lib/libjudge.a $(DESTDIR)$(PREFIX)/lib/libtally.a
 
 # The version is the header's.
 number = $(shell sed -n 's/^.define [A-Z]*_VERSION_$(2) //p' include/$(1).h)
@@ -314,9 +318,11 @@ outside: tools proved build/rust-built build/terminal build/section build/standi
 	$(call blocks,tally_blocks,$(TALLY_ARCHIVE),tallies)
 	$(CC) $(CFLAGS) -Iinclude tests/c/stack.c $(ARCHIVE) -o build/stack
 	$(STEP) stack build/stack build/blocks.records
+	$(jumps-short)
 	$(MAKE) --no-print-directory python-test
 
-TESTS = examples refusals faults write_refusals write_faults penalty_cards penalty_bounds penalty_faults pbn_texts pbn_faults tally_bytes tally_faults boards
+TESTS = examples refusals faults write_refusals write_faults penalty_cards penalty_bounds penalty_faults pbn_texts pbn_faults \
+    tally_bytes tally_faults boards jumps jumps_in_texts
 
 # A program of tests/c that calls an archive on slices of blocks of their own, each as long as it says, under valgrind.
 define blocks
@@ -325,18 +331,26 @@ $(CC) $(CFLAGS) -g -Iinclude tests/c/$(1).c $(2) -o build/$(1)
 endef
 
 # A tenth of the time each for records, records with penalty cards, contents, texts, tallies, trees, sheets, slips, endings and team matches, and as long again
-# for the C programs.
-fuzz: build/rust-built fuzz-programs $(TREE) $(SHEET) $(CELLS) $(SLIP) $(BEST) $(PBN) $(TEAM)
-	$(RUST)/records --seconds $$(($(FUZZ_SECONDS) / 10)) $(SEED_WORDS)
-	$(RUST)/penalties --seconds $$(($(FUZZ_SECONDS) / 10)) $(SEED_WORDS)
-	$(RUST)/writes --seconds $$(($(FUZZ_SECONDS) / 10)) $(SEED_WORDS)
-	$(RUST)/tallies --seconds $$(($(FUZZ_SECONDS) / 10)) $(SEED_WORDS)
-	$(RUST)/trees --program $(TREE) --seconds $$(($(FUZZ_SECONDS) / 10)) $(SEED_WORDS)
-	$(RUST)/sheets --program $(SHEET) --cells $(CELLS) --seconds $$(($(FUZZ_SECONDS) / 10)) $(SEED_WORDS)
-	$(RUST)/slips --program $(SLIP) --seconds $$(($(FUZZ_SECONDS) / 10)) $(SEED_WORDS)
-	$(RUST)/endings --program $(BEST) --seconds $$(($(FUZZ_SECONDS) / 10)) $(SEED_WORDS)
-	$(RUST)/pbns --program $(PBN) --seconds $$(($(FUZZ_SECONDS) / 10)) $(SEED_WORDS)
-	$(RUST)/teams --program $(TEAM) --seconds $$(($(FUZZ_SECONDS) / 10)) $(SEED_WORDS)
+# for the C programs. The seed is said first; what is found is kept in build/fuzz/found, in a file that the last line before make's own names.
+.PHONY: fuzz-seed
+fuzz: SEED := $(or $(SEED),$(shell date +%s))
+fuzz: fuzz-seed build/rust-built fuzz-programs $(TREE) $(SHEET) $(CELLS) $(SLIP) $(BEST) $(PBN) $(TEAM)
+	mkdir -p build/fuzz/found
+	$(call fuzz,records)
+	$(call fuzz,penalties)
+	$(call fuzz,writes)
+	$(call fuzz,tallies)
+	$(call fuzz,trees,--program $(TREE))
+	$(call fuzz,sheets,--program $(SHEET) --cells $(CELLS))
+	$(call fuzz,slips,--program $(SLIP))
+	$(call fuzz,endings,--program $(BEST))
+	$(call fuzz,pbns,--program $(PBN))
+	$(call fuzz,teams,--program $(TEAM))
+
+fuzz = FOUND=build/fuzz/found/$(1)-$(SEED) $(RUST)/$(1) $(2) --seconds $$(($(FUZZ_SECONDS) / 10)) $(SEED_WORDS)
+
+fuzz-seed:
+	@echo SEED=$(SEED)
 
 bench: build/rust-built $(MERGES)
 	$(RUST)/bench --merges $(MERGES)
@@ -361,6 +375,56 @@ python-test: python build/rust-built chromium
 	mkdir -p build/work
 	$(RUST)/games $(or $(SEED),114) $(PBN_GAMES) >build/work/games
 	$(STEP) clubscore sh -c 'cd python && $(PYTHON) -W error -m unittest -q'
+
+# What no proof covers: the instructions and jumps of the object code that the trials run. tests/README.md says how, docs/JUMPS.md what is left and why.
+.PHONY: jumps jumps-short
+jumps-short = $(STEP) jumps tests/jumps/jumps.py --short --bounds tests/jumps/bounds
+outside: build/jumps/calls build/jumps/again.so
+JUMPS = $(TREE) $(SHEET) $(CELLS) $(SLIP) $(BEST) $(PBN) $(TEAM) build/rust-built build/jumps/calls build/jumps/again.so
+
+build/jumps/calls: tests/jumps/calls.c $(ARCHIVE) $(TALLY_ARCHIVE) $(wildcard include/*.h)
+	@mkdir -p $(@D)
+	$(CC) $(CFLAGS) -Iinclude $(filter %.c %.a,$^) -Wl,-Map=$@.map -o $@
+
+build/jumps/again.so: tests/jumps/again.c
+	@mkdir -p $(@D)
+	$(CC) $(CFLAGS) -fPIC -shared $< -o $@
+
+jumps: tools $(JUMPS) $(patsubst crates/%/stdout,target/bin/%,$(wildcard crates/*/stdout))
+	tests/jumps/jumps.py $(SEED_WORDS)
+	grep -v 'never ran$$' build/jumps/left | cut -f 1,2,4 | grep '^lib'
+
+jumps-short: tools $(JUMPS)
+	$(jumps-short)
+
+# The same calls on processors of other kinds, as qemu-user has them; and every program by the kit's other ways to compile: -O0, -O3, with assumptions checked.
+# Not by the kit: pbn, which its trial does not lower, and try_merges, which needs more steps than its interpreter allows.
+PROCESSORS = qemu64 Conroe Nehalem Haswell EPYC-Rome
+NOT_TRIED = pbn try_merges
+.PHONY: other-ways qemu
+qemu:
+	@command -v qemu-x86_64 >/dev/null || test "$$(id -u)" != 0 || ! command -v apt-get >/dev/null || \
+	    { apt-get update -qq && apt-get install -y -qq --no-install-recommends qemu-user >/dev/null; }
+	$(call need,qemu-x86_64)
+
+other-ways: qemu jumps-short
+	for cpu in $(PROCESSORS); do $(STEP) calls-on-$$cpu qemu-x86_64 -cpu $$cpu build/jumps/calls $(CURDIR)/build/jumps/*.calls || exit 1; done
+	for crate in $(filter-out $(NOT_TRIED),$(patsubst crates/%/stdout,%,$(wildcard crates/*/stdout))); do $(STEP) try-$$crate rt try $$crate || exit 1; done
+	echo "not compiled in other ways: $(NOT_TRIED)"
+
+# The archives built from nothing in another folder, of what is committed, have the same bytes.
+.PHONY: reproducible
+reproducible: $(ARCHIVE) $(TALLY_ARCHIVE)
+	$(call need,git sha256sum)
+	@git diff --quiet HEAD -- crates crates.txt Makefile make || { echo "make reproducible: crates/ or the Makefile differ from what is committed"; exit 1; }
+	rm -rf $(REPRODUCED)
+	git clone --quiet --no-hardlinks . $(REPRODUCED)
+	$(MAKE) --no-print-directory -C $(REPRODUCED) $(ARCHIVE) $(TALLY_ARCHIVE)
+	sha256sum $(ARCHIVE) $(REPRODUCED)/$(ARCHIVE) $(TALLY_ARCHIVE) $(REPRODUCED)/$(TALLY_ARCHIVE)
+	cmp $(ARCHIVE) $(REPRODUCED)/$(ARCHIVE)
+	cmp $(TALLY_ARCHIVE) $(REPRODUCED)/$(TALLY_ARCHIVE)
+	echo "the archives are the same, byte for byte"
+REPRODUCED = $(or $(TMPDIR),/tmp)/bridge-archives-again
 
 clean:
 	rm -rf build target python/clubscore/*.so

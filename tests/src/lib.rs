@@ -10,6 +10,7 @@ pub mod contents;
 pub mod damage;
 pub mod deal;
 pub mod judge;
+pub mod kept;
 pub mod kinds;
 pub mod law64;
 pub mod making;

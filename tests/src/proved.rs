@@ -1,6 +1,7 @@
 //! The proved judge, writer, best play, reader of Portable Bridge Notation, slip and Law 2, as the archive exports them.
 use crate::contents::Contents;
 use crate::judge::Lent;
+use crate::kept::{self, Call};
 
 extern "C" {
     fn judge_record(
@@ -39,7 +40,7 @@ extern "C" {
 /// The proved judge on slices. Rust's slices keep what its C interface trusts: true lengths and no overlap.
 pub fn judge(record: &[u8], lent: &mut Lent) -> u32 {
     let Lent { answer, list, failures, winners } = lent;
-    unsafe {
+    kept::call(Call::Record, &[], &[record], [answer, list, failures, winners], |[answer, list, failures, winners]| unsafe {
         judge_record(
             record.as_ptr(),
             record.len(),
@@ -52,12 +53,13 @@ pub fn judge(record: &[u8], lent: &mut Lent) -> u32 {
             winners.as_mut_ptr(),
             winners.len(),
         )
-    }
+    })
 }
 
 /// The proved writer on slices.
 pub fn write(c: &Contents, record: &mut [u8]) -> u32 {
-    unsafe {
+    let numbers = [c.board, c.table, c.marked, c.claim];
+    kept::call(Call::Write, &numbers, &[&c.holders, &c.calls, &c.cards], [record], |[record]| unsafe {
         judge_write_record(
             c.board,
             c.table,
@@ -72,29 +74,33 @@ pub fn write(c: &Contents, record: &mut [u8]) -> u32 {
             record.as_mut_ptr(),
             record.len(),
         )
-    }
+    })
 }
 
 /// The proved best play on a slice.
 pub fn best(record: &[u8]) -> u32 {
-    unsafe { judge_best_play(record.as_ptr(), record.len()) }
+    kept::call(Call::BestPlay, &[], &[record], [], |_| unsafe { judge_best_play(record.as_ptr(), record.len()) })
 }
 
 /// The proved reader of Portable Bridge Notation on slices.
 pub fn read_pbn(text: &[u8], table: u32, record: &mut [u8]) -> u32 {
-    unsafe { judge_read_pbn(text.as_ptr(), text.len(), table, record.as_mut_ptr(), record.len()) }
+    kept::call(Call::ReadPbn, &[table], &[text], [record], |[record]| unsafe {
+        judge_read_pbn(text.as_ptr(), text.len(), table, record.as_mut_ptr(), record.len())
+    })
 }
 
 /// The proved slip.
 pub fn slip(record: &[u8], text: &mut [u8]) -> u32 {
-    unsafe { judge_slip(record.as_ptr(), record.len(), text.as_mut_ptr(), text.len()) }
+    kept::call(Call::Slip, &[], &[record], [text], |[text]| unsafe {
+        judge_slip(record.as_ptr(), record.len(), text.as_mut_ptr(), text.len())
+    })
 }
 
 /// The proved dealer and vulnerable sides of a board.
 pub fn dealer(board: u32) -> u32 {
-    unsafe { judge_dealer(board) }
+    kept::call(Call::Dealer, &[board], &[], [], |_| unsafe { judge_dealer(board) })
 }
 
 pub fn vulnerable(board: u32) -> u32 {
-    unsafe { judge_vulnerable(board) }
+    kept::call(Call::Vulnerable, &[board], &[], [], |_| unsafe { judge_vulnerable(board) })
 }

@@ -1,4 +1,5 @@
 //! The proved calls on tallies in bytes, as the archive exports them.
+use crate::kept::{self, Call};
 use crate::tally_calls::Calls;
 
 extern "C" {
@@ -48,29 +49,40 @@ pub const CALLS: Calls = Calls { fresh, add, merge, matchpoints, award, cell, hu
 // Rust's slices keep what the C interface trusts: true lengths and no overlap with what is written.
 
 fn fresh(board: u32, out: &mut [u8]) -> u32 {
-    unsafe { tally_fresh(board, out.as_mut_ptr(), out.len()) }
+    kept::call(Call::Fresh, &[board], &[], [out], |[out]| unsafe { tally_fresh(board, out.as_mut_ptr(), out.len()) })
 }
 
 fn add(tally: &[u8], score: i32, holders: &[u8], out: &mut [u8]) -> u32 {
-    unsafe { tally_add(tally.as_ptr(), tally.len(), score, holders.as_ptr(), holders.len(), out.as_mut_ptr(), out.len()) }
+    of_a_score(Call::Add, tally_add, tally, score, holders, out)
 }
 
 pub fn merge(a: &[u8], b: &[u8], out: &mut [u8]) -> u32 {
-    unsafe { tally_merge(a.as_ptr(), a.len(), b.as_ptr(), b.len(), out.as_mut_ptr(), out.len()) }
+    kept::call(Call::Merge, &[], &[a, b], [out], |[out]| unsafe {
+        tally_merge(a.as_ptr(), a.len(), b.as_ptr(), b.len(), out.as_mut_ptr(), out.len())
+    })
 }
 
 fn matchpoints(tally: &[u8], score: i32, holders: &[u8], points: &mut [u8]) -> u32 {
-    unsafe { tally_matchpoints(tally.as_ptr(), tally.len(), score, holders.as_ptr(), holders.len(), points.as_mut_ptr(), points.len()) }
+    of_a_score(Call::Matchpoints, tally_matchpoints, tally, score, holders, points)
 }
 
 fn award(percent: u32, cell: &mut [u8]) -> u32 {
-    unsafe { tally_award(percent, cell.as_mut_ptr(), cell.len()) }
+    kept::call(Call::Award, &[percent], &[], [cell], |[cell]| unsafe { tally_award(percent, cell.as_mut_ptr(), cell.len()) })
 }
 
 fn cell(tally: &[u8], score: i32, holders: &[u8], cell: &mut [u8]) -> u32 {
-    unsafe { tally_cell(tally.as_ptr(), tally.len(), score, holders.as_ptr(), holders.len(), cell.as_mut_ptr(), cell.len()) }
+    of_a_score(Call::Cell, tally_cell, tally, score, holders, cell)
 }
 
 fn hundredths(tally: &[u8], score: i32, holders: &[u8], shares: &mut [u8]) -> u32 {
-    unsafe { tally_hundredths(tally.as_ptr(), tally.len(), score, holders.as_ptr(), holders.len(), shares.as_mut_ptr(), shares.len()) }
+    of_a_score(Call::Hundredths, tally_hundredths, tally, score, holders, shares)
+}
+
+/// A call of a tally, a score and its deal.
+type OfAScore = unsafe extern "C" fn(*const u8, usize, i32, *const u8, usize, *mut u8, usize) -> u32;
+
+fn of_a_score(call: Call, proved: OfAScore, tally: &[u8], score: i32, holders: &[u8], out: &mut [u8]) -> u32 {
+    kept::call(call, &[score as u32], &[tally, holders], [out], |[out]| unsafe {
+        proved(tally.as_ptr(), tally.len(), score, holders.as_ptr(), holders.len(), out.as_mut_ptr(), out.len())
+    })
 }

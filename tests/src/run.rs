@@ -1,4 +1,5 @@
 //! What the programs here share: their words on the command line, the time they may take, and other programs that they run.
+use crate::kept;
 use std::io::{Read, Write};
 use std::process::{Command, Stdio};
 use std::time::{Duration, Instant, SystemTime, UNIX_EPOCH};
@@ -41,6 +42,7 @@ impl Words {
         Limit {
             count: self.number("--count").unwrap_or(count),
             until: self.number("--seconds").map(|s| Instant::now() + Duration::from_secs(s)),
+            every_kind: self.text("--kinds") != Some("some"),
         }
     }
 }
@@ -49,6 +51,7 @@ impl Words {
 pub struct Limit {
     pub count: u64,
     until: Option<Instant>,
+    every_kind: bool,
 }
 
 impl Limit {
@@ -59,15 +62,18 @@ impl Limit {
         }
     }
 
-    /// Whether the limit is a number of cases, in which each kind of case has to occur.
+    /// Whether the limit is a number of cases in which each kind of case has to occur, as it has without the words `--kinds some`.
     pub fn counted(&self) -> bool {
-        self.until.is_none()
+        self.until.is_none() && self.every_kind
     }
 }
 
-/// Ends the program with a sentence that says why.
+/// Ends the program with a sentence that says why, and with the file that has the last input where one is asked for.
 pub fn stop(why: &str) -> ! {
     eprintln!("{why}");
+    if let Some(path) = kept::found() {
+        eprintln!("the input is kept in {}", path.display());
+    }
     std::process::exit(1)
 }
 
@@ -87,5 +93,6 @@ pub fn output_of(program: &str, input: &[u8]) -> Vec<u8> {
     if status.code().is_none() {
         stop(&format!("{program} was ended by a signal: {status}"));
     }
+    kept::run(program, input, &output);
     output
 }

@@ -18,7 +18,7 @@ const REFUSALS: [u32; 16] = [2, 3, 4, 5, 6, 7, 8, 9, 10, 11, 12, 23, 24, 25, 26,
 const NO_ENDING: [&str; 3] = ["passed out", "more than sixteen cards left", "not at a trick's end"];
 /// Endings, the sum of all numbers of tricks.
 const ALL: &str = "endings";
-/// The program is run on one record of so many, and one of so many has reached a squeeze.
+/// The program is run on one record of so many, if no other number is given, and one of so many has reached a squeeze.
 const RUN: u64 = 40;
 const SQUEEZE: u64 = 90;
 
@@ -27,11 +27,12 @@ fn main() {
     let mut random = Random::new(words.seed());
     let limit = words.limit(32_000);
     let program = words.text("--program").unwrap_or_else(|| stop("--program needs the path of the program best"));
+    let run_each = words.number("--run-each").unwrap_or(RUN);
     let (mut records, mut kinds) = (0, kinds());
     while !limit.reached(records) {
         let record = record(&mut random, records);
         let due = compare(&record);
-        if records % RUN == 0 {
+        if records % run_each == 0 {
             run(program, &record, due);
         }
         note(&mut kinds, &record, due);

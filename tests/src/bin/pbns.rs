@@ -6,7 +6,7 @@ use outside::proved;
 use outside::random::Random;
 use outside::run::{output_of, stop, Words};
 
-/// The program is run on one text of so many.
+/// The program is run on one text of so many, if no other number is given.
 const RUN: u64 = 100;
 /// First lines that are no table.
 const NO_TABLES: [&str; 8] = ["", "0", "07", "1000", "12 ", "12\r", "-1", "x"];
@@ -18,12 +18,13 @@ fn main() {
     let mut random = Random::new(seed);
     let mut trial = PbnTrial::new(proved::read_pbn, proved::judge, seed);
     let limit = words.limit(120_000);
+    let run_each = words.number("--run-each").unwrap_or(RUN);
     let (mut texts, mut runs) = (0u64, 0u64);
     at_the_bounds(program);
     while !limit.reached(trial.cases) {
         let round = trial.round(|text| {
             texts += 1;
-            if texts % RUN == 0 {
+            if texts % run_each == 0 {
                 run(program, &input(&mut random, text));
                 runs += 1;
             }
