@@ -18,7 +18,6 @@ OPTIONS = {
     "max_parallel_workers": "8",
     "log_min_messages": "panic",
     "jit": "off",
-    "client_min_messages": "warning",
 }
 
 
