@@ -399,6 +399,8 @@ engines-test: engines build/engines/left-count-mpi build/rust-built build/sectio
 	mkdir -p build/work/engines/sections/records
 	$(RUST)/sections $(or $(SEED),39) build/work/engines/sections
 	$(RUST)/field $(or $(SEED),39) 30 40 >build/work/engines/field
+	$(RUST)/blocks $(or $(SEED),39) 6000 >build/work/engines/blocks
+	$(RUST)/tally_blocks $(or $(SEED),39) 12000 >build/work/engines/tally_blocks
 	$(STEP) mpi $(PYTHON) tests/engines/mpi.py build/work/engines
 	$(STEP) postgresql $(PYTHON) tests/engines/postgresql.py $(PG_CONFIG) build/work/engines -- $(EXTENSION_MAKE)
 

@@ -12,20 +12,15 @@ import re
 import subprocess
 import sys
 
+from trial import by_section, failed, holds, lines_of, same, write
+
 RANKS = (1, 2, 3, 5, 8)
 ALGORITHMS = range(1, 8)
 PROGRAM = os.path.abspath("build/standings-mpi")
 FAULTY = os.path.abspath("build/engines/left-count-mpi")
-# One machine: no search for others, and shared memory between ranks by copies, which needs no right over other processes.
+# One machine: no search for others, shared memory between ranks by copies, which needs no right over other processes, and no wait before ranks are ended.
 LAUNCHER = {"OMPI_ALLOW_RUN_AS_ROOT": "1", "OMPI_ALLOW_RUN_AS_ROOT_CONFIRM": "1", "OMPI_MCA_plm": "isolated", "OMPI_MCA_btl": "self,vader",
-            "OMPI_MCA_btl_vader_single_copy_mechanism": "none", "OMPI_MCA_hwloc_base_binding_policy": "none"}
-failed = []
-
-
-def same(what, wrote, due):
-    if wrote != due:
-        failed.append(what)
-        print("%s: wrote\n%s\nto be\n%s" % (what, wrote, due))
+            "OMPI_MCA_btl_vader_single_copy_mechanism": "none", "OMPI_MCA_hwloc_base_binding_policy": "none", "OMPI_MCA_odls_base_sigkill_timeout": "0"}
 
 
 def launch(ranks, words, algorithm=None, cwd=None):
@@ -37,27 +32,6 @@ def launch(ranks, words, algorithm=None, cwd=None):
     return run.stdout, said.splitlines(), run.returncode
 
 
-def write(folder, name, lines):
-    path = os.path.join(folder, name)
-    with open(path, "w") as file:
-        file.write(lines if isinstance(lines, str) else "".join(line + "\n" for line in lines))
-    return path
-
-
-def lines_of(path):
-    with open(path) as file:
-        return file.read().splitlines()
-
-
-def by_section(folder, lines):
-    """What `section -k` and `standings` print, say and exit with, on the same lines."""
-    out = os.path.join(folder, "tallies")
-    section = subprocess.run(["build/section", "-k", "-o", out], input=lines, capture_output=True, text=True)
-    standings = subprocess.run(["build/standings", out], capture_output=True, text=True)
-    said = [line for line in section.stderr.splitlines() if not line.startswith(out)]
-    return standings.stdout, said, max(section.returncode, standings.returncode)
-
-
 def shuffled(folder, lines, chance):
     """The lines in another order, in three files."""
     chance.shuffle(lines)
@@ -67,7 +41,7 @@ def shuffled(folder, lines, chance):
 
 def try_orders(folder, what, lines, runs, chance):
     """The program's output for some numbers of ranks and algorithms, each on the lines in another order, held to what is due."""
-    due = by_section(folder, "\n".join(lines))
+    due = by_section(folder, lines)
     for ranks, algorithm in runs:
         out, said, status = launch(ranks, [PROGRAM] + shuffled(folder, lines, chance), algorithm)
         name = "%s, %d ranks, algorithm %s" % (what, ranks, algorithm)
@@ -79,31 +53,28 @@ def try_orders(folder, what, lines, runs, chance):
 
 def try_fault(folder, chance):
     """The old fault is found by every algorithm. Given the lines in one order the algorithms differ by it, so they do merge in different orders."""
-    lines = lines_of(os.path.join(folder, "field"))
-    due = by_section(folder, "\n".join(lines))[0]
+    lines = lines_of(folder, "field")
+    due = by_section(folder, lines)[0]
     files = shuffled(folder, lines, chance)
     same("the old fault on one rank, where nothing is merged", launch(1, [FAULTY] + files)[0], due)
     outputs = [launch(max(RANKS), [FAULTY] + files, algorithm)[0] for algorithm in ALGORITHMS]
     same("algorithms by which the old fault is not found", [k for k, out in zip(ALGORITHMS, outputs) if out == due], [])
-    if len(set(outputs)) < 3:
-        failed.append("algorithms")
-        print("the old fault: the algorithms give fewer than three outputs")
+    holds("the algorithms give three outputs or more by the old fault", len(set(outputs)) >= 3)
 
 
 def bad_lines(folder):
     """A file with every kind of line, and what stands in it twice."""
-    good = lines_of(os.path.join(folder, "field"))[:60]
-    other = lines_of(os.path.join(folder, "sections", "section-1"))
-    lines = good + ["", "# nothing", "  " + " ".join(re.findall("..", good[3])) + "  # again", "0", "02 0", "zz", "02", "00 01", "0201", "ff" * 600, good[5][:-2],
+    good = lines_of(folder, "field")[:60]
+    other = lines_of(folder, "sections", "section-1")
+    return good + ["", "# nothing", "  " + " ".join(re.findall("..", good[3])) + "  # again", "0", "02 0", "zz", "02", "00 01", "0201", "ff" * 600, good[5][:-2],
                     good[6] + "00", good[7][:4] + good[8][4:], good[9], good[9].upper()] + other[:20]
-    return "\n".join(lines)
 
 
 def try_words(folder):
     """What is said, on one rank and on several: each once, in the words of `section`."""
-    text = bad_lines(folder)
-    path = write(folder, "bad", text)
-    due = by_section(folder, text)
+    lines = bad_lines(folder)
+    path = write(folder, "bad", "\n".join(lines))
+    due = by_section(folder, lines)
     told = sorted(line.replace("standard input", path) for line in due[1])
     same("faults are of each kind", sorted({kind for kind in ("record refused", "is not hexadecimal", "counted once", "left out, a different")
                                             for line in told if kind in line}), sorted(["record refused", "is not hexadecimal", "counted once", "left out, a different"]))
@@ -120,7 +91,7 @@ def try_additions(folder):
     for k, words in ((1, "board 17 refused, a fouled board, results of two deals"), (2, "board 64 refused, more than 128 results")):
         path = os.path.join(folder, "sections", "section-%d" % k)
         out, said, status = launch(1, [PROGRAM, path])
-        due = by_section(folder, open(path).read())
+        due = by_section(folder, lines_of(path))
         same("additions of section %d" % k, (out, status), (due[0], 1))
         same("additions of section %d, words" % k, [line for line in said if ", line " in line], [line.replace("standard input", path) for line in due[1]])
         same("additions of section %d, once" % k, len([line for line in said if line.endswith(words)]), 1)
@@ -128,7 +99,7 @@ def try_additions(folder):
 
 def try_files(folder):
     """Files that cannot be opened or read to their end, by all ranks and by one alone, which stands in another folder."""
-    lines = lines_of(os.path.join(folder, "field"))[:100]
+    lines = lines_of(folder, "field")[:100]
     here, there = os.path.join(folder, "here"), os.path.join(folder, "there")
     for place in (here, there):
         os.makedirs(os.path.join(place), exist_ok=True)
@@ -138,7 +109,7 @@ def try_files(folder):
     write(there, "third", lines[50:70])
     write(here, "folder", lines[50:])
     os.makedirs(os.path.join(there, "folder"), exist_ok=True)
-    due = by_section(folder, "\n".join(lines[:50]))
+    due = by_section(folder, lines[:50])
     apart = ["sh", "-c", 'test "$OMPI_COMM_WORLD_RANK" != 1 || cd ../there; exec "$0" "$@"', PROGRAM]
     for ranks in (2, 3, 8):
         for what, words, said, out in (
@@ -172,10 +143,10 @@ def main():
     sections = [os.path.join(folder, "sections", "section-%d" % k) for k in (1, 2, 3)]
     lines, chance = [line for path in sections for line in lines_of(path)], random.Random(39)
     with open(os.path.join(folder, "sections", "standings")) as standings:
-        same("three sections by `section` and `standings`", by_section(folder, "\n".join(lines))[0], standings.read())
+        same("three sections by `section` and `standings`", by_section(folder, lines)[0], standings.read())
     try_orders(folder, "three sections", lines, [(ranks, None) for ranks in RANKS], chance)
     forced = [(ranks, algorithm) for ranks in RANKS[1:] for algorithm in ALGORITHMS]
-    try_orders(folder, "a field", lines_of(os.path.join(folder, "field")), [(ranks, None) for ranks in RANKS] + forced, chance)
+    try_orders(folder, "a field", lines_of(folder, "field"), [(ranks, None) for ranks in RANKS] + forced, chance)
     try_fault(folder, chance)
     try_words(folder)
     try_additions(folder)
