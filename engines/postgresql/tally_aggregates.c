@@ -1,5 +1,5 @@
-/* The merge, and the steps of the aggregates. A state is changed in place where the server says that an aggregate calls, and nowhere else: an argument of a plain
- * call may lie in a table's page. */
+/* The merge, and the steps of the aggregates. A state is changed in place where the server says that an aggregate calls, and nowhere else: an argument of a
+ * plain call may lie in a table's page. */
 #include "duplicate_bridge.h"
 
 #include "tallies.h"

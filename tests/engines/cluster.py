@@ -1,7 +1,7 @@
 """A PostgreSQL cluster of its own, with the extension, for the trials.
 
-The server finds its files relative to its program, so its folders are copied and the extension is installed into the copy: nothing else is changed, and no older
-copy of the extension can be tried by mistake. It listens on a socket alone, and is run by the user `postgres` where the trial runs as root.
+The server finds its files relative to its program, so its folders are copied and the extension is installed into the copy: nothing else is changed, and no
+older copy of the extension can be tried by mistake. It listens on a socket alone, and is run by the user `postgres` where the trial runs as root.
 """
 import os
 import pwd
@@ -117,10 +117,10 @@ class Cluster:
     def alive(self):
         return self.server.poll() is None
 
-    def psql(self, text, database="postgres", words=()):
+    def psql(self, text, database="postgres"):
         """What psql prints for some SQL; Refused is raised where the server refuses it."""
-        run = subprocess.run([self.program("psql"), "-XAtq", "-h", self.sockets, "-U", "club", "-d", database, "-v", "ON_ERROR_STOP=1", "-v", "VERBOSITY=verbose",
-                              *words], input=text, capture_output=True, text=True, cwd="/")
+        run = subprocess.run([self.program("psql"), "-XAtq", "-h", self.sockets, "-U", "club", "-d", database, "-v", "ON_ERROR_STOP=1",
+                              "-v", "VERBOSITY=verbose"], input=text, capture_output=True, text=True, cwd="/")
         if run.returncode or "ERROR:" in run.stderr:
             raise Refused(run.stderr)
         return run.stdout.rstrip("\n")

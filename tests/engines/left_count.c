@@ -1,5 +1,5 @@
-/* The old fault as an operation of MPI, which the trial has to find: of a score that both sections have, the left section's count is kept, and with it the number
- * of comparisons. */
+/* The old fault as an operation of MPI, which the trial has to find: of a score that both sections have, the left section's count is kept, and with it the
+ * number of comparisons. */
 #include <string.h>
 
 #include "operation.h"

@@ -3,8 +3,8 @@
 
     mpi.py FOLDER
 
-Numbers of ranks, every algorithm of Open MPI's reduction and lines in random orders have to print what `section` and `standings` print; the same program with the
-old fault as its operation has to be found. Run from the repository's folder.
+Numbers of ranks, every algorithm of Open MPI's reduction and lines in random orders have to print what `section` and `standings` print; the same program with
+the old fault as its operation has to be found. Run from the repository's folder.
 """
 import os
 import random
@@ -66,8 +66,9 @@ def bad_lines(folder):
     """A file with every kind of line, and what stands in it twice."""
     good = lines_of(folder, "field")[:60]
     other = lines_of(folder, "sections", "section-1")
-    return good + ["", "# nothing", "  " + " ".join(re.findall("..", good[3])) + "  # again", "0", "02 0", "zz", "02", "00 01", "0201", "ff" * 600, good[5][:-2],
-                    good[6] + "00", good[7][:4] + good[8][4:], good[9], good[9].upper()] + other[:20]
+    spaced = "  " + " ".join(re.findall("..", good[3])) + "  # again"
+    bad = ["0", "02 0", "zz", "02", "00 01", "0201", "ff" * 600, good[5][:-2], good[6] + "00"]
+    return good + ["", "# nothing", spaced] + bad + [good[7][:4] + good[8][4:], good[9], good[9].upper()] + other[:20]
 
 
 def try_words(folder):
@@ -76,8 +77,8 @@ def try_words(folder):
     path = write(folder, "bad", "\n".join(lines))
     due = by_section(folder, lines)
     told = sorted(line.replace("standard input", path) for line in due[1])
-    same("faults are of each kind", sorted({kind for kind in ("record refused", "is not hexadecimal", "counted once", "left out, a different")
-                                            for line in told if kind in line}), sorted(["record refused", "is not hexadecimal", "counted once", "left out, a different"]))
+    for kind in ("record refused", "is not hexadecimal", "counted once", "left out, a different"):
+        holds("a line is told as: " + kind, any(kind in line for line in told))
     for ranks in RANKS:
         out, said, status = launch(ranks, [PROGRAM, path])
         same("faults, %d ranks" % ranks, out, due[0])

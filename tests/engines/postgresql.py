@@ -134,19 +134,22 @@ def groups(server, what, settings, source, due, workers):
     """The tallies of each board by a plan in parts: all four aggregates, and one with the old fault, which has to differ."""
     boards = ", ".join(str(board) for board, tally in due.items() if tally)
     where = SLOWLY if workers else "true"
-    every = "SELECT board, tally_try_of(record)::text, tally_try_sum(tally_add(tally_fresh(board), record))::text FROM %s WHERE %s GROUP BY board" % (source, where)
+    alone = "tally_add(tally_fresh(board), record)"
+    every = "SELECT board, tally_try_of(record)::text, tally_try_sum(%s)::text FROM %s WHERE %s GROUP BY board" % (alone, source, where)
     good = "SELECT board, %%s FROM %s WHERE board IN (%s) AND %s GROUP BY board" % (source, boards, where)
-    exact = good % "tally_of(record)::text, tally_sum(tally_add(tally_fresh(board), record))::text"
+    exact = good % ("tally_of(record)::text, tally_sum(%s)::text" % alone)
     check_plan(server, what, settings, every, workers)
     check_plan(server, what, settings, exact, workers)
-    same(what + ", tried", sorted(server.psql(settings + every).splitlines()), sorted("%d|%s|%s" % (board, tally or "", tally or "") for board, tally in due.items()))
-    same(what, sorted(server.psql(settings + exact).splitlines()), sorted("%d|%s|%s" % (board, tally, tally) for board, tally in due.items() if tally))
-    left = server.psql(settings + good % "left_of(record)::text")
-    holds(what + ": the old fault is found", sorted(left.splitlines()) != sorted("%d|%s" % (board, tally) for board, tally in due.items() if tally))
-    for board, tally in due.items():
-        if tally is None:
-            state = "BD019" if board in (16, 64) else "BD028"
-            refused(server, "%s, board %d" % (what, board), settings + "SELECT tally_of(record) FROM %s WHERE board = %d AND %s" % (source, board, where), state)
+
+    def rows(query):
+        return sorted(server.psql(settings + query).splitlines())
+
+    same(what + ", tried", rows(every), sorted("%d|%s|%s" % (board, tally or "", tally or "") for board, tally in due.items()))
+    same(what, rows(exact), sorted("%d|%s|%s" % (board, tally, tally) for board, tally in due.items() if tally))
+    holds(what + ": the old fault is found", rows(good % "left_of(record)::text") != sorted("%d|%s" % item for item in due.items() if item[1]))
+    for board in (board for board, tally in due.items() if tally is None):
+        query = "SELECT tally_of(record) FROM %s WHERE board = %d AND %s" % (source, board, where)
+        refused(server, "%s, board %d" % (what, board), settings + query, "BD019" if board in (16, 64) else "BD028")
 
 
 def sections(server, folder):
@@ -168,7 +171,8 @@ def sections(server, folder):
     for leader in ("on", "off"):
         groups(server, "four workers, leader %s" % leader, PARALLEL % leader, "records", due, True)
     groups(server, "partitions", PARTITIONS, "parts", due, False)
-    results = server.psql("SELECT board, r.* FROM (SELECT board, tally_try_of(record) AS t FROM records GROUP BY board) v, tally_results(t) r ORDER BY 1, 2 DESC")
+    tallies = "SELECT board, tally_try_of(record) AS t FROM records GROUP BY board"
+    results = server.psql("SELECT board, r.* FROM (%s) v, tally_results(t) r ORDER BY 1, 2 DESC" % tallies)
     found = {board: [] if rows is not None else None for board, rows in sheet_of(standings).items()}
     for line in results.splitlines():
         board, score, count, ns, ew, percent = line.split("|")
@@ -186,26 +190,28 @@ def orders(server, folder):
     due = tallies_in(by_section(folder, lines)[3])
     server.psql("SELECT setseed(0.39); CREATE TABLE orders AS SELECT k, board, record FROM field, generate_series(1, 100) k ORDER BY random();")
     for settings in ("", PARALLEL % "on"):
-        wrote = server.psql(settings + "SELECT board, count(*), min(t::text) FROM (SELECT k, board, tally_of(record) AS t FROM orders GROUP BY k, board) v GROUP BY board "
-                            "HAVING count(DISTINCT t) = 1 AND count(*) = 100")
+        wrote = server.psql(settings + "SELECT board, count(*), min(t::text) FROM (SELECT k, board, tally_of(record) AS t FROM orders GROUP BY k, board) v "
+                            "GROUP BY board HAVING count(DISTINCT t) = 1 AND count(*) = 100")
         same("a hundred orders", sorted(wrote.splitlines()), sorted("%d|100|%s" % item for item in due.items()))
-    for call, of in (("tally_of(record)", "tally_of(record)"), ("tally_try_of(record)", "tally_of(record)"),
-                     ("tally_sum(tally_add(tally_fresh(board), record))", "tally_of(record)"), ("tally_try_sum(tally_add(tally_fresh(board), record))", "tally_of(record)")):
+    for call in ("tally_of(record)", "tally_try_of(record)", "tally_sum(tally_add(tally_fresh(board), record))",
+                 "tally_try_sum(tally_add(tally_fresh(board), record))"):
         wrote = server.psql("CREATE TEMP TABLE w AS SELECT n, board, %s OVER (PARTITION BY board ORDER BY n) AS t FROM field;\n"
-                            "SELECT count(*) FILTER (WHERE t = (SELECT %s FROM field f WHERE f.board = w.board AND f.n <= w.n)) FROM w" % (call, of))
+                            "SELECT count(*) FILTER (WHERE t = (SELECT tally_of(record) FROM field f WHERE f.board = w.board AND f.n <= w.n)) FROM w" % call)
         same("running " + call, wrote, str(len(lines)))
     wrote = server.psql("SELECT count(*) FROM field, judge(record) j, LATERAL (SELECT tally_of(f.record) AS t FROM field f WHERE f.board = field.board) v, "
                         "tally_points(t, record) p, tally_results(t) r WHERE r.ns_score = j.ns_score AND (r.ns_matchpoints, r.ew_matchpoints, r.ns_percent) = "
                         "(p.ns_matchpoints, p.ew_matchpoints, p.ns_percent)")
     same("points of each record", wrote, str(len(lines)))
-    server.psql("CREATE TABLE tallies WITH (fillfactor = 20, parallel_workers = 4) AS SELECT board, n % 4 AS part, tally_of(record) AS t FROM field GROUP BY 1, 2")
+    server.psql("CREATE TABLE tallies WITH (fillfactor = 20, parallel_workers = 4) AS "
+                "SELECT board, n % 4 AS part, tally_of(record) AS t FROM field GROUP BY 1, 2")
     image = "SELECT md5(string_agg(t::text, ' ' ORDER BY board, part)) FROM tallies;"
     before = server.psql(image)
     for settings in ("", PARALLEL % "on", PARALLEL % "off"):
         for call in ("tally_sum(t)", "tally_try_sum(t)"):
             wrote = server.psql(settings + "SELECT board, %s FROM tallies WHERE %s GROUP BY board" % (call, SLOWLY))
             same("%s of a table" % call, sorted(wrote.splitlines()), sorted("%d|%s" % item for item in due.items()))
-            server.psql("SELECT %s OVER (PARTITION BY board ORDER BY part DESC) FROM tallies; SELECT tally_merge(a.t, b.t) FROM tallies a JOIN tallies b USING (board)" % call)
+            server.psql("SELECT %s OVER (PARTITION BY board ORDER BY part DESC) FROM tallies;" % call
+                        + "SELECT tally_merge(a.t, b.t) FROM tallies a JOIN tallies b USING (board)")
             same("a table of tallies after %s" % call, server.psql(image), before)
 
 
@@ -229,7 +235,8 @@ def merges(server, folder):
         calls = list(calls_in(file.read()))
     rows = [("\\x" + a.hex(), "\\x" + b.hex(), "BD%03d" % (number // 1024) if number else "\\x" + out.hex()) for a, b, number, out in calls]
     server.psql("""CREATE FUNCTION merged(a bytea, b bytea) RETURNS text LANGUAGE plpgsql AS $$ BEGIN
-        RETURN tally_merge(a::tally, b::tally)::text; EXCEPTION WHEN OTHERS THEN RETURN SQLSTATE; END $$;\n""" + table("merges", "a bytea, b bytea, due text", rows))
+        RETURN tally_merge(a::tally, b::tally)::text; EXCEPTION WHEN OTHERS THEN RETURN SQLSTATE; END $$;\n"""
+                + table("merges", "a bytea, b bytea, due text", rows))
     same("merges that differ", server.psql("SELECT a, b, merged(a, b), due FROM merges WHERE merged(a, b) <> due"), "")
     same("refusals of merges", sorted({row[2] for row in rows if row[2].startswith("BD")}), ["BD017", "BD018", "BD019", "BD028"])
     good = next(out for _, _, number, out in calls if number == 0)
@@ -253,7 +260,8 @@ def storage(server, folder):
         ALTER TABLE wide ALTER pad SET STORAGE plain, ALTER record SET STORAGE external;
         INSERT INTO wide VALUES ('out of its row', repeat('x', 3000), '\\x%s'), ('compressed', '', NULL), ('plain', '', '\\x%s');
         ALTER TABLE wide ALTER record SET STORAGE extended;
-        UPDATE wide SET pad = repeat('x', 3000), record = '\\x%s'::bytea || decode(repeat('00', 1500), 'hex') WHERE kind = 'compressed'""" % (longest, longest, longest))
+        UPDATE wide SET pad = repeat('x', 3000), record = '\\x%s'::bytea || decode(repeat('00', 1500), 'hex')
+            WHERE kind = 'compressed'""" % (longest, longest, longest))
     same("bytes out of rows", server.psql("SELECT pg_relation_size(reltoastrelid) > 0 FROM pg_class WHERE relname = 'wide'"), "t")
     same("bytes compressed", server.psql("SELECT pg_column_compression(record) FROM wide WHERE kind = 'compressed'"), "pglz")
     same("records wherever they stand", server.psql("SELECT kind, refusal FROM wide, judge(record) ORDER BY 1"), "compressed|16\nout of its row|0\nplain|0")
@@ -281,7 +289,8 @@ def main():
         storage(server, folder)
         holds("the server is still running", server.alive())
     if not failed:
-        print("duplicate_bridge: %d judgements, %d merges, a hundred orders, parallel plans, partitions, windows and a dump: the bytes of `section`" % (judged, merged))
+        print("duplicate_bridge: %d judgements, %d merges, a hundred orders, parallel plans, partitions, windows and a dump: the bytes of `section`"
+              % (judged, merged))
     sys.exit(bool(failed))
 
 

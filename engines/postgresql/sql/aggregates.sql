@@ -1,5 +1,6 @@
 -- The two sections of samples/sections, whose standings were worked out by hand: board 2 is fouled, board 3 has six results.
-SELECT board, r.* FROM (SELECT get_byte(record, 0) >> 1 AS board, tally_try_of(record) AS t FROM sections GROUP BY 1) v, tally_results(t) r ORDER BY board, ns_score DESC;
+SELECT board, r.* FROM (SELECT get_byte(record, 0) >> 1 AS board, tally_try_of(record) AS t FROM sections GROUP BY 1) v, tally_results(t) r
+    ORDER BY board, ns_score DESC;
 SELECT get_byte(record, 0) >> 1 AS board, tally_try_of(record) IS NULL AS refused FROM sections GROUP BY 1 ORDER BY 1;
 SELECT tally_of(record ORDER BY record) = tally_of(record ORDER BY record DESC) AS either_order FROM sections WHERE get_byte(record, 0) >> 1 = 3;
 SELECT tally_sum(t) = (SELECT tally_of(record) FROM sections WHERE get_byte(record, 0) >> 1 = 3) AS sections_merged

@@ -14,5 +14,6 @@ SELECT refusal_words(12, 3), refusal_words(6, 7), refusal_words(32, 1023);
 SELECT refusal_words(refusal, 0) FROM generate_series(17, 21) refusal;
 SELECT refusal_words(28, 0), refusal_words(1, 3);
 SELECT count(refusal_words(refusal, 0)) FROM generate_series(-100, 100) refusal;
-SELECT refusal, place FROM (VALUES (0, 0), (34, 0), (-1, 0), (2147483647, 0), (12, -1), (12, 1024), (1, 4), (12, 2147483647), (NULL, 0), (1, NULL)) v(refusal, place)
+SELECT refusal, place
+    FROM (VALUES (0, 0), (34, 0), (-1, 0), (2147483647, 0), (12, -1), (12, 1024), (1, 4), (12, 2147483647), (NULL, 0), (1, NULL)) v(refusal, place)
     WHERE refusal_words(refusal, place) IS NOT NULL;

@@ -1,6 +1,7 @@
 -- The type: 398 bytes in, the same bytes out.
 SELECT tally_fresh(7)::text = '\x07' || repeat('00', 397) AS empty, length(tally_fresh(7)::bytea) AS bytes;
-SELECT upper(substr(t::text, 3)) <> substr(t::text, 3) AS has_letters, ('\x' || upper(substr(t::text, 3)))::tally = t AS either_case, t::bytea::tally = t AS cast_back,
+SELECT upper(substr(t::text, 3)) <> substr(t::text, 3) AS has_letters, ('\x' || upper(substr(t::text, 3)))::tally = t AS either_case,
+    t::bytea::tally = t AS cast_back,
     tally_send(t) = t::bytea AS sent, t::text::tally::text = t::text AS text_back
     FROM (SELECT tally_add(tally_fresh(2), record) FROM samples WHERE name = 'slam') v(t);
 
@@ -9,7 +10,8 @@ SELECT r.* FROM samples, tally_results(tally_add(tally_fresh(3), record)) r WHER
 SELECT r.* FROM tally_results(tally_fresh(3)) r;
 SELECT r.* FROM tally_results((SELECT tally_merge(tally_add(tally_fresh(3), a.record), tally_add(tally_fresh(3), b.record))
     FROM sections a, sections b WHERE substr(a.record, 1, 2) = '\x0601' AND substr(b.record, 1, 2) = '\x0605')) r;
-SELECT tally_merge(t, t) = tally_add(t, record) AS one_value_twice FROM (SELECT tally_add(tally_fresh(3), record), record FROM samples WHERE name = 'claim') v(t, record);
+SELECT tally_merge(t, t) = tally_add(t, record) AS one_value_twice
+    FROM (SELECT tally_add(tally_fresh(3), record), record FROM samples WHERE name = 'claim') v(t, record);
 SELECT tally_merge(tally_fresh(3), t) = t AS empty_first, tally_merge(t, tally_fresh(3)) = t AS empty_second
     FROM (SELECT tally_add(tally_fresh(3), record) FROM samples WHERE name = 'claim') v(t);
 

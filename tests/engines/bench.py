@@ -1,0 +1,108 @@
+#!/usr/bin/env python3
+"""The speeds of docs/SCALE.md, in one run, on a whole field that the program `field` made: 127 boards of 128 results.
+
+    bench.py PG_CONFIG FIELD -- MAKE...
+
+Run from the repository's folder.
+"""
+import os
+import re
+import statistics
+import subprocess
+import sys
+import time
+
+from cluster import Cluster
+from mpi import LAUNCHER, PROGRAM
+from trial import by_section, lines_of
+
+FIELDS = 62
+TURNS = 5
+
+TALLIES = "SELECT field, board, tally_of(record) FROM records GROUP BY field, board"
+JUDGE = "SELECT count(j.ns_score) FROM records, judge(record) j"
+READING = "SELECT count(get_byte(record, 0)) FROM records"
+RESULTS = "SELECT field, board, r.* FROM (%s) v(field, board, t), tally_results(t) r" % TALLIES
+# What a service writes that has a table of scores: the matchpoints of each result by window functions, and the same grouped by score first.
+WINDOW = """SELECT field, board, ns_score, 2 * (rank() OVER (PARTITION BY field, board ORDER BY ns_score) - 1)
+    + count(*) OVER (PARTITION BY field, board, ns_score) - 1 AS ns_matchpoints FROM scores"""
+GROUPED = """SELECT field, board, ns_score, results,
+    2 * (sum(results) OVER (PARTITION BY field, board ORDER BY ns_score) - results) + results - 1 AS ns_matchpoints
+    FROM (SELECT field, board, ns_score, count(*) AS results FROM scores GROUP BY field, board, ns_score) v"""
+FROM_RECORDS = WINDOW.replace("FROM scores", "FROM (SELECT field, records.board, j.ns_score FROM records, judge(record) j) v")
+GROUPED_FROM_RECORDS = GROUPED.replace("FROM scores", "FROM (SELECT field, records.board, j.ns_score FROM records, judge(record) j) w")
+
+
+def seconds_of(server, query, workers):
+    """The middle of some turns, of what the server says that the query took; and whether that many workers ran."""
+    explained = "SET max_parallel_workers_per_gather = %d; SET work_mem = '256MB'; EXPLAIN (ANALYZE, TIMING OFF) %s" % (workers, query)
+    plans = [server.psql(explained) for _ in range(TURNS)]
+    launched = re.findall(r"Workers Launched: (\d+)", plans[-1])
+    return statistics.median(float(re.search(r"Execution Time: (\S+) ms", plan)[1]) / 1000 for plan in plans), sum(map(int, launched))
+
+
+def postgresql(make, pg_config, lines):
+    with Cluster("build/engines/bench", make, pg_config) as server:
+        server.psql("CREATE EXTENSION duplicate_bridge; ALTER SYSTEM SET shared_buffers = '1GB'; ALTER SYSTEM SET max_wal_size = '4GB'")
+        server.psql("CREATE UNLOGGED TABLE one (record bytea);\nCOPY one FROM STDIN;\n" + "".join("\\\\x%s\n" % line for line in lines) + "\\.\n")
+        server.psql("""CREATE UNLOGGED TABLE records (field int, board int, record bytea) WITH (parallel_workers = 2);
+            INSERT INTO records SELECT field, (judge(record)).board, record FROM one, generate_series(1, %d) field ORDER BY field, random();
+            CREATE UNLOGGED TABLE scores (field int, board int, ns_score int) WITH (parallel_workers = 2);
+            INSERT INTO scores SELECT field, board, (judge(record)).ns_score FROM records;""" % FIELDS)
+        server.psql("VACUUM ANALYZE records; VACUUM ANALYZE scores;")
+        count = FIELDS * len(lines)
+        print("%d records of %.0f bytes on average; seconds, and records a second" % (count, sum(map(len, lines)) / 2 / len(lines)))
+        for what, query, most in (("the records read", READING, 2), ("judged", JUDGE, 2), ("tally_of by field and board", TALLIES, 2),
+                                  ("and tally_results of each", RESULTS, 2),
+                                  ("plain SQL from scores, window functions", WINDOW, 0), ("plain SQL from scores, grouped by score first", GROUPED, 2),
+                                  ("judge, and plain SQL, window functions", FROM_RECORDS, 0),
+                                  ("judge, and plain SQL, grouped by score first", GROUPED_FROM_RECORDS, 2)):
+            for workers in range(most + 1):
+                seconds, launched = seconds_of(server, query, workers)
+                print("%s, %d workers (%d ran): %.3f s, %d" % (what, workers, launched, seconds, count / seconds))
+                sys.stdout.flush()
+
+
+def timed(words, **more):
+    """The middle of the seconds of some turns."""
+    turns = []
+    for _ in range(TURNS):
+        began = time.time()
+        subprocess.run(words, check=True, stdout=subprocess.DEVNULL, **more)
+        turns.append(time.time() - began)
+    return statistics.median(turns)
+
+
+def mpi(path, lines):
+    out = os.path.join(os.path.dirname(path), "tallies")
+    environment = dict(os.environ, **LAUNCHER)
+    with_files = []
+    for _ in range(TURNS):
+        with open(path) as file:
+            began = time.time()
+            subprocess.run(["build/section", "-o", out], stdin=file, check=True)
+            middle = time.time()
+            subprocess.run(["build/standings", out], check=True, stdout=subprocess.DEVNULL)
+            with_files.append((middle - began, time.time() - middle))
+    section, standings = (statistics.median(turn[k] for turn in with_files) for k in (0, 1))
+    print("one field of %d records: section %.4f s, %d a second; standings %.4f s" % (len(lines), section, len(lines) / section, standings))
+    for ranks in (1, 2):
+        words = ["mpirun", "-n", str(ranks), "--oversubscribe", PROGRAM, "-t", path]
+        whole = timed(words, env=environment, stderr=subprocess.DEVNULL)
+        told = [subprocess.run(words, env=environment, capture_output=True, text=True).stderr for _ in range(TURNS)]
+        parts = [[float(number) for number in re.findall(r"(\d+\.\d+) s", words)] for words in told]
+        tallied, merged = (statistics.median(turn[k] for turn in parts) for k in (0, 1))
+        print("standings-mpi, %d ranks: %.4f s to read, judge and tally, %d a second; %.6f s to merge; %.2f s with its launcher"
+              % (ranks, tallied, len(lines) / tallied, merged, whole))
+
+
+def main():
+    pg_config, path = sys.argv[1:3]
+    lines = lines_of(path)
+    by_section(os.path.dirname(path), lines)
+    mpi(path, lines)
+    postgresql(sys.argv[4:], pg_config, lines)
+
+
+if __name__ == "__main__":
+    main()
