@@ -407,6 +407,8 @@ engines-test: engines build/engines/left-count-mpi build/rust-built build/sectio
 engines-bench: engines build/rust-built build/section build/standings
 	mkdir -p build/work/engines
 	$(RUST)/field $(or $(SEED),39) 127 128 >build/work/engines/whole-field
+	$(CC) $(CFLAGS) -Iinclude -Icommon tests/engines/shares.c $(ENGINE_ARCHIVES) -o build/engines/shares
+	build/engines/shares build/work/engines/whole-field
 	$(PYTHON) tests/engines/bench.py $(PG_CONFIG) build/work/engines/whole-field -- $(EXTENSION_MAKE)
 
 clean:

@@ -18,6 +18,7 @@ from trial import by_section, lines_of
 
 FIELDS = 62
 TURNS = 5
+SHORT_TURNS = 31
 
 TALLIES = "SELECT field, board, tally_of(record) FROM records GROUP BY field, board"
 JUDGE = "SELECT count(j.ns_score) FROM records, judge(record) j"
@@ -50,6 +51,9 @@ def postgresql(make, pg_config, lines):
             CREATE UNLOGGED TABLE scores (field int, board int, ns_score int) WITH (parallel_workers = 2);
             INSERT INTO scores SELECT field, board, (judge(record)).ns_score FROM records;""" % FIELDS)
         server.psql("VACUUM ANALYZE records; VACUUM ANALYZE scores;")
+        differ = server.psql("SELECT count(*) FROM (SELECT field, board, ns_score, results, ns_matchpoints FROM (%s) a EXCEPT %s) v" % (RESULTS, GROUPED))
+        if differ != "0":
+            sys.exit("plain SQL and tally_results differ on %s rows" % differ)
         count = FIELDS * len(lines)
         print("%d records of %.0f bytes on average; seconds, and records a second" % (count, sum(map(len, lines)) / 2 / len(lines)))
         for what, query, most in (("the records read", READING, 2), ("judged", JUDGE, 2), ("tally_of by field and board", TALLIES, 2),
@@ -63,37 +67,36 @@ def postgresql(make, pg_config, lines):
                 sys.stdout.flush()
 
 
-def timed(words, **more):
-    """The middle of the seconds of some turns."""
-    turns = []
-    for _ in range(TURNS):
+def by_programs(path, out):
+    """The seconds of `section` and of `standings` on a file of records."""
+    with open(path) as file:
         began = time.time()
-        subprocess.run(words, check=True, stdout=subprocess.DEVNULL, **more)
-        turns.append(time.time() - began)
-    return statistics.median(turns)
+        subprocess.run(["build/section", "-o", out], stdin=file, check=True)
+        middle = time.time()
+        subprocess.run(["build/standings", out], check=True, stdout=subprocess.DEVNULL)
+        return middle - began, time.time() - middle
+
+
+def by_ranks(path, ranks):
+    """The seconds that the ranks tell, to tally and to merge, and those with the launcher."""
+    began = time.time()
+    run = subprocess.run(["mpirun", "-n", str(ranks), "--oversubscribe", PROGRAM, "-t", path], env=dict(os.environ, **LAUNCHER), check=True,
+                         stdout=subprocess.DEVNULL, stderr=subprocess.PIPE, text=True)
+    whole = time.time() - began
+    return [float(number) for number in re.findall(r"(\d+\.\d+) s", run.stderr)] + [whole]
 
 
 def mpi(path, lines):
+    """A field takes so little time that other programs on the machine show: the least and the middle of many turns."""
     out = os.path.join(os.path.dirname(path), "tallies")
-    environment = dict(os.environ, **LAUNCHER)
-    with_files = []
-    for _ in range(TURNS):
-        with open(path) as file:
-            began = time.time()
-            subprocess.run(["build/section", "-o", out], stdin=file, check=True)
-            middle = time.time()
-            subprocess.run(["build/standings", out], check=True, stdout=subprocess.DEVNULL)
-            with_files.append((middle - began, time.time() - middle))
-    section, standings = (statistics.median(turn[k] for turn in with_files) for k in (0, 1))
-    print("one field of %d records: section %.4f s, %d a second; standings %.4f s" % (len(lines), section, len(lines) / section, standings))
-    for ranks in (1, 2):
-        words = ["mpirun", "-n", str(ranks), "--oversubscribe", PROGRAM, "-t", path]
-        whole = timed(words, env=environment, stderr=subprocess.DEVNULL)
-        told = [subprocess.run(words, env=environment, capture_output=True, text=True).stderr for _ in range(TURNS)]
-        parts = [[float(number) for number in re.findall(r"(\d+\.\d+) s", words)] for words in told]
-        tallied, merged = (statistics.median(turn[k] for turn in parts) for k in (0, 1))
-        print("standings-mpi, %d ranks: %.4f s to read, judge and tally, %d a second; %.6f s to merge; %.2f s with its launcher"
-              % (ranks, tallied, len(lines) / tallied, merged, whole))
+    for what, names, run in (("section and standings", ("section", "standings"), lambda: by_programs(path, out)),
+                             ("standings-mpi, 1 rank", ("to tally", "to merge", "with mpirun"), lambda: by_ranks(path, 1)),
+                             ("standings-mpi, 2 ranks", ("to tally", "to merge", "with mpirun"), lambda: by_ranks(path, 2))):
+        columns = list(zip(*(run() for _ in range(SHORT_TURNS))))
+        told = ["%s %.4f to %.4f s" % (name, min(column), statistics.median(column)) for name, column in zip(names, columns)]
+        print("%s, %d records: %s; %d to %d records a second" % (what, len(lines), ", ".join(told), len(lines) / statistics.median(columns[0]),
+                                                                 len(lines) / min(columns[0])))
+        sys.stdout.flush()
 
 
 def main():

@@ -110,6 +110,7 @@ class Cluster:
         if self.server and self.server.poll() is None:
             self.server.send_signal(2)  # SIGINT: connections are ended, and the data are written
             self.server.wait()
+            self.log.close()
         shutil.rmtree(self.sockets, ignore_errors=True)
         if self.elsewhere:
             shutil.rmtree(self.folder, ignore_errors=True)

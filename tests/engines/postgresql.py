@@ -113,12 +113,15 @@ def judging(server, folder):
         if number:
             first.setdefault(number // 1024, (record, number))
     same("refusals of records", sorted(first), list(range(2, 17)) + list(range(23, 28)))
+    among = "SELECT tally_of(CASE WHEN n = 7 THEN %s ELSE record END) FROM field WHERE board = 1"
+    plan = server.psql(PARALLEL % "off" + "EXPLAIN " + among % "NULL")
+    holds("a refused record in a parallel plan\n" + plan, "Partial Aggregate" in plan and "Gather" in plan)
     for refusal, (record, number) in sorted(first.items()):
         state, detail, literal = "BD%03d" % refusal, "refusal %d, place %d" % divmod(number, 1024), "'\\x%s'" % record.hex()
         for what, query in (("tally_add", "SELECT tally_add(tally_fresh(1), %s)"), ("tally_points", "SELECT tally_points(tally_fresh(1), %s)"),
-                            ("tally_of", "SELECT tally_of(%s::bytea)"),
-                            ("a parallel plan", PARALLEL % "off" + "SELECT tally_of(CASE WHEN n = 7 THEN %s ELSE record END) FROM field WHERE board = 1")):
+                            ("tally_of", "SELECT tally_of(%s::bytea)"), ("a parallel plan", PARALLEL % "off" + among)):
             refused(server, "refusal %d by %s" % (refusal, what), query % literal, state, detail)
+    refused(server, "two boards in a parallel plan", PARALLEL % "off" + "SELECT tally_of(record) FROM field", "BD018", "refusal 18, place 0")
     return len(rows)
 
 
