@@ -10,6 +10,7 @@ help:
 	echo "make demo      proves what it shows (about 6 minutes, once), judges the records in samples/, prints a sheet and a slip, reads a game in Portable"
 	echo "               Bridge Notation, merges two sections both ways, and makes a club's page"
 	echo "make python    the shared libraries and the Python package clubscore, to run from the checkout; make python-test tries it, in 2 minutes"
+	echo "make engines   the PostgreSQL extension duplicate_bridge and the MPI program standings-mpi; make engines-test tries both, in 1 minute"
 	echo "make install   headers, archives, shared libraries and pkg-config files under PREFIX; 5 minutes where nothing is proved yet"
 	echo "make bench     the speed of the proved judge, writer and merges beside Rust's; 2 minutes once built"
 	echo "make fuzz      compares on random input for FUZZ_SECONDS (60), from SEED where given, and feeds the C programs for as long again; what is found is kept"
@@ -320,6 +321,7 @@ outside: tools proved build/rust-built build/terminal build/section build/standi
 	$(STEP) stack build/stack build/blocks.records
 	$(jumps-short)
 	$(MAKE) --no-print-directory python-test
+	$(MAKE) --no-print-directory engines-test
 
 TESTS = examples refusals faults write_refusals write_faults penalty_cards penalty_bounds penalty_faults pbn_texts pbn_faults \
     tally_bytes tally_faults boards jumps jumps_in_texts
@@ -425,6 +427,53 @@ reproducible: $(ARCHIVE) $(TALLY_ARCHIVE)
 	cmp $(TALLY_ARCHIVE) $(REPRODUCED)/$(TALLY_ARCHIVE)
 	echo "the archives are the same, byte for byte"
 REPRODUCED = $(or $(TMPDIR),/tmp)/bridge-archives-again
+
+# The merge where a reduction is declared: the PostgreSQL extension `duplicate_bridge` and the MPI program `standings-mpi`, around the archives. Debian's packages
+# are installed where they are missing and can be.
+.PHONY: engines engines-tools engines-install engines-test engines-bench
+PG_CONFIG = /usr/lib/postgresql/15/bin/pg_config
+MPICC = mpicc
+ENGINES = postgresql-15 postgresql-server-dev-15 openmpi-bin libopenmpi-dev
+ENGINE_ARCHIVES = $(COMMON) $(WORDS_ARCHIVE) $(ARCHIVE) $(TALLY_ARCHIVE)
+EXTENSION_MAKE = $(MAKE) --no-print-directory -C build/engines/postgresql -f $(abspath engines/postgresql/Makefile) PG_CONFIG=$(PG_CONFIG) BUILD=$(abspath build)
+MPI_CC = $(MPICC) $(CFLAGS) -Iinclude -Icommon -Iengines/mpi
+
+engines-tools:
+	@{ test -x $(PG_CONFIG) && command -v mpirun && command -v $(MPICC); } >/dev/null || test "$$(id -u)" != 0 || ! command -v apt-get >/dev/null || \
+	    { apt-get update -qq && DEBIAN_FRONTEND=noninteractive apt-get install -y -qq --no-install-recommends $(ENGINES) >/dev/null; }
+	$(call need,$(PG_CONFIG) mpirun $(MPICC))
+
+engines: engines-tools build/standings-mpi $(ENGINE_ARCHIVES)
+	@mkdir -p build/engines/postgresql
+	$(STEP) extension $(EXTENSION_MAKE)
+
+engines-install: engines
+	$(EXTENSION_MAKE) install
+
+build/standings-mpi: engines/mpi/standings_mpi.c engines/mpi/operation.c engines/mpi/operation.h $(ENGINE_ARCHIVES) $(PLAIN_HEADERS) | engines-tools
+	$(MPI_CC) $(filter %.c,$^) $(ENGINE_ARCHIVES) -o $@
+
+# The same program with an operation that has the old fault.
+build/engines/left-count-mpi: engines/mpi/standings_mpi.c tests/engines/left_count.c engines/mpi/operation.h $(ENGINE_ARCHIVES) $(PLAIN_HEADERS) | engines-tools
+	@mkdir -p $(@D)
+	$(MPI_CC) $(filter %.c,$^) $(ENGINE_ARCHIVES) -o $@
+
+engines-test: engines build/engines/left-count-mpi build/rust-built build/section build/standings build/terminal
+	rm -rf build/work/engines
+	mkdir -p build/work/engines/sections/records
+	$(RUST)/sections $(or $(SEED),39) build/work/engines/sections
+	$(RUST)/field $(or $(SEED),39) 30 40 >build/work/engines/field
+	$(RUST)/blocks $(or $(SEED),39) 6000 >build/work/engines/blocks
+	$(RUST)/tally_blocks $(or $(SEED),39) 12000 >build/work/engines/tally_blocks
+	$(STEP) mpi $(PYTHON) tests/engines/mpi.py build/work/engines
+	$(STEP) postgresql $(PYTHON) tests/engines/postgresql.py $(PG_CONFIG) build/work/engines -- $(EXTENSION_MAKE)
+
+engines-bench: engines build/rust-built build/section build/standings
+	mkdir -p build/work/engines
+	$(RUST)/field $(or $(SEED),39) 127 128 >build/work/engines/whole-field
+	$(CC) $(CFLAGS) -Iinclude -Icommon tests/engines/shares.c $(ENGINE_ARCHIVES) -o build/engines/shares
+	build/engines/shares build/work/engines/whole-field
+	$(PYTHON) tests/engines/bench.py $(PG_CONFIG) build/work/engines/whole-field -- $(EXTENSION_MAKE)
 
 clean:
 	rm -rf build target python/clubscore/*.so

@@ -6,6 +6,7 @@
 enum { FIRST_ROOM = 512 };
 
 const char NO_MEMORY[] = "no memory for what is read";
+const char NOT_OPENED[] = "cannot be opened";
 const char NOT_READ_WHOLE[] = "cannot be read to its end";
 static const char NOT_HEX[] = "is not hexadecimal, two digits a byte";
 
@@ -15,7 +16,7 @@ const char *shown_name(const char *name) { return is_standard(name) ? "standard 
 
 FILE *open_input(const char *name) {
     FILE *file = is_standard(name) ? stdin : fopen(name, "rb");
-    if (!file) fprintf(stderr, "%s cannot be opened\n", name);
+    if (!file) fprintf(stderr, "%s %s\n", name, NOT_OPENED);
     return file;
 }
 

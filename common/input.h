@@ -12,8 +12,9 @@ struct bytes {
     size_t room;
 };
 
-/* What is said where there is no memory, and where reading fails. */
+/* What is said where there is no memory, and where opening and reading fail. */
 extern const char NO_MEMORY[];
+extern const char NOT_OPENED[];
 extern const char NOT_READ_WHOLE[];
 
 /* Puts a byte at the end; false where there is no memory for it. */

@@ -88,17 +88,29 @@ enum status take_file(struct records *records, const char *name) {
     return status;
 }
 
-enum status take_lines(struct records *records, FILE *file, const char *name) {
+/* Whether a line is taken; the choice is asked of every line. */
+static int is_chosen(const struct choice *choice, enum line_read read, const struct bytes *record, const char *fault) {
+    if (!choice || read == LINE_NONE) return 1;
+    return choice->takes(choice->with, read == LINE_RECORD ? record : NULL) || fault == NO_MEMORY;
+}
+
+enum status take_chosen_lines(struct records *records, FILE *file, const char *name, const struct choice *choice) {
     enum status worst = ACCEPTED;
     enum line_read read = LINE_BLANK;
     for (unsigned long line = 1; read != LINE_NONE; line++) {
         struct bytes record;
         const char *fault = NULL;
         read = read_hex_line(file, &record, &fault);
-        if (read == LINE_BAD) worst = worse(worst, leave_unread(records, name, line, fault));
-        if (read == LINE_RECORD) worst = worse(worst, take_record(records, name, line, &record));
+        int chosen = is_chosen(choice, read, &record, fault);
+        if (chosen && read == LINE_BAD) worst = worse(worst, leave_unread(records, name, line, fault));
+        if (chosen && read == LINE_RECORD) worst = worse(worst, take_record(records, name, line, &record));
         free(record.at);
     }
+    return worst;
+}
+
+enum status take_lines(struct records *records, FILE *file, const char *name) {
+    enum status worst = take_chosen_lines(records, file, name, NULL);
     return ferror(file) ? leave_unread(records, name, 0, NOT_READ_WHOLE) : worst;
 }
 

@@ -42,6 +42,16 @@ enum status leave_unread(struct records *records, const char *name, unsigned lon
 enum status take_file(struct records *records, const char *name);
 enum status take_lines(struct records *records, FILE *file, const char *name);
 
+/* Which lines are taken, where several programs share the lines of a stream. `takes` is asked once of each line in turn, also of one with nothing but blanks;
+ * `record` is null for a line that has none. A line for which there is no memory is told whosever it is. */
+struct choice {
+    int (*takes)(void *with, const struct bytes *record);
+    void *with;
+};
+
+/* The same of the lines that are chosen, all where the choice is null. A stream that cannot be read to its end is left to the caller, by ferror. */
+enum status take_chosen_lines(struct records *records, FILE *file, const char *name, const struct choice *choice);
+
 /* Finds the records of one board and table, and says so: the same bytes count once, different ones do not count at all. */
 enum status settle(struct records *records);
 

@@ -23,6 +23,14 @@ int is_zeros(const uint8_t tally[TALLY_BYTES]) {
     return 1;
 }
 
+uint32_t ask_tally(const uint8_t *bytes, size_t length) {
+    enum { NO_SCORE = 5 };
+    uint8_t points[TALLY_POINTS_BYTES];
+    /* No call asks this alone. What is no tally is refused before a score that is not valid. */
+    uint32_t number = tally_matchpoints(bytes, length, NO_SCORE, NULL, 0, points, sizeof points);
+    return tally_refusal_of(number) == TALLY_SCORE_NOT_VALID ? 0 : number;
+}
+
 void mark_refused(uint8_t tally[TALLY_BYTES], unsigned board) {
     memset(tally, 255, TALLY_BYTES);
     tally[0] = (uint8_t)board;

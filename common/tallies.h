@@ -25,6 +25,9 @@ void meet_board(struct tallies *tallies, unsigned board);
 /* Whether a tally is 398 zeros, as a refused merge leaves it. */
 int is_zeros(const uint8_t tally[TALLY_BYTES]);
 
+/* Whether some bytes are a tally: 0, or the refusal of what is none. */
+uint32_t ask_tally(const uint8_t *bytes, size_t length);
+
 /* Adds a result with the deal of its record; what tally_add returns. Where it is refused the tally becomes `mark_refused`'s. */
 uint32_t add_result(struct tallies *tallies, unsigned board, int score, const uint8_t deal[TALLY_DEAL_BYTES]);
 

@@ -1,6 +1,6 @@
 //! Writes three sections of records, one a line in hexadecimal, into a folder, and what `standings` has to write for them: boards that all have, one that
 //! one section has, one with a single result, one fouled between sections and one within, one over 128 results in all and one over in one section. The
-//! records of the last section stand in files of their own too, as bytes and in hexadecimal.
+//! records of the last section stand in files of their own too, as bytes and in hexadecimal. No table is of two sections, so that the three are one field too.
 use outside::judge;
 use outside::making;
 use outside::random::Random;
@@ -9,6 +9,9 @@ use outside::standings::{standings, tally, Results};
 use outside::tally::Deal;
 
 const SECTIONS: usize = 3;
+
+/// The first table of each section stands so far behind that of the one before it.
+const TABLES: usize = 150;
 
 /// A board, and for each section its results and the number of the deal that they are of; a fouled one has results of a second deal in one section.
 struct Board {
@@ -49,7 +52,7 @@ fn main() {
         for (k, section) in sections.iter_mut().enumerate() {
             for n in 0..board.results[k] {
                 let other = usize::from(board.fouled_in == Some(k) && n == 2);
-                section.play(&mut random, board.number, n as u64 + 1, &deals[board.deals[k] ^ other]);
+                section.play(&mut random, board.number, (TABLES * k + n + 1) as u64, &deals[board.deals[k] ^ other]);
             }
         }
     }
