@@ -44,7 +44,8 @@ def seconds_of(server, query, workers):
 
 def postgresql(make, pg_config, lines):
     with Cluster("build/engines/bench", make, pg_config) as server:
-        server.psql("CREATE EXTENSION duplicate_bridge; CREATE UNLOGGED TABLE one (record bytea);\nCOPY one FROM STDIN;\n" + "".join("\\\\x%s\n" % line for line in lines) + "\\.\n")
+        server.psql("CREATE EXTENSION duplicate_bridge; CREATE UNLOGGED TABLE one (record bytea);\nCOPY one FROM STDIN;\n"
+                    + "".join("\\\\x%s\n" % line for line in lines) + "\\.\n")
         server.psql("""CREATE UNLOGGED TABLE records (field int, board int, record bytea) WITH (parallel_workers = 2);
             INSERT INTO records SELECT field, (judge(record)).board, record FROM one, generate_series(1, %d) field ORDER BY field, random();
             CREATE UNLOGGED TABLE scores (field int, board int, ns_score int) WITH (parallel_workers = 2);

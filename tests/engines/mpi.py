@@ -87,6 +87,16 @@ def try_words(folder):
              [line for line in told if not re.search(r"board \d+ refused", line)])
 
 
+def try_other_ranks(folder):
+    """A fault that rank 0 does not meet is told in the exit status: a refused record, one left out, and a bad line of rank 1."""
+    field = lines_of(folder, "field")
+    odd, another = [line for line in field if int(line[:4], 16) % 2 == 1][:2]
+    for what, lines, status in (("refused", [odd + "00"], 1), ("left out", [odd, odd[:4] + another[4:]], 1), ("a bad line", ["", "zz"], 2)):
+        path = write(folder, "odd", lines)
+        due = by_section(folder, lines)
+        same(what + " at rank 1", launch(2, [PROGRAM, path]), (due[0], [line.replace("standard input", path) for line in due[1]], status))
+
+
 def try_additions(folder):
     """A fouled board, and one over 128 results, in the words of `section` where one rank meets them."""
     for k, words in ((1, "board 17 refused, a fouled board, results of two deals"), (2, "board 64 refused, more than 128 results")):
@@ -150,6 +160,7 @@ def main():
     try_orders(folder, "a field", lines_of(folder, "field"), [(ranks, None) for ranks in RANKS] + forced, chance)
     try_fault(folder, chance)
     try_words(folder)
+    try_other_ranks(folder)
     try_additions(folder)
     try_files(folder)
     try_options(folder)
