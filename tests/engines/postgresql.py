@@ -122,6 +122,11 @@ def judging(server, folder):
                             ("tally_of", "SELECT tally_of(%s::bytea)"), ("a parallel plan", PARALLEL % "off" + among)):
             refused(server, "refusal %d by %s" % (refusal, what), query % literal, state, detail)
     refused(server, "two boards in a parallel plan", PARALLEL % "off" + "SELECT tally_of(record) FROM field", "BD018", "refusal 18, place 0")
+    for state, call in (("BD003", "tally_fresh(n - 7)"), ("BD017", "record::tally"), ("BD021", "tally_points(tally_fresh(board), record)")):
+        query = "SELECT count(CASE WHEN n = 7 THEN %s END) FROM field" % call
+        plan = server.psql(PARALLEL % "off" + "EXPLAIN " + query)
+        holds("%s in a parallel plan\n%s" % (call, plan), "Partial Aggregate" in plan and "Gather" in plan)
+        refused(server, "%s in a parallel plan" % call, PARALLEL % "off" + query, state, "refusal %d, place 0" % int(state[2:]))
     return len(rows)
 
 
