@@ -74,7 +74,8 @@ refuse-requires-2 c κs = search needs
 returns-2 : tie.Need-returns-2
 returns-2 c =
     let checked = c .before .before .before in
-    c .refuse2 .ensures ∙ second-malformed _ _ (first-well (checked .before)) (sym (checks _ _ (checked .check2 .ensures) .good) ∙ not-true _ (c .before .if2 .taken))
+    let not-good = sym (checks _ _ (checked .check2 .ensures) .good) ∙ not-true _ (c .before .if2 .taken) in
+    c .refuse2 .ensures ∙ second-malformed _ _ (first-well (checked .before)) not-good
 
 boards-refusal-requires : tie.Need-boards-refusal-requires
 boards-refusal-requires c κs = search needs
