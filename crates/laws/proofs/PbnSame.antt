@@ -56,7 +56,7 @@ module _ (n trump first : ℕ) (some : 0 < n) where
   order-each leader (a ∷ b ∷ c ∷ []) h = h
   order-each leader (a ∷ b ∷ c ∷ d ∷ cards) h =
       let row = relisted-each n first leader a b c d some (h.0, (h.1.0, (h.1.1.0, (h.1.1.1.0, tt)))) in
-      (row.0, (row.1.0, (row.1.1.0, (row.1.1.1.0, order-each _ cards h.1.1.1.1))))
+      (row.0, (row.1.0, (row.1.1.0, (row.1.1.1.0, order-each (winner trump leader (reverse (relisted first leader (a ∷ b ∷ c ∷ d ∷ [])))) cards h.1.1.1.1))))
 
   columns-each : (leader : ℕ) (cards : List ℕ) → EachBelow n cards → EachBelow n (columns_from trump first leader cards)
   unfolding columns_from EachBelow relisted
@@ -66,7 +66,7 @@ module _ (n trump first : ℕ) (some : 0 < n) where
   columns-each leader (a ∷ b ∷ c ∷ []) h = h
   columns-each leader (a ∷ b ∷ c ∷ d ∷ cards) h =
       let row = relisted-each n leader first a b c d some (h.0, (h.1.0, (h.1.1.0, (h.1.1.1.0, tt)))) in
-      (row.0, (row.1.0, (row.1.1.0, (row.1.1.1.0, columns-each _ cards h.1.1.1.1))))
+      (row.0, (row.1.0, (row.1.1.0, (row.1.1.1.0, columns-each (winner trump leader (d ∷ c ∷ b ∷ a ∷ [])) cards h.1.1.1.1))))
 
 pub columns-length : (trump first leader : ℕ) (cards : List ℕ) → length (columns_from trump first leader cards) ≡ length cards
 unfolding columns_from relisted
@@ -74,7 +74,7 @@ columns-length trump first leader [] = refl
 columns-length trump first leader (a ∷ []) = refl
 columns-length trump first leader (a ∷ b ∷ []) = refl
 columns-length trump first leader (a ∷ b ∷ c ∷ []) = refl
-columns-length trump first leader (a ∷ b ∷ c ∷ d ∷ cards) = ap (λ n. suc (suc (suc (suc n)))) (columns-length trump first _ cards)
+columns-length trump first leader (a ∷ b ∷ c ∷ d ∷ cards) = ap (λ n. suc (suc (suc (suc n)))) (columns-length trump first (winner trump leader (d ∷ c ∷ b ∷ a ∷ [])) cards)
 
 -- ---- plays without codes
 pub flat-cards : (plays : List Event) → codes_of plays ≡ 0 → flat_of plays ≡ cards_of plays

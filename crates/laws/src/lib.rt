@@ -1,4 +1,6 @@
 // The Laws as definitions: see specs/. Here stand the numbers of the refusals, under the names of specs/Refusals.
+#![tactic(auto)]
+
 ghost use Rattle.std.specs.Prelude.{◌≡◌};
 ghost use Rattle.laws.specs.Refusals.{refusal_number};
 
