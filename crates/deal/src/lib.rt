@@ -1,5 +1,7 @@
 // The deal: the hands of the four seats as 52-bit words of the holders, thirteen cards each, suits still held, and Law 2. `given` takes holders as they
 // are given. The holder of a card is any number: seats are 0 to 3, and a card with another holder is in nobody's hand.
+#![tactic(auto)]
+
 mod given;
 
 ghost use Rattle.std.specs.Prelude.{◌≡◌, ◌-◌, ◌^◌, ◌<◌};

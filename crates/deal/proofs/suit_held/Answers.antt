@@ -1,0 +1,17 @@
+-- `deal::suit_held` meets its contract: the set bits among the suit's thirteen. Assumes nothing.
+use Prim.Native.Nat.{◌*◌, ◌^◌, ◌<◌}
+use mathlib.Core.Path.{◌≡◌}
+use native.Mathlib.Omega.{arith}
+use borrow.Author.Rules.{rules}
+use lib.Pow.{pow_pos}
+use Rattle.deal.proofs.Held.{suit_in, suit_out}
+use Rattle.deal.proofs.suit_held.Goals as goal
+
+pub returns-then-suit-gt3 : goal.returns-then-suit-gt3
+returns-then-suit-gt3 c = suit_out c.args.hand c.args.suit c.if-suit-gt3.true
+
+pub nonzero_div-result : goal.nonzero_div-result
+nonzero_div-result c = rw c.bit_of.ensures (pow_pos (13 * c.args.suit))
+
+pub returns : goal.returns
+returns c = suit_in c.args.hand c.args.suit _ (omega arith) c.bit_of.ensures
