@@ -1,5 +1,7 @@
 // The auction, a code at a time: a position that steps and returns itself, and holds no history. A code is a call, or a mark: the next call is an
 // insufficient bid that was accepted.
+#![tactic(auto)]
+
 ghost use Rattle.std.specs.Prelude.{◌≡◌, [], ◌-◌, ◌<◌, ◌≤◌, eqb};
 ghost use Rattle.laws.specs.Choice.{if◌then◌else◌};
 ghost use Rattle.laws.specs.Cards.{clockwise};
@@ -28,7 +30,7 @@ const HIGHEST: u8 = 37;
 // The mark.
 const MARK: u8 = 38;
 
-#[derive(Drop)]
+#[derive(Clone, Copy)]
 pub struct Auction {
     // Whose turn it is.
     turn: u8,
@@ -47,7 +49,7 @@ pub struct Auction {
 }
 
 // What is said of a code: it is allowed, or what is wrong with it.
-#[derive(Drop)]
+#[derive(Clone, Copy)]
 pub enum Verdict {
     Allowed,
     NotACall,
@@ -74,7 +76,7 @@ impl Verdict {
 }
 
 // The last bid with its doubling, and its declarer. Without a bid it is level 1, strain 0, declarer nobody.
-#[derive(Drop)]
+#[derive(Clone, Copy)]
 pub struct Contract {
     pub level: u8,
     pub strain: u8,

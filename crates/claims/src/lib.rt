@@ -1,4 +1,6 @@
 // Law 68 by the number of cards played: whether a claim may stand, and how many tricks are left.
+#![tactic(auto)]
+
 ghost use Rattle.std.specs.Prelude.{◌≡◌, ◌-◌, ◌/◌};
 ghost use Rattle.claims.specs.Claims.{may_claim};
 

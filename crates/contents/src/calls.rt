@@ -8,7 +8,7 @@ use auction::Auction;
 use laws::{AUCTION_UNFINISHED, TOO_MANY_CALLS, refusal_number};
 
 // The position after the calls; or the number of their refusal, 0 where there is none.
-#[derive(Drop)]
+#[derive(Clone, Copy)]
 pub struct Calls {
     pub refusal: u32,
     pub after: Auction,

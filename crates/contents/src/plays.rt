@@ -64,7 +64,7 @@ fn count_beside_codes(plays: &[u8]) -> usize
 }
 
 // The number that a code is refused with, 0 for none, and the position after it.
-#[derive(Drop)]
+#[derive(Clone, Copy)]
 pub struct Coded {
     pub refusal: u8,
     pub after: Table,

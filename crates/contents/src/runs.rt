@@ -5,7 +5,7 @@ ghost use Rattle.contents.specs.Checked.{run_of};
 use play::Play;
 
 // The position after the run, and the place behind it; where it stopped, the number that the one there is refused with as a card, else 0.
-#[derive(Drop)]
+#[derive(Clone, Copy)]
 pub struct Run {
     pub refusal: u8,
     pub place: usize,

@@ -26,7 +26,7 @@ pub fn heading_refusal(board: u32, table: u32) -> u32
 }
 
 // The holders of the cards and the hands of the four seats; or the number of the refusal, 0 where there is none.
-#[derive(Drop)]
+#[derive(Clone, Copy)]
 pub struct Deal {
     pub refusal: u32,
     pub holders: [u8; 52],

@@ -7,7 +7,7 @@ use super::{hands, seat_without_thirteen};
 use laws::{ACCEPTED, NOT_THIRTEEN};
 
 // The holders of the cards and the hands of the four seats; or the number of the refusal, which is 4, and its place, beside zeros.
-#[derive(Drop)]
+#[derive(Clone, Copy)]
 pub struct Dealt {
     pub refusal: u8,
     pub place: u8,

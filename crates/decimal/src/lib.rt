@@ -4,14 +4,14 @@ ghost use Rattle.decimal.specs.Numbers.{number_on};
 ghost use Rattle.decimal.specs.Scores.{board_in, plus_in, minus_in, score_on};
 
 // What bytes say: a number, or none.
-#[derive(Drop)]
+#[derive(Clone, Copy)]
 pub enum Number {
     Is(u32),
     None,
 }
 
 // A score that is read, or none.
-#[derive(Drop)]
+#[derive(Clone, Copy)]
 pub enum Score {
     Of(i16),
     Nothing,

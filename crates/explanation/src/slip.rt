@@ -12,7 +12,7 @@ use law77::{
 };
 
 // Points from North-South under each name, 0 for nothing, and their sum.
-#[derive(Drop)]
+#[derive(Clone, Copy)]
 pub struct Items {
     pub tricks: i16,
     pub overtricks: i16,
@@ -25,7 +25,7 @@ pub struct Items {
 }
 
 // The judge's refusal and its place, or the items of an accepted record.
-#[derive(Drop)]
+#[derive(Clone, Copy)]
 pub enum Explained {
     Refused { number: u32, place: u32 },
     Granted(Items),

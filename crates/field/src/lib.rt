@@ -1,10 +1,12 @@
 // A bit field of a byte slice, read by whole bytes. Bit 0 is the most significant bit of the first byte.
+#![tactic(auto)]
+
 ghost use Rattle.std.specs.Prelude.{◌≡◌, ◌+◌, ◌*◌, ◌^◌, ◌≤◌, ◌<◌, get_or};
 ghost use Rattle.laws.specs.Reading.{number_at};
 ghost use Rattle.field.specs.Field.{field_answer, field_at};
 
 // What a read finds: the field's number, or that the record ends before the field is whole.
-#[derive(Drop)]
+#[derive(Clone, Copy)]
 pub enum Field {
     Value(u16),
     Short,

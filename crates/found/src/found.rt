@@ -5,7 +5,7 @@ ghost use Rattle.found.specs.Found.{none_found, named_by, with_revoke, with_lead
 
 use play::{bit, with_bit};
 
-#[derive(Drop)]
+#[derive(Clone, Copy)]
 pub struct Found {
     // A bit for each card: 1 for a lead that is a revoke, and 1 for a revoke that is excused.
     pub leads: u64,

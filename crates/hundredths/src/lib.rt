@@ -9,7 +9,7 @@ use tally::Tally;
 pub const ALONE: u32 = 65535;
 
 // What is answered: a refusal and its place, or the shares of both sides.
-#[derive(Drop)]
+#[derive(Clone, Copy)]
 pub enum ShareAnswer {
     Refused(u8, u8),
     Shares { ns: u32, ew: u32 },

@@ -7,7 +7,7 @@ use field::Field;
 use laws::{CLAIM_TOO_MANY, NO_CLAIM_POINT, PLAY_UNFINISHED, RECORD_ENDS, refusal_number};
 
 // The claim and the bit behind it; or the number of its refusal, 0 where there is none.
-#[derive(Drop)]
+#[derive(Clone, Copy)]
 pub struct Claim {
     pub refusal: u32,
     pub next: usize,

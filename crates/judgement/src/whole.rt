@@ -15,7 +15,7 @@ use position::{Listed, Table};
 
 // The answer's bits, the revokes, the 52 bytes of the plays against Law 50 and the complete tricks; or the number of the refusal, 0 where the record is
 // accepted.
-#[derive(Drop)]
+#[derive(Clone, Copy)]
 pub struct Judged {
     pub refusal: u32,
     pub bits: u64,

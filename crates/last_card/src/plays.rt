@@ -14,7 +14,7 @@ use play::Play;
 use position::Table;
 
 // The position after the plays and the bit behind them; or the number of their refusal, 0 where there is none.
-#[derive(Drop)]
+#[derive(Clone, Copy)]
 pub struct Cards {
     pub refusal: u32,
     pub next: usize,

@@ -13,7 +13,7 @@ use position::Table;
 
 // Board and table, whether the board was passed out, the contract, the position after the last card and the bit behind it; or the number of the refusal, 0
 // where there is none.
-#[derive(Drop)]
+#[derive(Clone, Copy)]
 pub struct Reached {
     pub refusal: u32,
     pub board: u8,

@@ -11,7 +11,7 @@ use field::Field;
 use laws::{AUCTION_UNFINISHED, NO_BOARD_OR_TABLE, NOT_THIRTEEN, RECORD_ENDS, refusal_number};
 
 // Board and table; or the number of their refusal, 0 where there is none.
-#[derive(Drop)]
+#[derive(Clone, Copy)]
 pub struct Heading {
     pub refusal: u32,
     pub board: u8,
@@ -19,7 +19,7 @@ pub struct Heading {
 }
 
 // The position after the calls and the bit behind them; or the number of their refusal, 0 where there is none.
-#[derive(Drop)]
+#[derive(Clone, Copy)]
 pub struct Calls {
     pub refusal: u32,
     pub next: usize,
@@ -27,7 +27,7 @@ pub struct Calls {
 }
 
 // The holders of the cards and the hands of the four seats; or the number of the refusal, 0 where there is none.
-#[derive(Drop)]
+#[derive(Clone, Copy)]
 pub struct Deal {
     pub refusal: u32,
     pub holders: [u8; 52],

@@ -6,7 +6,7 @@ use crate::codes::code_ending;
 use play::Play;
 
 // The position after the run, the bit and the place behind it; and where it stopped, the code there and the number that it is refused with as a card, else 0.
-#[derive(Drop)]
+#[derive(Clone, Copy)]
 pub struct Run {
     pub refusal: u8,
     pub code: u8,

@@ -5,7 +5,7 @@ ghost use Rattle.laws.specs.Law77;
 ghost use Rattle.law77.specs.Scoring.{stake_of, made_points};
 
 // What a contract is played for.
-#[derive(Drop)]
+#[derive(Clone, Copy)]
 pub struct Stake {
     pub level: u8,
     pub strain: u8,

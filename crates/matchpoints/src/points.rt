@@ -13,14 +13,14 @@ use score::Matchpoints;
 use tally::{Tally, check, given_refusal};
 
 // What is answered to a result: a refusal and its place, or the matchpoints of both sides for one result of its score.
-#[derive(Drop)]
+#[derive(Clone, Copy)]
 pub enum MatchpointAnswer {
     Refused(u8, u8),
     Points { ns: Matchpoints, ew: Matchpoints },
 }
 
 // How many results of a tally are below a score, how many are equal to it, and how many there are.
-#[derive(Drop)]
+#[derive(Clone, Copy)]
 struct Standing {
     below: u8,
     equal: u8,

@@ -9,7 +9,7 @@ pub use calls::{add, merge};
 use tally::{Entry, Tally};
 
 // The entry to write next, and how many entries of the first and of the second tally it takes.
-#[derive(Drop)]
+#[derive(Clone, Copy)]
 struct Next {
     score: i16,
     count: u8,

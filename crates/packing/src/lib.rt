@@ -5,7 +5,7 @@ ghost use Rattle.laws.specs.Record.{field, row, bytes_of};
 ghost use Rattle.packing.specs.Packed.{new_packer, packer_after, bytes_after, packer_after_all, bytes_after_all, bytes_finished};
 
 // How many bytes are stored, and the bits that wait for the rest of their byte: as a number, and how many they are.
-#[derive(Drop)]
+#[derive(Clone, Copy)]
 pub struct Packer {
     pub at: usize,
     pub pending: u8,

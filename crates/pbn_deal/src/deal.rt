@@ -49,7 +49,7 @@ fn one_less(suit: usize) -> usize
 }
 
 // Who holds each card so far, and the seat and the suit that come next.
-#[derive(Drop)]
+#[derive(Clone, Copy)]
 pub(crate) struct Held {
     pub seat: u8,
     pub suit: usize,

@@ -10,7 +10,7 @@ use crate::walk::{Walk, over_byte, over_hands};
 use pbn_words::{begins_with, ends_with, seat_letter};
 
 // The seat and the holders; seat 4 where there are none.
-#[derive(Drop)]
+#[derive(Clone, Copy)]
 pub struct Deal {
     pub first: u8,
     pub holders: [u8; 52],

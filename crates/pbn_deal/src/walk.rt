@@ -6,7 +6,7 @@ ghost use Rattle.pbn_deal.specs.Walks.{follows};
 use pbn_words::rank_letter;
 
 // Whether the line was the same so far, and up to where.
-#[derive(Drop)]
+#[derive(Clone, Copy)]
 pub(crate) struct Walk {
     pub same: bool,
     pub at: usize,

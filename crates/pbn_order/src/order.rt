@@ -74,7 +74,7 @@ fn places_to(from: u8, seat: u8) -> usize
 }
 
 // The cards of a whole play.
-#[derive(Drop)]
+#[derive(Clone, Copy)]
 pub struct Cards {
     pub cards: [u8; 52],
 }

@@ -16,7 +16,7 @@ use laws::{OUTSIDE_SUBSET, TOO_MANY_CALLS, refusal_number};
 use pbn_text::{Game, Numbers};
 
 // The number of the first refusal, 0 for none, and the trump after the calls.
-#[derive(Drop)]
+#[derive(Clone, Copy)]
 pub(crate) struct Tags {
     pub refusal: u32,
     pub trump: u8,

@@ -12,7 +12,7 @@ use pbn_words::part_end;
 
 // `line` is 0; or it is the line up to which no text of the subset agrees, at most 1023, and nothing else is told. Play's seat is 4 where there is no Play.
 // `calls` are kept as far as a record can count them.
-#[derive(Drop)]
+#[derive(Clone, Copy)]
 pub struct Game {
     pub line: u32,
     pub board: u32,

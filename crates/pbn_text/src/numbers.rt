@@ -4,7 +4,7 @@ ghost use Rattle.pbn_text.specs.Kept.{kept_of};
 
 use pbn_words::Row;
 
-#[derive(Drop)]
+#[derive(Clone, Copy)]
 pub struct Numbers {
     pub count: usize,
     pub numbers: [u8; 511],

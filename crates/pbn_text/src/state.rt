@@ -10,7 +10,7 @@ use pbn_words::{NO_NUMBER, board_in, row_in, seat_in};
 
 // The stage: 0 to 2 for Board, Deal and Auction, 3 before the first line of calls, 4 after full lines of them, 5 after a last one of fewer, 6 for lines of
 // cards, of which `rows` are left, and 7 where the reading stopped. Play's seat is 4 where there is no Play.
-#[derive(Drop)]
+#[derive(Clone, Copy)]
 pub(crate) struct Text {
     pub stage: u8,
     pub rows: usize,

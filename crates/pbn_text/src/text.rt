@@ -12,7 +12,7 @@ use crate::state::Text;
 use pbn_words::part_end;
 
 // The line where the reading stopped, at most 1023; 0 where the text was read whole.
-#[derive(Drop)]
+#[derive(Clone, Copy)]
 pub(crate) struct Parsed {
     pub line: u32,
     pub text: Text,

@@ -8,7 +8,7 @@ ghost use Rattle.pbn_words.specs.RowNumbers.{row_by, row_on};
 use crate::words::{NO_NUMBER, number_in};
 
 // One to four numbers, the rest zero; none at all where the count is 0.
-#[derive(Drop)]
+#[derive(Clone, Copy)]
 pub struct Row {
     pub count: usize,
     pub numbers: [u8; 4],

@@ -37,7 +37,7 @@ pub fn begins_code(number: u8) -> bool
 }
 
 // The penalty cards, and what binds the next lead.
-#[derive(Drop)]
+#[derive(Clone, Copy)]
 pub struct Penalty {
     // The cards that are faced, and those of them that are major.
     pub faced: u64,
@@ -51,7 +51,7 @@ pub struct Penalty {
 }
 
 // What the seat at turn has before it plays.
-#[derive(Drop)]
+#[derive(Clone, Copy)]
 pub struct Turn {
     // Its hand.
     pub hand: u64,

@@ -9,7 +9,7 @@ use matchpoints::MatchpointAnswer;
 use tally::Tally;
 
 // A played result with the percentage of North-South, an awarded result with its percentage, or a result alone on its board.
-#[derive(Drop)]
+#[derive(Clone, Copy)]
 pub enum Cell {
     Played(f64),
     Awarded(f64),
@@ -17,7 +17,7 @@ pub enum Cell {
 }
 
 // What is answered: a refusal and its place, or a cell.
-#[derive(Drop)]
+#[derive(Clone, Copy)]
 pub enum CellAnswer {
     Refused(u8, u8),
     Is(Cell),

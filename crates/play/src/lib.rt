@@ -31,7 +31,7 @@ pub use crate::words::{bit, with_bit};
 use laws::{ACCEPTED, CARD_ALREADY_PLAYED, CARD_NOT_HELD, NO_CARD};
 
 // What the code keeps of the play. A word of entries has the last entry lowest.
-#[derive(Drop)]
+#[derive(Clone, Copy)]
 pub struct Play {
     // The hands as they were dealt, a bit for each card, and the cards that nobody has played.
     pub dealt: [u64; 4],
@@ -55,14 +55,14 @@ pub struct Play {
 }
 
 // A trick's answer: the seat that won it, and the card that won.
-#[derive(Drop)]
+#[derive(Clone, Copy)]
 pub struct Won {
     pub seat: u8,
     pub card: u8,
 }
 
 // The complete tricks: how many, those of each side, and their answers.
-#[derive(Drop)]
+#[derive(Clone, Copy)]
 pub struct Tricks {
     pub count: u8,
     pub won: [u8; 2],
@@ -70,7 +70,7 @@ pub struct Tricks {
 }
 
 // What is said of a card before it is played.
-#[derive(Drop)]
+#[derive(Clone, Copy)]
 pub enum CardVerdict {
     Playable,
     NoCard,

@@ -6,7 +6,7 @@ use crate::Table;
 use play::byte_after;
 
 // The revokes in order of play: how many, and for each a byte (trick 4 bits, seat 2, suit 2) and 1 where it is excused.
-#[derive(Drop)]
+#[derive(Clone, Copy)]
 pub struct Listed {
     pub count: u8,
     pub list: [u8; 48],

@@ -23,7 +23,7 @@ use laws::{ACCEPTED, CHOICE_NOT_OPEN, NOT_EXPOSABLE};
 use penalty::{Penalty, Turn};
 use play::Play;
 
-#[derive(Drop)]
+#[derive(Clone, Copy)]
 pub struct Table {
     pub play: Play,
     // The side of the defenders: 0 North-South, 1 East-West.

@@ -1,4 +1,6 @@
 // Valid scores, IMPs by the scale of Law 78B, and the two scoring units with their sums.
+#![tactic(auto)]
+
 ghost use Rattle.std.specs.Prelude.{◌≡◌, true, pos, nat_abs, ◌-ℤ◌, get_or, ◌<◌};
 ghost use Rattle.std.specs.Int.Signed.{le_z};
 ghost use Rattle.laws.specs.Law77.{valid_score};
@@ -8,27 +10,27 @@ ghost use Rattle.score.specs.Units.{imp_answer, imp_sum, matchpoint_sum, imps_ad
 use laws::INVALID_SCORE;
 
 // A number of matchpoints. No sum takes one of each unit.
-#[derive(Drop)]
+#[derive(Clone, Copy)]
 pub struct Matchpoints(pub u32);
 
 // A number of IMPs, positive for the first of two scores.
-#[derive(Drop)]
+#[derive(Clone, Copy)]
 pub struct Imps(pub i32);
 
 // What is answered to two scores.
-#[derive(Drop)]
+#[derive(Clone, Copy)]
 pub enum ImpAnswer {
     Refused(u8),
     Scored(Imps),
 }
 
-#[derive(Drop)]
+#[derive(Clone, Copy)]
 pub enum ImpSum {
     ImpTotal(Imps),
     ImpsDoNotFit,
 }
 
-#[derive(Drop)]
+#[derive(Clone, Copy)]
 pub enum MatchpointSum {
     MatchpointTotal(Matchpoints),
     MatchpointsDoNotFit,

@@ -11,7 +11,7 @@ use score::valid;
 use tally::{Tallied, Tally};
 
 // What a line says: a valid score, or none.
-#[derive(Drop)]
+#[derive(Clone, Copy)]
 enum Said {
     Score(i16),
     Nothing,
@@ -105,7 +105,7 @@ fn said_on(line: &[u8]) -> Said
 }
 
 // The number of the line that is refused, 0 for none, and the tally of the lines' scores where none is, else zeros.
-#[derive(Drop)]
+#[derive(Clone, Copy)]
 pub struct Results {
     pub refused: u32,
     pub tally: Tally,

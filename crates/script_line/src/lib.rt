@@ -3,7 +3,7 @@ ghost use Rattle.std.specs.Prelude.{◌≡◌};
 ghost use Rattle.script_line.specs.Lines.{first_line, with_byte, next_number, next_line};
 
 // The bytes so far and their number, 21 where the line is longer than any call; and how many lines were whole.
-#[derive(Drop)]
+#[derive(Clone, Copy)]
 pub struct Line {
     pub bytes: [u8; 20],
     pub length: usize,

@@ -7,7 +7,7 @@ ghost use Rattle.text.specs.Putting.{Put};
 use text::{put_byte, put_bytes, put_digit, put_field};
 
 // What a table gives for each side.
-#[derive(Drop)]
+#[derive(Clone, Copy)]
 pub(crate) enum Columns {
     Matchpoints,
     Percentages,

@@ -17,7 +17,7 @@ use score::valid;
 
 // A board with the deal of its results, the holders of the 52 cards, and with its distinct scores, highest first, and the number of results of each; unused
 // places are zero, and those of the deal where there is no result.
-#[derive(Drop)]
+#[derive(Clone, Copy)]
 pub struct Tally {
     pub board: u8,
     pub deal: [u8; 52],
@@ -26,7 +26,7 @@ pub struct Tally {
 }
 
 // What a call answers: 0 with the tally that it made, or a refusal and its place with an all-zero tally.
-#[derive(Drop)]
+#[derive(Clone, Copy)]
 pub struct Tallied {
     pub refusal: u8,
     pub place: u8,
@@ -34,21 +34,21 @@ pub struct Tallied {
 }
 
 // A score with its number of results.
-#[derive(Drop)]
+#[derive(Clone, Copy)]
 pub struct Entry {
     pub score: i16,
     pub count: u8,
 }
 
 // How many places of a tally are used, and how many results it has.
-#[derive(Drop)]
+#[derive(Clone, Copy)]
 pub struct Size {
     pub used: usize,
     pub results: u8,
 }
 
 // Whether a tally is as described, and its size where it is; else zeros.
-#[derive(Drop)]
+#[derive(Clone, Copy)]
 pub struct Checked {
     pub good: bool,
     pub size: Size,

@@ -10,7 +10,7 @@ use laws::{ACCEPTED, FOULED_BOARD, INVALID_SCORE, TOO_MANY_RESULTS, TWO_BOARDS};
 use score::valid;
 
 // A refusal with its place; the number is 0 where there is none.
-#[derive(Drop)]
+#[derive(Clone, Copy)]
 pub struct Held {
     pub number: u8,
     pub place: u8,

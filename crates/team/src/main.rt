@@ -7,7 +7,7 @@ use team_run::{Reply, Run};
 use text::Outcome;
 
 // A run after one read, and whether there may be more to read.
-#[derive(Drop)]
+#[derive(Clone, Copy)]
 struct Turn {
     run: Run,
     more: bool,

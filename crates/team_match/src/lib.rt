@@ -10,21 +10,21 @@ use laws::{BOARD_NOT_FREE, INVALID_SCORE, MALFORMED_TALLY, TOO_MANY_BOARDS};
 use score::{ImpAnswer, ImpSum, Imps, add_imps, imps_of, imps_size, valid};
 
 // The first team's total, and for each number from 0 to 127 whether that board was used; 0 is no board's number.
-#[derive(Drop)]
+#[derive(Clone, Copy)]
 pub struct TeamMatch {
     pub total: Imps,
     pub used: [bool; 128],
 }
 
 // What a board answers, its IMPs or a refusal, and the state after it.
-#[derive(Drop)]
+#[derive(Clone, Copy)]
 pub struct Played {
     pub state: TeamMatch,
     pub answer: ImpAnswer,
 }
 
 // What is answered for the totals of both teams.
-#[derive(Drop)]
+#[derive(Clone, Copy)]
 pub enum TotalsAnswer {
     Refused(u8),
     Totals { first: Imps, second: Imps },

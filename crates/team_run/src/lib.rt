@@ -8,7 +8,7 @@ use team_match::TeamMatch;
 use team_script::{Asked, read_line};
 
 // A run under way: the match, the line so far, and whether it is over.
-#[derive(Drop)]
+#[derive(Clone, Copy)]
 pub struct Run {
     pub state: TeamMatch,
     pub line: Line,
@@ -16,7 +16,7 @@ pub struct Run {
 }
 
 // What a byte brings: nothing, what the board is answered whose line it ends, or that the run ends at a line that cannot be read.
-#[derive(Drop)]
+#[derive(Clone, Copy)]
 pub enum Reply {
     Nothing,
     Answer(ImpAnswer),
@@ -24,7 +24,7 @@ pub enum Reply {
 }
 
 // A run after a byte, or at its end, and what that brought.
-#[derive(Drop)]
+#[derive(Clone, Copy)]
 pub struct Fed {
     pub run: Run,
     pub reply: Reply,

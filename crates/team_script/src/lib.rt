@@ -6,7 +6,7 @@ ghost use Rattle.team_script.specs.Boards.{to_space, field, behind, scored, aske
 use decimal::{Number, Score, board_in, read_number, read_score};
 
 // What a line asks for: a board with its scores at the two tables, or that it cannot be read.
-#[derive(Drop)]
+#[derive(Clone, Copy)]
 pub enum Asked {
     Board(u8, i16, i16),
     Unreadable,

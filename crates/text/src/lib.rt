@@ -7,7 +7,7 @@ ghost use Rattle.text.specs.Refused.{refused_text};
 ghost use Rattle.text.specs.Putting.{place_after, Put, written, length_within, left_in};
 
 // How the writing of a text went: so many bytes written, or too few lent and none written.
-#[derive(Drop)]
+#[derive(Clone, Copy)]
 pub enum Outcome {
     Written(usize),
     TooShort,

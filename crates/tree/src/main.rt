@@ -4,7 +4,7 @@ use libc::STDIN_FILENO;
 use tree_run::Run;
 
 // A run after one read, and whether there may be more to read.
-#[derive(Drop)]
+#[derive(Clone, Copy)]
 struct Turn {
     run: Run,
     more: bool,

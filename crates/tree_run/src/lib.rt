@@ -9,7 +9,7 @@ use tree_script::{Call, read_call};
 use tree_stack::{Said, Stack, make_call};
 
 // A run under way: the stack, the line so far, and whether it is over.
-#[derive(Drop)]
+#[derive(Clone, Copy)]
 pub struct Run {
     pub stack: Stack,
     pub line: Line,
@@ -17,14 +17,14 @@ pub struct Run {
 }
 
 // What a byte of the script brings: nothing, or what the call answers whose line it ends.
-#[derive(Drop)]
+#[derive(Clone, Copy)]
 pub enum Reply {
     Nothing,
     Answer(Said),
 }
 
 // A run after a byte, or at its end, and what that brought.
-#[derive(Drop)]
+#[derive(Clone, Copy)]
 pub struct Fed {
     pub run: Run,
     pub reply: Reply,

@@ -6,7 +6,7 @@ ghost use Rattle.tree_script.specs.Calls.{is_prefix, fresh_on, of_deal, given_on
 use decimal::{Number, Score, board_in, read_number, read_score};
 
 // A call that a line asks for, with its board, its score and the number of its deal, or its percentage; or that no call can be read.
-#[derive(Drop)]
+#[derive(Clone, Copy)]
 pub enum Call {
     Fresh(u8),
     Add(i16, u8),
@@ -45,7 +45,7 @@ fn fresh_on(bytes: &[u8]) -> Call
 }
 
 // A score with the number of its deal, or that none can be read.
-#[derive(Drop)]
+#[derive(Clone, Copy)]
 enum Given {
     Of(i16, u8),
     Nothing,

@@ -14,7 +14,7 @@ use tally::{Tallied, Tally};
 use tree_script::Call;
 
 // The first `used` of 16 places hold tallies, the top last.
-#[derive(Drop)]
+#[derive(Clone, Copy)]
 pub struct Stack {
     pub tallies: [Tally; 16],
     pub used: usize,
@@ -22,7 +22,7 @@ pub struct Stack {
 
 // What a call answers: that it is done, a refusal and its place, the matchpoints of both sides, a cell with the 64 bits of its float; or that the run ends
 // there.
-#[derive(Drop)]
+#[derive(Clone, Copy)]
 pub enum Said {
     Done,
     Refused(u8, u8),
@@ -34,7 +34,7 @@ pub enum Said {
 }
 
 // The stack after a call, and what the call answers.
-#[derive(Drop)]
+#[derive(Clone, Copy)]
 pub struct Step {
     pub stack: Stack,
     pub said: Said,
