@@ -15,7 +15,7 @@ use Rattle.score.specs.Units.{imps_fit}
 
 -- a number of 32 bits, widened and read back
 pub widened : (z : ℤ) → SFits w32 z → to_z w64 (of_z w64 (to_z w32 (of_z w32 z))) ≡ z
-widened z f = ap (λ (y : ℤ). to_z w64 (of_z w64 y)) (to_z-of_z f) ∙ to_z-of_z (sfits_widen tt f)
+widened z f = ap (λ (y : ℤ). to_z w64 (of_z w64 y)) (to_z-of_z f) ∙ to_z-of_z (sfits_widen {w = w32} {w' = w64} {z = z} tt f)
 
 size-le-mag : (z : ℤ) → nat_abs z ≤ mag z + 1
 size-le-mag (pos n) = omega arith

@@ -2,11 +2,11 @@
 -- Assumes nothing.
 use Prim.Native.Nat.{ℕ, ◌≤◌, ◌<◌, ◌+◌, ◌-◌}
 use mathlib.Core.Path.{◌≡◌, sym}
-use mathlib.Core.Logic.{⊎_elim}
 use native.Mathlib.Omega.{arith}
 use borrow.Author.Tests.{le-leb, lt-leb}
 use Rattle.laws.specs.Law78.{imps_for_size}
 use Rattle.score.proofs.Scale.{reached_from, from_first, from_end, from_next}
+use Rattle.score.proofs.ends_reached.Goals.{then-lower_end-size, else-lower_end-size}
 use Rattle.score.proofs.ends_reached.Goals as goal
 
 pub loop-i-init : goal.loop-i-init
@@ -30,10 +30,10 @@ loop-i-preserved c =
     let size = c.args.size in
     let next = from_next size l.i (omega arith) in
     let end = c.lower_end.ensures in
-    ⊎_elim
-    (λ w. (omega arith, omega arith, omega (arith, rw (← end, le-leb _ _ w.0.taken) at next)))
-    (λ w. (omega arith, omega arith, omega (arith, rw (← end, lt-leb _ _ w.0.left) at next)))
-    c.if-lower_end-size.branch
+    elim c.if-lower_end-size.branch [
+      then-lower_end-size w ↦ (omega arith, omega arith, omega (arith, rw (← end, le-leb _ _ w.if-lower_end-size.true) at next))
+      | else-lower_end-size w ↦ (omega arith, omega arith, omega (arith, rw (← end, lt-leb _ _ w.if-lower_end-size.false) at next))
+    ]
 
 pub returns : goal.returns
 returns c =

@@ -15,15 +15,6 @@ sum : (c : Start)
 sum c =
     rw (widened c.args.a c.ranges.a, widened c.args.b c.ranges.b) (to_z-of_z (sum_fits c.args.a c.args.b c.ranges.a c.ranges.b))
 
-pub overflow_cast-sum : goal.overflow_cast-sum
-overflow_cast-sum c = rw (to_z-of_z c.ranges.a) (sfits_widen tt c.ranges.a)
-
-pub overflow_cast-sum-2 : goal.overflow_cast-sum-2
-overflow_cast-sum-2 c = rw (to_z-of_z c.ranges.b) (sfits_widen tt c.ranges.b)
-
-pub overflow_add-sum : goal.overflow_add-sum
-overflow_add-sum c = rw (widened c.args.a c.ranges.a, widened c.args.b c.ranges.b) (sum_fits c.args.a c.args.b c.ranges.a c.ranges.b)
-
 pub returns-then-sum-ltminus2147483648 : goal.returns-then-sum-ltminus2147483648
 unfolding imps_added
 returns-then-sum-ltminus2147483648 c = rw (too_low (c.args.a +ℤ c.args.b) (rw (sum c.before) at c.if-sum-ltminus2147483648.true))
