@@ -7,7 +7,9 @@ import os
 import re
 import sys
 
-crate, names_file, *only = sys.argv[1:]
+crate, names_file, *only = [word for word in sys.argv[1:] if not word.startswith("--")]
+# --inline=F:PLACE,PLACE: the facts of a helper at such a place are written where they are used
+INLINE = {word[9:].split(":")[0]: word.split(":", 1)[1].split(",") for word in sys.argv[1:] if word.startswith("--inline=")}
 NAMES = json.load(open(names_file))
 ROOT = f"crates/{crate}/proofs"
 WORD = r"[A-Za-zμκ][\w'ℕℤ-]*"
@@ -28,6 +30,53 @@ def balanced_end(text, start):
             if depth == 0:
                 return k + 1
     return len(text)
+
+
+def parts_of(text):
+    """The parts of a tuple, or None."""
+    text = text.strip()
+    if not text.startswith("(") or balanced_end(text, 0) != len(text):
+        return None
+    inner, depth, parts, at = text[1:-1], 0, [], 0
+    for k, letter in enumerate(inner):
+        if letter in "([{":
+            depth += 1
+        elif letter in ")]}":
+            depth -= 1
+        elif letter == "," and depth == 0:
+            parts.append(inner[at:k].strip())
+            at = k + 1
+    parts.append(inner[at:].strip())
+    parts = [p for p in parts if p]
+    return parts if len(parts) > 1 else None
+
+
+def as_record(text, fields):
+    """An answer that gave a tuple, as a record of the clauses."""
+    if not fields or len(fields) < 2:
+        return text
+    # behind the lets
+    head, rest = "", text.strip()
+    while rest.startswith("let "):
+        end = Function.let_end(None, rest, 4)
+        head += rest[:end] + "in\n    "
+        rest = rest[end:].strip()[2:].strip()
+    if re.match(r"(rw|simp|elim|by_test|subst)\b", rest) or rest.startswith("λ"):
+        return f"{head}LOOK {rest}"
+    got = parts_of(rest)
+    while got and len(got) == 2 and len(fields) > 2 and parts_of(got[1]):
+        inner = parts_of(got[1])
+        got = [got[0], *inner]
+    if got and len(got) == len(fields):
+        return head + "record { " + "; ".join(f"{f} = {p}" for f, p in zip(fields, got)) + " }"
+    paths = [".0"] if len(fields) == 2 else []
+    paths = [".1" * k + ".0" for k in range(len(fields) - 1)] + [".1" * (len(fields) - 1)]
+    return head + "record { " + "; ".join(f"{f} = ({rest}){p}" for f, p in zip(fields, paths)) + " }"
+
+
+class Tuple:
+    def __init__(self, path, fields):
+        self.path, self.fields = path, fields
 
 
 class Function:
@@ -54,6 +103,12 @@ class Function:
         for (pair, variables), changed in zip(info["loops"], info["changed"]):
             self.loops[canon(pair[0])] = (pair[1], variables, changed)
         self.args = [(a.replace(" ", ""), b.replace(" ", "")) for a, b in info["args"]]
+        self.bodies = {}  # name -> (parameter, type, term), of what is written where it is used
+        self.clauses = {}
+        for (old, parent, (sold, snew), callee, fields), clause in zip(info["places"], info["clauses"]):
+            if clause and sold:
+                self.clauses[snew] = clause["fields"]
+        self.pre = info["pre"]
         self.helpers = {}  # name -> (new place of its first argument, new place of the result or None)
 
     def new_place(self, old):
@@ -74,6 +129,14 @@ class Function:
             if canon(old) == n:
                 return new, place
         return None, None
+
+    def asked(self, new, *olds):
+        """The clauses that a goal asks for, where they are more than one."""
+        asked = self.info["asked"]
+        for (old, now) in self.info["needs"]:
+            if now == new and old in asked:
+                return asked[old]
+        return asked.get(new)
 
     # ---- terms
     def projections(self, path, place=None):
@@ -103,6 +166,8 @@ class Function:
                 k += 2
                 continue
             found = self.step_of.get(canon(s)) or (self.step_of.get(canon(s[:-4])) if s.endswith("_lem") else None)
+            if not found and s.startswith("is_Is"):
+                found = self.step_of.get("is" + re.sub("([A-Z])", lambda w: "_" + w.group(1).lower(), s[5:]))
             if found:
                 if len(found) > 1:
                     # the one on the way to the place
@@ -120,10 +185,42 @@ class Function:
                         f = self.raw[(snew, f)]
                     out.append(f)
                     k += 1
+                    if f == "ensures" and snew in self.clauses:
+                        field, k = self.field(segs, k, self.clauses[snew])
+                        if field is None:
+                            return Tuple("".join("." + s for s in out), self.clauses[snew])
+                        out.append(field)
                 continue
+            if s in ("requires", "pre") and isinstance(self.pre, (list, dict)) and not out:
+                fields = self.pre if isinstance(self.pre, list) else self.pre.get("fields", [])
+                if len(fields) > 1:
+                    out.append("requires")
+                    field, k = self.field(segs, k + 1, fields)
+                    if field is None:
+                        return Tuple(".requires", fields)
+                    out.append(field)
+                    continue
             out.append({"inv": "invariant", "pre": "requires"}.get(s, s))
             k += 1
         return "".join("." + s for s in out)
+
+    def field(self, segs, k, fields):
+        """The clause that `.0`, `.1.0`, .. stand for, and where the path goes on."""
+        at = 0
+        while at < len(fields) - 1:
+            if k >= len(segs) or segs[k] not in ("0", "1"):
+                return None, k
+            if segs[k] == "0":
+                return fields[at], k + 1
+            at += 1
+            k += 1
+        return fields[at], k
+
+    def read_of(self, expr, got):
+        """A path behind a term; all clauses of a contract as a tuple."""
+        if isinstance(got, Tuple):
+            return "(" + ", ".join(f"{expr}{got.path}.{f}" for f in got.fields) + ")"
+        return expr + got
 
     def term(self, text, root, place):
         """A term in which `root` is the known facts at a place."""
@@ -168,7 +265,9 @@ class Function:
                         target = None
                         if h and h.group(1) in self.helpers:
                             target = self.helpers[h.group(1)][0]
-                        if target is not None:
+                        if h and h.group(1) in self.bodies:
+                            out[:] = [before[: h.start()] + self.written_out(h.group(1), expr)]
+                        elif target is not None:
                             n = self.chain(at, target)
                             if n is None:
                                 self.said.append(f"{h.group(1)} at {at}: not below {target}")
@@ -179,7 +278,7 @@ class Function:
                             out.append(self.parens(expr))
                         k = m.end()
                         continue
-                    out.append(self.parens(expr, True) + self.projections(rest, at))
+                    out.append(self.read_of(self.parens(expr, True), self.projections(rest, at)))
                     k = m.end()
                     continue
                 if head in self.helpers and "." not in word:
@@ -202,15 +301,25 @@ class Function:
                         before = "".join(out)
                         h = re.search(rf"({WORD})\s*$", before)
                         target = self.helpers[h.group(1)][0] if h and h.group(1) in self.helpers else None
-                        n = self.chain(at, target) if target else 0
-                        out.append(self.parens(expr) + ".before" * (n or 0))
+                        if h and h.group(1) in self.bodies:
+                            out[:] = [before[: h.start()] + self.written_out(h.group(1), self.parens(expr))]
+                        else:
+                            n = self.chain(at, target) if target else 0
+                            out.append(self.parens(expr) + ".before" * (n or 0))
                     else:
-                        out.append(self.parens(expr, True) + self.projections(tail, at))
+                        out.append(self.read_of(self.parens(expr, True), self.projections(tail, at)))
                     k = end + len(tail)
                     continue
             out.append(text[k])
             k += 1
         return "".join(out)
+
+    def written_out(self, name, expr):
+        parameter, kind, value = self.bodies[name]
+        put = lambda text: re.sub(rf"(?<![\w'.-]){re.escape(parameter)}(?![\w'-])", lambda w: expr, text)
+        if re.match(r"\(?(omega|search|grind|simp|cc)\b", value.strip()):
+            return f"(let h : {put(kind).strip()} = {put(value).strip()} in h)"
+        return f"({put(value).strip()})"
 
     def parens(self, expr, tight=False):
         return f"({expr})" if " " in expr else expr
@@ -384,7 +493,7 @@ def turn(folder, info):
             new, place = fn.need(need.group(1))
             if new is None:
                 new, place = fn.need(name)
-            clause = re.search(rf"^{re.escape(name)} (\S+)((?: \S+)*) =\s*(.*)", body, re.M | re.S)
+            clause = re.search(rf"^{re.escape(name)} (\S+)((?: [^\s=]+)*) =\s*(.*)", body, re.M | re.S)
             if not clause:
                 fn.said.append(f"{name}: no clause")
                 continue
@@ -398,6 +507,7 @@ def turn(folder, info):
             unfold = re.search(r"^unfolding .*$", body, re.M)
             more = [w for w in more.split() if w != "κs"]
             got = fn.term(value, root, place)
+            got = as_record(got, fn.asked(new, need.group(1), name))
             answers.append(f"{note}pub {new} : goal.{new}\n" + (unfold.group(0) + "\n" if unfold else "") + f"{new} {root}{''.join(' ' + w for w in more)} =" + ("\n    " if "\n" in got.strip() else " ") + got.strip())
             continue
         # a helper
@@ -420,6 +530,11 @@ def turn(folder, info):
                     fn.said.append(f"{name}: {place[1]} is not above {place[0]}")
             else:
                 value = fn.term(value, root, place[0])
+            if name in fn.helpers and place[0] in INLINE.get(folder, []) and not place[1] and len(params) == 1:
+                kind = re.sub(r"\nunfolding .*", "", sig_text)
+                kind = kind.split("→", 1)[1] if "→" in kind else kind
+                fn.bodies[name] = (params[0], kind, value)
+                continue
             answers.append(note + decl + sig_text + name + "".join(" " + p for p in params) + " =" + value)
         else:
             answers.append(piece)

@@ -1,4 +1,6 @@
 // Decimal numbers read from bytes, and boards and scores as scripts say them: a number beyond the type still reaches the call, which refuses it.
+#![tactic(auto)]
+
 ghost use Rattle.std.specs.Prelude.{◌≡◌, ◌-◌, ◌≤◌};
 ghost use Rattle.decimal.specs.Numbers.{number_on};
 ghost use Rattle.decimal.specs.Scores.{board_in, plus_in, minus_in, score_on};

@@ -1,5 +1,7 @@
 // Law 77: what a contract scores, in all and item by item. A record's judgement and its explanation alone stand on it: no program and no call from C scores a
 // contract by itself.
+#![tactic(auto)]
+
 mod law77;
 
 pub use law77::{

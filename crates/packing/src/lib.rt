@@ -1,4 +1,6 @@
 // Bit fields written one after the other over the front of a lent buffer, the most significant bit first, by whole bytes.
+#![tactic(auto)]
+
 ghost use Rattle.std.specs.Prelude.{◌≡◌, ◌+◌, ◌-◌, ◌^◌, ◌≤◌, ◌<◌, min, length, set};
 ghost use Rattle.std.proofs.lemmas.List.Edits.{sets};
 ghost use Rattle.laws.specs.Record.{field, row, bytes_of};

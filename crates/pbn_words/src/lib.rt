@@ -1,4 +1,6 @@
 // The words and the lines of Portable Bridge Notation: the words of calls and cards, the lines of words, and the lines of tags with a board or a seat.
+#![tactic(auto)]
+
 mod board;
 mod rows;
 mod tags;

@@ -1,4 +1,6 @@
 // A line of a script as its bytes come, and how many lines were whole before it.
+#![tactic(auto)]
+
 ghost use Rattle.std.specs.Prelude.{◌≡◌};
 ghost use Rattle.script_line.specs.Lines.{first_line, with_byte, next_number, next_line};
 

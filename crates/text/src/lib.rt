@@ -1,4 +1,6 @@
 // Texts put into bytes: at a place, as far as there is room, and to lent bytes, whole or not at all. Each put answers the place after what it put.
+#![tactic(auto)]
+
 ghost use Rattle.std.specs.Prelude.{◌≡◌, [], ◌∷◌, ◌%◌, ◌≤◌, ◌^◌, nat_abs, length};
 ghost use Rattle.laws.specs.Decimal.{digit, decimal, signed_decimal};
 ghost use Rattle.laws.specs.Sheet.{refusal};

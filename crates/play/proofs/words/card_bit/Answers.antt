@@ -1,0 +1,12 @@
+-- `play::words::card_bit` meets its contract: nothing is shifted out. Assumes nothing.
+use Prim.Native.Nat.{◌^◌, ◌<◌}
+use native.Mathlib.Nat.{mod-eq_of_lt, one-mul}
+use native.Mathlib.Omega.{arith}
+use lib.Pow.{pow-lt}
+use borrow.Author.Rules.{rules}
+use Rattle.play.proofs.words.card_bit.Goals as goal
+
+pub returns : goal.returns
+returns c =
+    let below : c.args.card < 64 = omega arith in
+    rw (one-mul (2 ^ c.args.card)) (mod-eq_of_lt (pow-lt below))

@@ -1,0 +1,7 @@
+-- `text::put_field` meets its contract. Assumes nothing.
+use borrow.Author.Rules.{rules}
+use Rattle.text.proofs.Puts.{then}
+use Rattle.text.proofs.put_field.Goals as goal
+
+pub returns : goal.returns
+returns c = then c.put_byte-next.ensures c.put_decimal.ensures

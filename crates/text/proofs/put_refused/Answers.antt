@@ -1,0 +1,9 @@
+-- `text::put_refused` meets its contract. Assumes nothing.
+use Rattle.text.proofs.Puts.{then}
+use borrow.Author.Rules.{rules}
+use Rattle.text.proofs.put_refused.Goals as goal
+
+pub returns : goal.returns
+returns c =
+    then (then c.put_bytes-number.ensures
+    c.put_decimal-end.ensures) c.put_byte.ensures
