@@ -109,6 +109,14 @@ class Function:
             if clause and sold:
                 self.clauses[snew] = clause["fields"]
         self.pre = info["pre"]
+        # what a step of an arm is called in the arm: old step -> [(path, arm, field)]
+        self.arms = {}
+        for arm in info["arms"]:
+            if arm:
+                for field, step, path in arm[2]:
+                    row = (path, arm[0], field)
+                    if row not in self.arms.setdefault(canon(step), []):
+                        self.arms[canon(step)].append(row)
         self.helpers = {}  # name -> (new place of its first argument, new place of the result or None)
 
     def new_place(self, old):
@@ -164,6 +172,13 @@ class Function:
                         segs[k + 1] = b.split(".")[-1]
                 out += ["ranges", segs[k + 1]]
                 k += 2
+                continue
+            rows = self.arms.get(canon(s)) or (self.arms.get(canon(s[:-4]), []) if s.endswith("_lem") else [])
+            rows = [r for r in rows if r[0] and segs[k + 1:k + 1 + len(r[0])] == r[0]]
+            if rows:
+                path, arm, field = max(rows, key=lambda r: len(r[0]))
+                out += [arm, field]
+                k += 1 + len(path)
                 continue
             found = self.step_of.get(canon(s)) or (self.step_of.get(canon(s[:-4])) if s.endswith("_lem") else None)
             if not found and s.startswith("is_Is"):

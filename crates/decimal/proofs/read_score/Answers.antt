@@ -12,28 +12,21 @@ use Rattle.decimal.proofs.read_score.Goals as goal
 pub returns-then-bytes-eq0 : goal.returns-then-bytes-eq0
 returns-then-bytes-eq0 c = no_bytes_lem _ c.if-bytes-eq0.true
 
--- the first byte is a minus, or is none
-signed : (c : Then-bytes-eq45) → starts_with minus c.args.bytes.now ≡ true
-signed c = starts_minus _ c.if-bytes-eq0.false c.if-bytes-eq45.true
-
-unsigned : (c : Else-bytes-eq45) → starts_with minus c.args.bytes.now ≡ false
-unsigned c = starts_other _ c.if-bytes-eq45.false
-
 pub returns-in_default : goal.returns-in_default
 returns-in_default c =
     let s = c.args.bytes.now in
-    minus-none s (signed c.before.before.before.before) (no_number_lem _ _ (c.read_number.ensures ∙ ap number_on (rest-is 1 s)) c.enum_told-1.given.1)
+    minus-none s ((starts_minus _ c.if-bytes-eq0.false c.if-bytes-eq45.true)) (no_number_lem _ _ (c.read_number.ensures ∙ ap number_on (rest-is 1 s)) c.in_default.is)
 
 pub returns-then-bytes-eq45 : goal.returns-then-bytes-eq45
 returns-then-bytes-eq45 c =
     let s = c.args.bytes.now in
     held-minus _ _ c.minus_in.ensures
-    ∙ minus-some s _ (signed c.before.before.before.before.before.before) (is-number _ _ _ (c.read_number.ensures ∙ ap number_on (rest-is 1 s)) c.n-1.given.1)
+    ∙ minus-some s _ ((starts_minus _ c.if-bytes-eq0.false c.if-bytes-eq45.true)) (is-number _ _ _ (c.read_number.ensures ∙ ap number_on (rest-is 1 s)) c.in-Is.is)
 
 pub returns-in_default-read_number : goal.returns-in_default-read_number
-returns-in_default-read_number c = plus_none _ (unsigned c.before.before.before) (no_number_lem _ _ c.read_number-2.ensures c.enum_told-in_default-read_number-1.given.1)
+returns-in_default-read_number c = plus_none _ ((starts_other _ c.if-bytes-eq45.false)) (no_number_lem _ _ c.read_number-2.ensures c.in_default-read_number.is)
 
 pub returns : goal.returns
 returns c =
     held_plus _ _ c.plus_in.ensures
-    ∙ plus_some _ _ (unsigned c.before.before.before.before.before) (is-number _ _ _ c.read_number-2.ensures c.n-in-Is-read_number-2-1.given.1)
+    ∙ plus_some _ _ ((starts_other _ c.if-bytes-eq45.false)) (is-number _ _ _ c.read_number-2.ensures c.in-Is-read_number.is)
