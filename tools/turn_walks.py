@@ -205,7 +205,8 @@ class Function:
                         if field is None:
                             return Tuple("".join("." + s for s in out), self.clauses[snew])
                         out.append(field)
-                continue
+                out += segs[k:]
+                break
             if s in ("requires", "pre") and isinstance(self.pre, (list, dict)) and not out:
                 fields = self.pre if isinstance(self.pre, list) else self.pre.get("fields", [])
                 if len(fields) > 1:
@@ -555,6 +556,11 @@ def turn(folder, info):
             answers.append(piece)
     goals = f"use {module}.Goals as goal"
     given = f"use {module}.Given as goal"
+    out = "\n\n".join(a.rstrip() for a in answers)
+    for a, b in fn.args:
+        if a.startswith(".args."):
+            answers = [re.sub(rf"\.{a[6:]}(?![\w'])", "." + b[6:], x) for x in answers]
+            invariants = [re.sub(rf"\.{a[6:]}(?![\w'])", "." + b[6:], x) for x in invariants]
     out = "\n\n".join(a.rstrip() for a in answers)
     out = raws(out)
     if fn.named:

@@ -1,4 +1,6 @@
 // The line of the Deal tag in Portable Bridge Notation, read as the holders of the 52 cards.
+#![tactic(auto)]
+
 mod deal;
 mod deal_line;
 mod walk;

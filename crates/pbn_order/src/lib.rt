@@ -1,4 +1,6 @@
 // The order in which cards were played that are listed in columns.
+#![tactic(auto)]
+
 mod order;
 
 pub use order::{Cards, order_of_play};

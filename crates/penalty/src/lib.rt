@@ -1,5 +1,7 @@
 // Penalty cards and lead choices, an event of the play at a time: by value, stepping and returning itself.
 // Cards, hands and suits are sets of cards: a word with a bit for each of the 52 cards.
+#![tactic(auto)]
+
 mod words;
 
 ghost use Rattle.std.specs.Prelude.{◌≡◌};

@@ -1,7 +1,7 @@
 -- Law 44's winning card and winner of a trick, one card at a time: the card that wins so far, and one more card.
 -- A trick is written latest card first. Assumes nothing.
 use Prim.Native.Nat.{ℕ, max}
-use mathlib.Core.Path.{◌≡◌, refl, sym, ◌∙◌, subst}
+use mathlib.Core.Path.{◌≡◌, refl, sym, ap, ◌∙◌, subst}
 use mathlib.Core.Bool.{Bool, true, false}
 use mathlib.Core.Logic.{◌⊎◌, inl, inr}
 use mathlib.Core.List.{List, [], ◌∷◌}
@@ -149,10 +149,14 @@ module _ (trump d : ℕ) (t : List ℕ) where
         ≡ (if beats_of trump (winning_card trump (d ∷ t)) c then clockwise leader (cards_played (d ∷ t)) else winner trump leader (d ∷ t))
     unfolding winner player_of
     winner-more leader absent =
-        rw winning_more (by_test (beats_of trump (winning_card trump (d ∷ t)) c)
-        (λ (q : beats_of trump (winning_card trump (d ∷ t)) c ≡ true). rw (q, eq-eqb c c refl))
+        by_test (beats_of trump (winning_card trump (d ∷ t)) c)
+        (λ (q : beats_of trump (winning_card trump (d ∷ t)) c ≡ true).
+        let e : winning_card trump (c ∷ d ∷ t) ≡ c = winning_more ∙ rw q in
+        ap (λ (w : ℕ). player_of leader w (c ∷ d ∷ t)) e ∙ rw (q, eq-eqb c c refl))
         (λ (q : beats_of trump (winning_card trump (d ∷ t)) c ≡ false).
-        rw (q, ne_eqb c (winning_card trump (d ∷ t)) (λ h. not_both (is_played (d ∷ t) c) (rw h winning_played) absent))))
+        let e : winning_card trump (c ∷ d ∷ t) ≡ winning_card trump (d ∷ t) = winning_more ∙ rw q in
+        ap (λ (w : ℕ). player_of leader w (c ∷ d ∷ t)) e
+        ∙ rw (q, ne_eqb c (winning_card trump (d ∷ t)) (λ h. not_both (is_played (d ∷ t) c) (rw h winning_played) absent)))
 
 -- the first card wins so far, and its player
 pub winning_first : (trump c : ℕ) → winning_card trump (c ∷ []) ≡ c
