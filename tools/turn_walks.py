@@ -181,6 +181,8 @@ class Function:
                 k += 1 + len(path)
                 continue
             found = self.step_of.get(canon(s)) or (self.step_of.get(canon(s[:-4])) if s.endswith("_lem") else None)
+            if not found and s[:1].isupper():
+                found = self.step_of.get(canon(s).lower())
             if not found and s.startswith("is_Is"):
                 found = self.step_of.get("is" + re.sub("([A-Z])", lambda w: "_" + w.group(1).lower(), s[5:]))
             if found:
@@ -333,7 +335,7 @@ class Function:
     def written_out(self, name, expr):
         parameter, kind, value = self.bodies[name]
         put = lambda text: re.sub(rf"(?<![\w'.-]){re.escape(parameter)}(?![\w'-])", lambda w: expr, text)
-        if re.match(r"\(?(omega|search|grind|simp|cc)\b", value.strip()):
+        if re.match(r"\(?(omega|search|grind|simp|cc)\b|λ", value.strip()):
             return f"(let h : {put(kind).strip()} = {put(value).strip()} in h)"
         return f"({put(value).strip()})"
 
@@ -546,9 +548,11 @@ def turn(folder, info):
                     fn.said.append(f"{name}: {place[1]} is not above {place[0]}")
             else:
                 value = fn.term(value, root, place[0])
-            if name in fn.helpers and place[0] in INLINE.get(folder, []) and not place[1] and len(params) == 1:
+            if name in fn.helpers and place[0] in INLINE.get(folder, []) and not place[1]:
                 kind = re.sub(r"\nunfolding .*", "", sig_text)
                 kind = kind.split("→", 1)[1] if "→" in kind else kind
+                if len(params) > 1:
+                    value = f"λ {' '.join(params[1:])}. {value.strip()}"
                 fn.bodies[name] = (params[0], kind, value)
                 continue
             answers.append(note + decl + sig_text + name + "".join(" " + p for p in params) + " =" + value)

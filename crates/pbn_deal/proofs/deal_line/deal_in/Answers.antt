@@ -11,41 +11,33 @@ use borrow.Author.Rules.{rules}
 use Rattle.pbn_deal.proofs.deal_line.deal_in.Goals.{After-held_by-held, After-narrow-first}
 use Rattle.pbn_deal.proofs.deal_line.deal_in.Goals as goal
 
--- the seat and the holders are those that the line says
-first-is : (n : After-narrow-first) → n.narrow-first.result ≡ first_in n.args.line.now
-first-is n = n.narrow-first.ensures ∙ n.place_among.ensures.0
-
-first-low : (n : After-narrow-first) → (n.narrow-first.result ≡ 4 → ⊥) → n.narrow-first.result < 4
-first-low n other = omega (arith, n.narrow-first.ensures, n.place_among.ensures.1)
-
-holders_are : (h : After-held_by-held) → h.held_by-held.result.holders-1
-    ≡ holders_in h.args.line.now
-holders_are h =
-    h.held_by-held.ensures
-    ∙ ap₂ (λ f hands. held_by (replicate 52 no_seat) f spades hands) (first-is h.before.before.before)
-    (hands_cut h.args.line.now _ refl h.if-line-lt11.false)
-
 pub returns-then-line-lt11 : goal.returns-then-line-lt11
 returns-then-line-lt11 c = c.no_deal.ensures ∙ too_short _ c.if-line-lt11.true
 
 pub returns-then-first-eq4 : goal.returns-then-first-eq4
-returns-then-first-eq4 c = c.no_deal-then-first-eq4.ensures ∙ no_seat_lem _ (sym (first-is c.before.before) ∙ c.if-first-eq4.true)
+returns-then-first-eq4 c = c.no_deal-then-first-eq4.ensures ∙ no_seat_lem _ (sym ((c.narrow-first.ensures ∙ c.place_among.ensures.0)) ∙ c.if-first-eq4.true)
 
 pub returns-then-not-all_held : goal.returns-then-not-all_held
 returns-then-not-all_held c =
     c.no_deal-then-not-all_held.ensures
-    ∙ not-held _ _ _ (first-is c.before.before.before.before.before.before.before) (holders_are c.before.before.before.before) (first-low c.before.before.before.before.before.before.before c.if-first-eq4.false)
+    ∙ not-held _ _ _ ((c.narrow-first.ensures ∙ c.place_among.ensures.0)) ((c.held_by-held.ensures
+    ∙ ap₂ (λ f hands. held_by (replicate 52 no_seat) f spades hands) ((c.narrow-first.ensures ∙ c.place_among.ensures.0))
+    (hands_cut c.args.line.now _ refl c.if-line-lt11.false))) ((let h : (c.narrow-first.result ≡ 4 → ⊥) → c.narrow-first.result < 4 = λ other. omega (arith, c.narrow-first.ensures, c.place_among.ensures.1) in h) c.if-first-eq4.false)
     (sym c.all_held.ensures ∙ c.if-not-all_held.true)
 
 pub returns-then-not-is_deal_line : goal.returns-then-not-is_deal_line
 returns-then-not-is_deal_line c =
     c.no_deal-then-not-is_deal_line.ensures
-    ∙ not_line _ _ _ (first-is c.before.before.before.before.before.before.before.before.before) (holders_are c.before.before.before.before.before.before) (first-low c.before.before.before.before.before.before.before.before.before c.if-first-eq4.false)
+    ∙ not_line _ _ _ ((c.narrow-first.ensures ∙ c.place_among.ensures.0)) ((c.held_by-held.ensures
+    ∙ ap₂ (λ f hands. held_by (replicate 52 no_seat) f spades hands) ((c.narrow-first.ensures ∙ c.place_among.ensures.0))
+    (hands_cut c.args.line.now _ refl c.if-line-lt11.false))) ((let h : (c.narrow-first.result ≡ 4 → ⊥) → c.narrow-first.result < 4 = λ other. omega (arith, c.narrow-first.ensures, c.place_among.ensures.1) in h) c.if-first-eq4.false)
     (sym c.all_held.ensures ∙ c.if-not-all_held.false)
     (sym c.is_deal_line.ensures ∙ c.if-not-is_deal_line.true)
 
 pub returns : goal.returns
 returns c =
-    is-line _ _ _ (first-is c.before.before.before.before.before.before.before.before) (holders_are c.before.before.before.before.before) (first-low c.before.before.before.before.before.before.before.before c.if-first-eq4.false)
+    is-line _ _ _ ((c.narrow-first.ensures ∙ c.place_among.ensures.0)) ((c.held_by-held.ensures
+    ∙ ap₂ (λ f hands. held_by (replicate 52 no_seat) f spades hands) ((c.narrow-first.ensures ∙ c.place_among.ensures.0))
+    (hands_cut c.args.line.now _ refl c.if-line-lt11.false))) ((let h : (c.narrow-first.result ≡ 4 → ⊥) → c.narrow-first.result < 4 = λ other. omega (arith, c.narrow-first.ensures, c.place_among.ensures.1) in h) c.if-first-eq4.false)
     (sym c.all_held.ensures ∙ c.if-not-all_held.false)
     (sym c.is_deal_line.ensures ∙ c.if-not-is_deal_line.false)

@@ -39,7 +39,7 @@ pub loop-rank-preserved-then-holders-suit : goal.loop-rank-preserved-then-holder
 loop-rank-preserved-then-holders-suit c =
     let l = c.loop-rank in
     let a = c.args in
-    let held = held_rank a.t3 l.invariant.1 a.seat a.suit c.requires l.rank _ c.loop-rank-test.true l.invariant.0
+    let held = held_rank a.holders l.invariant.1 a.seat a.suit c.requires l.rank _ c.loop-rank-test.true l.invariant.0
     c.if-holders-suit.true c.rank_letter.ensures in (
       omega arith,
       l.invariant.1,
@@ -53,7 +53,7 @@ pub loop-rank-preserved : goal.loop-rank-preserved
 loop-rank-preserved c =
     let l = c.loop-rank in
     let a = c.args in
-    let other = other_rank a.t3 l.invariant.1 a.seat a.suit c.requires l.rank c.loop-rank-test.true
+    let other = other_rank a.holders l.invariant.1 a.seat a.suit c.requires l.rank c.loop-rank-test.true
     l.invariant.0 c.if-holders-suit.false in
     (omega arith, l.invariant.1, λ t. l.invariant.2 t ∙ ap (λ s. follows a.line.now l.w.same l.w.at (s ++ t)) other)
 
@@ -61,4 +61,4 @@ pub returns : goal.returns
 returns c t =
     let l = c.loop-rank in
     let a = c.args in
-    l.invariant.2 t ∙ ap (follows a.line.now l.w.same l.w.at) (no_rank a.t3 a.seat a.suit l.rank t c.loop-rank-test.false)
+    l.invariant.2 t ∙ ap (follows a.line.now l.w.same l.w.at) (no_rank a.holders a.seat a.suit l.rank t c.loop-rank-test.false)
