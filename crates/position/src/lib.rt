@@ -1,4 +1,6 @@
 // The position of the play with its penalty cards, and the revokes as they are listed.
+#![tactic(auto)]
+
 mod listed;
 mod table;
 

@@ -5,7 +5,7 @@ use Rattle.found.proofs.found.Found.with_lead.Goals as goal
 
 pub returns-then-lead : goal.returns-then-lead
 unfolding with_lead
-returns-then-lead c = simp (c.if-lead.true, c.Named-by.ensures.0)
+returns-then-lead c = simp (c.if-lead.true, c.named_by.ensures.0)
 
 pub returns : goal.returns
 unfolding with_lead
