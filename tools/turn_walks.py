@@ -162,9 +162,8 @@ class Function:
                 for a, b in self.args:
                     if a == key:
                         segs[k + 1] = b.split(".")[-1]
-                out += ["args", segs[k + 1]]
-                k += 2
-                continue
+                out += ["args", *segs[k + 1:]]
+                break
             if s == "ranges" and k + 1 < len(segs):
                 key = f".ranges.{segs[k + 1]}"
                 for a, b in self.args:
@@ -481,28 +480,30 @@ def turn(folder, info):
                 fn.said.append(f"{name}: no loop")
             new = f"{kind}-{found[0]}" if found else "decreases"
             table = {}
+            # the loop's variables go by a name that the invariant does not bind itself
+            var = next(v for v in ("l", "s", "at", "turn") if not re.search(rf"(?<![\w'.-]){v}(?![\w'-])", value))
             if found:
                 _, variables, changed = found
                 for p in params:
                     base = p.rstrip("₀")
                     if p.endswith("₀"):
-                        table[p] = f"l.initial.{base}"
+                        table[p] = f"{var}.initial.{base}"
                     else:
-                        table[p] = f"l.{p}"
+                        table[p] = f"{var}.{p}"
                     if base not in variables:
                         # by place: those that do not change, then first values, then values
                         fixed = [v for v, c in zip(variables, changed) if not c]
                         moving = [v for v, c in zip(variables, changed) if c]
-                        order = [f"l.{v}" for v in fixed] + [f"l.initial.{v}" for v in moving] + [f"l.{v}" for v in moving]
+                        order = [f"{var}.{v}" for v in fixed] + [f"{var}.initial.{v}" for v in moving] + [f"{var}.{v}" for v in moving]
                         if len(order) == len(params):
                             table[p] = order[params.index(p)]
                         else:
                             fn.said.append(f"{name}: parameter {p} of {variables}")
             else:
                 for p in params:
-                    table[p] = f"l.{p}"
+                    table[p] = f"{var}.{p}"
             value = re.sub(rf"(?<![\w'.-])({WORD}₀?)(?![\w'₀-])", lambda w: table.get(w.group(1), w.group(1)), value)
-            invariants.append(f"{note}abbrev pub {new} : goal.{new}\n{new} l = {value}" if "\n" not in value.strip() else f"{note}abbrev pub {new} : goal.{new}\n{new} l =\n    {value}")
+            invariants.append(f"{note}abbrev pub {new} : goal.{new}\n{new} {var} = {value}" if "\n" not in value.strip() else f"{note}abbrev pub {new} : goal.{new}\n{new} {var} =\n    {value}")
             continue
         if re.search(r":\s*\{M : Type 1\} → statement", body):
             continue

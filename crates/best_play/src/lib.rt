@@ -1,4 +1,6 @@
 // What best play would give from a position: two functions that call each other on alternating sides' turns, with one card fewer each time.
+#![tactic(auto)]
+
 ghost use Rattle.std.specs.Prelude.{◌≡◌, ◌-◌, ◌≤◌};
 ghost use Rattle.best_play.specs.Search.{within, may_in, gain_in, ours_in, most_in, least_in, best_in};
 

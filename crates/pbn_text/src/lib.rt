@@ -1,4 +1,6 @@
 // A text of Portable Bridge Notation, read line by line.
+#![tactic(auto)]
+
 mod game;
 mod lines;
 mod numbers;
