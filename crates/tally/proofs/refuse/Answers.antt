@@ -2,16 +2,11 @@
 use Prim.Native.Nat.{ℕ}
 use mathlib.Core.List.{[]}
 use mathlib.Core.Path.{◌≡◌, refl, ap, ◌∙◌}
-use borrow.Author.Rules.{rules}
 use Rattle.laws.specs.Tally.{no_deal}
 use Rattle.tally.specs.declared.Tally.{Tally}
 use Rattle.tally.specs.declared.Tallied.{Tallied}
 use Rattle.tally.specs.Tallies.{tally_for, tally_of, no_tally}
-use Rattle.tally.proofs.refuse.Statement.{statement}
-use Rattle.tally.proofs.refuse.Tie as tie
-
-empty-requires : tie.Need-empty-requires
-empty-requires c κs = search rules
+use Rattle.tally.proofs.refuse.Goals as goal
 
 beside : ℕ → ℕ → Tally → Tallied
 beside n place t = record { refusal = n; place = place; tally = t }
@@ -20,9 +15,6 @@ none_is : tally_for 0 no_deal [] ≡ no_tally
 unfolding tally_of
 none_is = refl
 
-returns : tie.Need-returns
+pub returns : goal.returns
 unfolding beside
-returns c = let a = c.before.args in ap (beside a.refusal a.place) (c.empty.ensures ∙ none_is)
-
-pub refuse-spec : {M : Type 1} → statement M
-refuse-spec = tie.close (tie.spec empty-requires returns)
+returns c = let a = c.args in ap (beside a.refusal a.place) (c.empty-none.ensures ∙ none_is)

@@ -3,12 +3,8 @@ use mathlib.Core.Path.{refl}
 use Rattle.laws.specs.Padded.{padded}
 use Rattle.tally.specs.Entries.{entries_of}
 use Rattle.tally.specs.Tallies.{tally_with, tally_for}
-use Rattle.tally.proofs.empty.Statement.{statement}
-use Rattle.tally.proofs.empty.Tie as tie
+use Rattle.tally.proofs.empty.Goals as goal
 
-returns : tie.Need-returns
+pub returns : goal.returns
 unfolding tally_for tally_with entries_of padded
 returns c = refl
-
-pub empty-spec : {M : Type 1} → statement M
-empty-spec = tie.close (tie.spec returns)
