@@ -240,6 +240,7 @@ class Function:
     def term(self, text, root, place):
         """A term in which `root` is the known facts at a place."""
         env = {root: (root, place)} if root else {}
+        self.argued = {}
         out = []
         k = 0
         path_re = re.compile(rf"{WORD}(?:\.[\w'-]+)*")
@@ -252,6 +253,11 @@ class Function:
                 end = self.let_end(text, start)
                 bound = text[start:end].strip()
                 got = self.place_expr(bound, env)
+                argued = re.fullmatch(rf"({WORD})(?:\.before)*\.(args|ranges)", bound)
+                if argued and argued.group(1) in env:
+                    self.argued[m.group(1)] = argued.group(2)
+                else:
+                    self.argued.pop(m.group(1), None)
                 if got is not None:
                     env[m.group(1)] = got
                     k = end
@@ -300,6 +306,12 @@ class Function:
                     out.append(word)
                     k = m.end()
                     continue
+                if head in self.argued and "." in word:
+                    segs = word.split(".")
+                    for a, b in self.args:
+                        if a == f".{self.argued[head]}.{segs[1]}":
+                            segs[1] = b.split(".")[-1]
+                    word = ".".join(segs)
                 out.append(word)
                 k = m.end()
                 continue
