@@ -9,6 +9,8 @@ import sys
 
 crate, names_file, *only = [word for word in sys.argv[1:] if not word.startswith("--")]
 # --inline=F:PLACE,PLACE: the facts of a helper at such a place are written where they are used
+# --inline=F:all: those of every helper of one place, and a helper that only leads from one place to another is read as the place where it is used, since what is
+# known at a place is known after it by the same name
 INLINE = {word[9:].split(":")[0]: word.split(":", 1)[1].split(",") for word in sys.argv[1:] if word.startswith("--inline=")}
 NAMES = json.load(open(names_file))
 ROOT = f"crates/{crate}/proofs"
@@ -82,6 +84,7 @@ class Tuple:
 class Function:
     def __init__(self, path, info):
         self.path, self.info = path, info
+        self.all_inline = INLINE.get(path) == ["all"]
         self.said = []
         self.named = set()
         olds = [p[0] for p in info["places"]]
@@ -306,6 +309,8 @@ class Function:
                     out.append(word)
                     k = m.end()
                     continue
+                if ".inv" in word and head not in self.helpers:
+                    word = re.sub(r"\.inv(?![\w'-])", ".invariant", word)
                 if head in self.argued and "." in word:
                     segs = word.split(".")
                     for a, b in self.args:
@@ -386,6 +391,8 @@ class Function:
             got = self.place_expr(arg[: len(arg) - len(tail)] if arg.startswith("(") else arg, env)
             if got is None:
                 return None
+            if self.all_inline:
+                return got
             expr, at = got
             target, result = self.helpers[m.group(1)]
             n = self.chain(at, target)
@@ -434,7 +441,9 @@ def blocks(text):
 def raws(text):
     """A test that is a call, or its negation: the fact in its plain form."""
     text = re.sub(r"not-true _ (\S+?)\.true-raw", r"\1.true", text)
-    return re.sub(r"not-false _ (\S+?)\.false-raw", r"\1.false", text)
+    text = re.sub(r"not-false _ (\S+?)\.false-raw", r"\1.false", text)
+    # the code of a signed variable
+    return re.sub(r"(\bto_z w\d+ (?:l|c\.loop-[\w-]+)\.\w+)(?![\w.'-])", r"\1-bits", text)
 
 
 def turn(folder, info):
@@ -511,6 +520,8 @@ def turn(folder, info):
                 for p in params:
                     table[p] = f"l.{p}"
             value = re.sub(rf"(?<![\w'.-])({WORD}₀?)(?![\w'₀-])", lambda w: table.get(w.group(1), w.group(1)), value)
+            # a signed variable is read as a number now
+            value = re.sub(r"\(to_z w\d+ (l(?:\.initial)?\.\w+)\)|\bto_z w\d+ (l(?:\.initial)?\.\w+)(?![\w.'-])", lambda w: w.group(1) or w.group(2), value)
             invariants.append(f"{note}abbrev pub {new} : goal.{new}\n{new} l = {value}" if "\n" not in value.strip() else f"{note}abbrev pub {new} : goal.{new}\n{new} l =\n    {value}")
             continue
         if re.search(r":\s*\{M : Type 1\} → statement", body):
@@ -557,7 +568,9 @@ def turn(folder, info):
                     fn.said.append(f"{name}: {place[1]} is not above {place[0]}")
             else:
                 value = fn.term(value, root, place[0])
-            if name in fn.helpers and place[0] in INLINE.get(folder, []) and not place[1] and len(params) == 1:
+            if fn.all_inline and name in fn.helpers and place[1]:
+                continue
+            if name in fn.helpers and (fn.all_inline or place[0] in INLINE.get(folder, [])) and not place[1] and len(params) == 1:
                 kind = re.sub(r"\nunfolding .*", "", sig_text)
                 kind = kind.split("→", 1)[1] if "→" in kind else kind
                 fn.bodies[name] = (params[0], kind, value)
