@@ -9,6 +9,8 @@ import sys
 
 crate, names_file, *only = [word for word in sys.argv[1:] if not word.startswith("--")]
 # --inline=F:PLACE,PLACE: the facts of a helper at such a place are written where they are used
+# --inline=F:all: those of every helper of one place, and a helper that only leads from one place to another is read as the place where it is used, since what is
+# known at a place is known after it by the same name
 INLINE = {word[9:].split(":")[0]: word.split(":", 1)[1].split(",") for word in sys.argv[1:] if word.startswith("--inline=")}
 NAMES = json.load(open(names_file))
 ROOT = f"crates/{crate}/proofs"
@@ -82,6 +84,7 @@ class Tuple:
 class Function:
     def __init__(self, path, info):
         self.path, self.info = path, info
+        self.all_inline = INLINE.get(path) == ["all"]
         self.said = []
         self.named = set()
         olds = [p[0] for p in info["places"]]
@@ -242,6 +245,7 @@ class Function:
     def term(self, text, root, place):
         """A term in which `root` is the known facts at a place."""
         env = {root: (root, place)} if root else {}
+        self.argued = {}
         out = []
         k = 0
         path_re = re.compile(rf"{WORD}(?:\.[\w'-]+)*")
@@ -254,6 +258,11 @@ class Function:
                 end = self.let_end(text, start)
                 bound = text[start:end].strip()
                 got = self.place_expr(bound, env)
+                argued = re.fullmatch(rf"({WORD})(?:\.before)*\.(args|ranges)", bound)
+                if argued and argued.group(1) in env:
+                    self.argued[m.group(1)] = argued.group(2)
+                else:
+                    self.argued.pop(m.group(1), None)
                 if got is not None:
                     env[m.group(1)] = got
                     k = end
@@ -302,6 +311,14 @@ class Function:
                     out.append(word)
                     k = m.end()
                     continue
+                if ".inv" in word and head not in self.helpers:
+                    word = re.sub(r"\.inv(?![\w'-])", ".invariant", word)
+                if head in self.argued and "." in word:
+                    segs = word.split(".")
+                    for a, b in self.args:
+                        if a == f".{self.argued[head]}.{segs[1]}":
+                            segs[1] = b.split(".")[-1]
+                    word = ".".join(segs)
                 out.append(word)
                 k = m.end()
                 continue
@@ -376,6 +393,8 @@ class Function:
             got = self.place_expr(arg[: len(arg) - len(tail)] if arg.startswith("(") else arg, env)
             if got is None:
                 return None
+            if self.all_inline:
+                return got
             expr, at = got
             target, result = self.helpers[m.group(1)]
             n = self.chain(at, target)
@@ -424,7 +443,9 @@ def blocks(text):
 def raws(text):
     """A test that is a call, or its negation: the fact in its plain form."""
     text = re.sub(r"not-true _ (\S+?)\.true-raw", r"\1.true", text)
-    return re.sub(r"not-false _ (\S+?)\.false-raw", r"\1.false", text)
+    text = re.sub(r"not-false _ (\S+?)\.false-raw", r"\1.false", text)
+    # the code of a signed variable
+    return re.sub(r"(\bto_z w\d+ (?:l|c\.loop-[\w-]+)\.\w+)(?![\w.'-])", r"\1-bits", text)
 
 
 def turn(folder, info):
@@ -503,6 +524,8 @@ def turn(folder, info):
                 for p in params:
                     table[p] = f"{var}.{p}"
             value = re.sub(rf"(?<![\w'.-])({WORD}₀?)(?![\w'₀-])", lambda w: table.get(w.group(1), w.group(1)), value)
+            # a signed variable is read as a number now
+            value = re.sub(rf"\(to_z w\d+ ({var}(?:\.initial)?\.\w+)\)|\bto_z w\d+ ({var}(?:\.initial)?\.\w+)(?![\w.'-])", lambda w: w.group(1) or w.group(2), value)
             invariants.append(f"{note}abbrev pub {new} : goal.{new}\n{new} {var} = {value}" if "\n" not in value.strip() else f"{note}abbrev pub {new} : goal.{new}\n{new} {var} =\n    {value}")
             continue
         if re.search(r":\s*\{M : Type 1\} → statement", body):
@@ -549,7 +572,9 @@ def turn(folder, info):
                     fn.said.append(f"{name}: {place[1]} is not above {place[0]}")
             else:
                 value = fn.term(value, root, place[0])
-            if name in fn.helpers and place[0] in INLINE.get(folder, []) and not place[1]:
+            if fn.all_inline and name in fn.helpers and place[1]:
+                continue
+            if name in fn.helpers and (fn.all_inline or place[0] in INLINE.get(folder, [])) and not place[1]:
                 kind = re.sub(r"\nunfolding .*", "", sig_text)
                 kind = kind.split("→", 1)[1] if "→" in kind else kind
                 if len(params) > 1:

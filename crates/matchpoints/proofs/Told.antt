@@ -1,7 +1,7 @@
 -- What an answer to a result stands for determines the answer. Assumes nothing.
 use Prim.Native.Nat.{ℕ}
 use mathlib.Core.Path.{◌≡◌, ap₂}
-use Rattle.laws.specs.Refusals.{Placed, refused_at, given}
+use Rattle.laws.specs.Refusals.{given}
 use Rattle.laws.specs.Law78.{Points as BothSides}
 use Rattle.matchpoints.specs.declared.points.MatchpointAnswer.{MatchpointAnswer}
 use Rattle.matchpoints.specs.declared.points.MatchpointAnswer.TheVariants.{Refused, Points}

@@ -1,4 +1,6 @@
 // The matchpoints of a result in a tally.
+#![tactic(auto)]
+
 mod points;
 
 pub use points::{MatchpointAnswer, matchpoints};

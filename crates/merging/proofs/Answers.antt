@@ -7,14 +7,13 @@ use mathlib.Core.List.{List, [], ◌∷◌, ◌++◌}
 use lib.IntN.{ℤ}
 use lib.ListN.{length}
 use Rattle.laws.specs.Refusals.{fouled_board}
-use Rattle.laws.specs.Tally.{Result, fouled, leaves, Refusal, refusal, refusal_if, ◌or_else◌, fouled_refusal, boards_refusal, room_refusal, given_refusal}
+use Rattle.laws.specs.Tally.{Result, leaves, Refusal, refusal, refusal_if, fouled_refusal, boards_refusal, room_refusal, given_refusal}
 use Rattle.laws.specs.Tally.{fresh_refusal, add_refusal, merge_refusal, AllValid}
 use Rattle.laws.specs.Padded.{padded}
 use Rattle.laws.proofs.TallyRules.{length_on, given-allowed, add-allowed, merge-allowed}
 use Rattle.tally.specs.declared.refusals.Held.{Held}
 use Rattle.tally.specs.declared.Size.{Size}
 use Rattle.tally.specs.declared.Tally.{Tally}
-use Rattle.tally.specs.declared.Tallied.{Tallied}
 use Rattle.tally.specs.Entries.{entries, expand, enter, entries_of}
 use Rattle.tally.specs.Tallies.{tally_with, tally_for, tally_of, entries_in, scores_in, results_in, well_formed}
 use Rattle.tally.specs.Tallies.{refused_with, accepting, answer_of, add_of, merge_of}

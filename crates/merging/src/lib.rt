@@ -1,4 +1,6 @@
 // Two tallies joined in one pass over both; a result added to a tally, and two tallies merged. Every call checks every tally it is given.
+#![tactic(auto)]
+
 mod calls;
 
 ghost use Rattle.std.specs.Prelude.{◌≡◌, ◌++◌, ◌+◌, ◌≤◌};

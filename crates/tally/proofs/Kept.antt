@@ -1,16 +1,16 @@
 -- Results of two deals put together: the deal that is kept, and what the whole is. Assumes nothing.
 use Prim.Native.Nat.{ℕ, zero, suc, ◌≤◌, ◌+◌}
 use native.Mathlib.Omega.{arith}
-use mathlib.Core.Path.{◌≡◌, refl, sym, ap, ap₂, ◌∙◌}
+use mathlib.Core.Path.{◌≡◌, refl, sym, ap, ◌∙◌}
 use mathlib.Core.Bool.{Bool, true, false, not, ◌&&◌}
 use mathlib.Core.List.{List, [], ◌∷◌, ◌++◌}
-use borrow.Author.Tests.{eq-eqb, ne_eqb, not-false}
+use borrow.Author.Tests.{ne_eqb, not-false}
 use lib.Dec.{eqb}
 use lib.IntN.{ℤ}
 use lib.ListN.{length, length-append}
-use Rattle.laws.specs.Tally.{Result, on_deal, same_deal, fouled, no_deal, deal_refusal, add_refusal, merge_refusal, AllValid}
+use Rattle.laws.specs.Tally.{Result, on_deal, same_deal, fouled, add_refusal, AllValid}
 use Rattle.laws.proofs.Tests.{by_test}
-use Rattle.laws.proofs.TallyRules.{same-deal, deal_turned, on_append, length_on, fouled_on, none-fouled, given-allowed, add-allowed, merge-allowed}
+use Rattle.laws.proofs.TallyRules.{same-deal, deal_turned, on_append, length_on, fouled_on, none-fouled, given-allowed, add-allowed}
 use Rattle.tally.specs.Tallies.{carries}
 use Rattle.tally.specs.Steps.{kept_deal}
 use Rattle.tally.proofs.Lists.{valid_append}

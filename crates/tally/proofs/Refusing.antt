@@ -1,8 +1,8 @@
 -- The refusals of a call, as the code finds them one by one. Assumes nothing.
-use Prim.Native.Nat.{ℕ, zero, suc, ◌≤◌, ◌<◌, ◌+◌}
+use Prim.Native.Nat.{ℕ, ◌≤◌, ◌<◌}
 use native.Mathlib.Omega.{arith}
-use mathlib.Core.Path.{◌≡◌, refl, sym, ap, ap₂, ◌∙◌}
-use mathlib.Core.Bool.{Bool, true, false}
+use mathlib.Core.Path.{◌≡◌, refl, ap, ap₂, ◌∙◌}
+use mathlib.Core.Bool.{true, false}
 use mathlib.Core.List.{List, [], ◌∷◌}
 use borrow.Author.Tests.{eq-eqb, ne_eqb, eqb-false, lt-ltb, le-ltb, ltb-false}
 use lib.Dec.{ltb, eqb}
@@ -11,7 +11,7 @@ use lib.ListN.{length}
 use Rattle.laws.specs.Contents.{take_deal}
 use Rattle.laws.specs.Reading.{Reading, Reading.refused, Reading.found}
 use Rattle.laws.specs.Refusals.{fouled_board}
-use Rattle.laws.specs.Tally.{Result, on_deal, fouled, Refusal, refusal_if, ◌or_else◌, refusal_in, deal_refusal, score_refusal, fouled_refusal, given_refusal}
+use Rattle.laws.specs.Tally.{Result, on_deal, Refusal, refusal_if, ◌or_else◌, refusal_in, deal_refusal, score_refusal, fouled_refusal, given_refusal}
 use Rattle.laws.specs.Tally.{fresh_refusal}
 use Rattle.laws.proofs.Tests.{by_test}
 use Rattle.laws.proofs.TallyRules.{or_by, deal-read, fouled_on}

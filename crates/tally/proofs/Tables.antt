@@ -1,32 +1,29 @@
 -- The tables of the sheets by the entries of a tally, one after the other. Assumes nothing.
-use Prim.Native.Nat.{ℕ, zero, suc, ◌+◌, ◌-◌, ◌*◌, ◌≤◌, ◌<◌}
+use Prim.Native.Nat.{ℕ, ◌+◌, ◌*◌, ◌≤◌}
 use native.Mathlib.Omega.{arith}
 use mathlib.Core.Path.{◌≡◌, refl, sym, ap, ◌∙◌}
 use mathlib.Core.Bool.{Bool, true, false}
-use mathlib.Core.List.{List, [], ◌∷◌, ◌++◌, map}
-use borrow.Author.Tests.{eqb-true, eqb-false, ne_eqb}
+use mathlib.Core.List.{List, [], ◌∷◌, map}
+use borrow.Author.Tests.{eqb-true, eqb-false}
 use lib.Dec.{eqb}
 use lib.IntN.{ℤ}
 use lib.ListN.{length}
 use lib.Signed.{lt_z}
-use Rattle.laws.specs.Choice.{if◌then◌else◌, how_many}
+use Rattle.laws.specs.Choice.{how_many}
 use Rattle.laws.specs.Law77.{valid_score}
-use Rattle.laws.specs.Law78.{same_score, occurrences, comparisons, others, ns_matchpoints, ew_matchpoints, matchpoints}
-use Rattle.laws.specs.Refusals.{answered}
+use Rattle.laws.specs.Law78.{same_score, occurrences, comparisons, others, ns_matchpoints, ew_matchpoints}
 use Rattle.laws.specs.CellSheet.{share, cell_row, cell_table}
 use Rattle.laws.specs.Percentages.{most_matchpoints}
 use Rattle.laws.specs.Sheet.{insert, distinct, row, rows, table}
-use Rattle.laws.specs.Tally.{AllValid}
 use Rattle.laws.proofs.Comparisons.{lower, ns-counts}
 use Rattle.laws.proofs.Scores.{Order, less, same, more, order, below_trans, not_below_self, is_self}
 use Rattle.laws.proofs.Tests.{by_test, not_both}
 use Rattle.tally.specs.declared.Entry.{Entry}
-use Rattle.tally.specs.declared.Tally.{Tally}
 use Rattle.tally.specs.Entries.{score, count, enter, entries_of}
-use Rattle.tally.specs.Tallies.{tally_for, entries_in, scores_in, well_formed, ceiling}
+use Rattle.tally.specs.Tallies.{tally_for, entries_in, scores_in}
 use Rattle.tally.proofs.Ordered.{in_entries, count_of, Ordered, some_at}
 use Rattle.tally.proofs.Lists.{in_expand, in_list}
-use Rattle.tally.proofs.Formed.{formed, entries-tally, length-tally}
+use Rattle.tally.proofs.Formed.{entries-tally, length-tally}
 use Rattle.tally.proofs.OfLists.{Sound}
 
 -- ---- the distinct scores are those of the entries

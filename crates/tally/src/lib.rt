@@ -1,4 +1,6 @@
 // Tallies of one board: what they are, which are well formed, and fresh ones. `refusals` has the refusals of the calls on them, one by one.
+#![tactic(auto)]
+
 mod refusals;
 
 ghost use Rattle.std.specs.Prelude.{◌≡◌, true, false, [], ◌≤◌, eqb, pos, length, drop};

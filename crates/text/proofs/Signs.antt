@@ -52,7 +52,7 @@ module _ {w : Width} {z : ℤ} (to-32 : T (leb (hbits w) (hbits w32))) (to-64 : 
   wide = rw (to_z-of_z f) (sfits_widen to-64 f)
 
   pub widened : to_z w64 (of_z w64 (to_z w (of_z w z))) ≡ z
-  widened = ap (λ (y : ℤ). to_z w64 (of_z w64 y)) (to_z-of_z f) ∙ to_z-of_z (sfits_widen to-64 f)
+  widened = ap (λ (y : ℤ). to_z w64 (of_z w64 y)) (to_z-of_z {w = w} f) ∙ to_z-of_z {w = w64} (sfits_widen {w = w} {w' = w64} {z = z} to-64 f)
 
   pub small : nat_abs z ≤ 2 ^ 31
   small = small_32 z (sfits_widen to-32 f)

@@ -7,7 +7,7 @@ use lib.IntN.{ℤ, pos, negsuc}
 use lib.ListN.{length, length-append}
 use mir.Syntax.{w16}
 use mir.Val.{SFits}
-use Rattle.laws.specs.Decimal.{decimal, signed_decimal}
+use Rattle.laws.specs.Decimal.{signed_decimal}
 use Rattle.laws.specs.Sheet.{newline}
 use Rattle.laws.specs.Slip.{line, refusal_line}
 use Rattle.text.specs.Putting.{Put}

@@ -1,7 +1,6 @@
 -- `text::place_after` meets its contract. Assumes nothing.
 use native.Mathlib.Omega.{arith}
 use mathlib.Core.Path.{sym}
-use borrow.Author.Rules.{rules}
 use Rattle.text.proofs.Puts.{place-within, place-last}
 use Rattle.text.proofs.place_after.Goals as goal
 

@@ -1,18 +1,12 @@
 -- `text::put_bytes` meets its contract. The loop's invariant: the first `i` bytes are put, as far as there is room. Assumes nothing.
-use Prim.Native.Nat.{◌+◌, ◌-◌, ◌≤◌}
 use native.Mathlib.Omega.{arith}
-use mathlib.Core.Path.{◌≡◌, refl, ◌∙◌}
-use borrow.Author.Rules.{rules}
-use lib.ListN.{length, take, length-set}
-use lib.Seq.{sets}
+use mathlib.Core.Path.{refl, ◌∙◌}
+use lib.ListN.{length-set}
 use Rattle.text.proofs.Puts.{put_one, put_rest, whole-text}
 use Rattle.text.proofs.put_bytes.Goals as goal
 
 pub loop-i-init : goal.loop-i-init
 loop-i-init c = (omega arith, omega arith, refl, refl)
-
-pub shape_of-out-then-room-to : goal.shape_of-out-then-room-to
-shape_of-out-then-room-to c = c.loop-i.invariant.2
 
 pub returns-then-room-to : goal.returns-then-room-to
 returns-then-room-to c =
@@ -43,9 +37,6 @@ loop-i-preserved c =
     let l = c.loop-i in
     let i = l.invariant in
     (omega arith, omega arith, simp length-set i.2, rw (i.1, i.3) (put_one _ _ _ _ c.loop-i-test.true))
-
-pub shape_of-out : goal.shape_of-out
-shape_of-out c = c.loop-i.invariant.2
 
 pub returns : goal.returns
 returns c =

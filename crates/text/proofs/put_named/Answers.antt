@@ -1,6 +1,5 @@
 -- `text::put_named` meets its contract. Assumes nothing.
 use mir.Facts.{to_z-of_z}
-use borrow.Author.Rules.{rules}
 use Rattle.text.proofs.SingleLines.{named_put}
 use Rattle.text.proofs.put_named.Goals as goal
 

@@ -1,7 +1,6 @@
 -- `text::put_pair` meets its contract. Assumes nothing.
 use Rattle.laws.specs.Slip.{refusal_line}
 use Rattle.text.proofs.Puts.{then}
-use borrow.Author.Rules.{rules}
 use Rattle.text.proofs.put_pair.Goals as goal
 
 pub returns : goal.returns

@@ -1,5 +1,4 @@
 -- `text::put_refusal` meets its contract. Assumes nothing.
-use borrow.Author.Rules.{rules}
 use Rattle.laws.specs.Sheet.{refusal}
 use Rattle.text.proofs.Puts.{then}
 use Rattle.text.proofs.put_refusal.Goals as goal

@@ -1,6 +1,5 @@
 -- `text::put_score` meets its contract. Assumes nothing.
 use Rattle.text.proofs.Signs.{wide, widened, small}
-use borrow.Author.Rules.{rules}
 use Rattle.text.proofs.put_score.Goals as goal
 
 pub overflow_cast-score : goal.overflow_cast-score

@@ -1,6 +1,5 @@
 -- `text::put_signed` meets its contract. Assumes nothing.
 use Rattle.text.proofs.Signs.{wide, widened, small}
-use borrow.Author.Rules.{rules}
 use Rattle.text.proofs.put_signed.Goals as goal
 
 pub overflow_cast-n : goal.overflow_cast-n

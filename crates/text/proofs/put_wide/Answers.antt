@@ -1,35 +1,25 @@
 -- `text::put_wide` meets its contract. Assumes nothing.
 use native.Mathlib.Omega.{arith}
 use Rattle.text.proofs.Puts.{then}
-use Rattle.text.proofs.Signs.{Minus, Plus, below-zero, from_zero}
-use borrow.Author.Rules.{rules}
+use Rattle.text.proofs.Signs.{below-zero, from_zero}
 use Rattle.text.proofs.put_wide.Goals.{Else-n-lt0, Then-n-lt0}
 use Rattle.text.proofs.put_wide.Goals as goal
 
--- the number, by its sign
-lost : (c : Then-n-lt0) → Minus c.args.n
-lost c =
-    below-zero c.args.n c.ranges.n c.requires c.if-n-lt0.true
-
-gained : (c : Else-n-lt0) → Plus c.args.n
-gained c =
-    from_zero c.args.n c.ranges.n c.if-n-lt0.false
-
 pub overflow_sub-n : goal.overflow_sub-n
-overflow_sub-n c = (lost c.before.before.before.before.before).fits
+overflow_sub-n c = ((below-zero c.args.n c.ranges.n c.requires c.if-n-lt0.true)).fits
 
 pub overflow_cast-n : goal.overflow_cast-n
-overflow_cast-n c = rw (lost c.before.before.before.before.before).size (tt, record { fits = omega (arith, c.requires) })
+overflow_cast-n c = rw ((below-zero c.args.n c.ranges.n c.requires c.if-n-lt0.true)).size (tt, record { fits = omega (arith, c.requires) })
 
 pub returns-then-n-lt0 : goal.returns-then-n-lt0
 returns-then-n-lt0 c =
-    let m = lost c.before.before.before.before.before.before.before.before in
+    let m = (below-zero c.args.n c.ranges.n c.requires c.if-n-lt0.true) in
     rw m.text (then c.put_byte-next.ensures (rw m.size at c.put_decimal.ensures))
 
 pub overflow_cast-n-2 : goal.overflow_cast-n-2
-overflow_cast-n-2 c = rw (gained c.before).size (tt, record { fits = omega (arith, c.requires) })
+overflow_cast-n-2 c = rw ((from_zero c.args.n c.ranges.n c.if-n-lt0.false)).size (tt, record { fits = omega (arith, c.requires) })
 
 pub returns : goal.returns
 returns c =
-    let m = gained c.before.before.before.before in
+    let m = (from_zero c.args.n c.ranges.n c.if-n-lt0.false) in
     rw m.text (rw m.size at c.put_decimal-2.ensures)

@@ -18,4 +18,7 @@ pub returns : goal.returns
 returns c =
     let a = c.args in
     let short = pair_short a.a a.b (search rules) (search rules) in
-    rw (← taken _ _ _ _ c.put_pair-n.ensures short) c.lend.ensures
+    record {
+      answer = rw (← taken _ _ _ _ c.put_pair-n.ensures short) c.lend.ensures.answer;
+      bytes = rw (← taken _ _ _ _ c.put_pair-n.ensures short) c.lend.ensures.bytes;
+    }

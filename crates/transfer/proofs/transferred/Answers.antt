@@ -1,0 +1,14 @@
+-- `transfer::transferred` meets its contract. Assumes nothing.
+use mathlib.Core.Path.{◌≡◌, refl, sym, ap, ◌∙◌}
+use borrow.Author.Rules.{rules}
+use Rattle.laws.specs.Law64.{transferred_tricks, dues}
+use Rattle.transfer.specs.Inputs.{transferred_in, total_from, earlier}
+use Rattle.transfer.proofs.transferred.Goals as goal
+
+pub returns-then-both_revoked : goal.returns-then-both_revoked
+unfolding transferred_in transferred_tricks
+returns-then-both_revoked c = rw (sym c.both_revoked.ensures ∙ c.if-both_revoked.true)
+
+pub returns : goal.returns
+unfolding transferred_in transferred_tricks total_from earlier
+returns c = rw (sym c.both_revoked.ensures ∙ c.if-both_revoked.false) c.total.ensures
