@@ -200,6 +200,8 @@ class Function:
                 if k < len(segs):
                     f = segs[k]
                     f = {"inv": "invariant", "pre": "requires"}.get(f, f)
+                    if snew.startswith(("if", "loop")):
+                        f = {"taken": "true", "left": "false"}.get(f, f)
                     if (snew, f) in self.raw:
                         f = self.raw[(snew, f)]
                     out.append(f)
@@ -351,7 +353,7 @@ class Function:
     def written_out(self, name, expr):
         parameter, kind, value = self.bodies[name]
         put = lambda text: re.sub(rf"(?<![\w'.-]){re.escape(parameter)}(?![\w'-])", lambda w: expr, text)
-        if re.match(r"\(?(omega|search|grind|simp|cc)\b|λ", value.strip()):
+        if re.match(r"\(?(omega|search|grind|simp|cc|rw)\b|λ", value.strip()) or re.search(r"(?<![\w'-])_(?![\w'-])", value):
             return f"(let h : {put(kind).strip()} = {put(value).strip()} in h)"
         return f"({put(value).strip()})"
 

@@ -1,4 +1,6 @@
 // A record's contents, given as plain numbers, checked in the judge's order.
+#![tactic(auto)]
+
 mod calls;
 mod plays;
 mod runs;

@@ -1,4 +1,6 @@
 // Law 64: the tricks that change sides for the revokes of a board, counted from the last revoke to the first.
+#![tactic(auto)]
+
 ghost use Rattle.std.specs.Prelude.{◌≡◌, List, ℕ, ◌<◌, ◌-◌, min, get_or, drop};
 ghost use Rattle.laws.specs.Cards.{no_seat, side_of};
 ghost use Rattle.laws.specs.Law44.{tricks_won};
