@@ -353,7 +353,7 @@ class Function:
     def written_out(self, name, expr):
         parameter, kind, value = self.bodies[name]
         put = lambda text: re.sub(rf"(?<![\w'.-]){re.escape(parameter)}(?![\w'-])", lambda w: expr, text)
-        if re.match(r"\(?(omega|search|grind|simp|cc|rw)\b|λ", value.strip()) or re.search(r"(?<![\w'-])_(?![\w'-])", value):
+        if re.search(r"(?<![\w'-])(omega|search|grind|simp|cc|rw)(?![\w'-])", value) or value.strip().startswith("λ") or re.search(r"(?<![\w'-])_(?![\w'-])", value):
             return f"(let h : {put(kind).strip()} = {put(value).strip()} in h)"
         return f"({put(value).strip()})"
 

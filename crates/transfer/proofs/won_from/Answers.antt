@@ -8,10 +8,10 @@ use native.Mathlib.Omega.{arith}
 use borrow.Author.Rules.{rules}
 use borrow.Author.Tests.{eq-eqb, ne_eqb}
 use lib.ListN.{length, get_or, drop}
-use mathlib.Core.Logic.{⊎_elim}
 use native.Mathlib.Numerals.{add-one}
 use Rattle.laws.specs.Law44.{tricks_won}
 use Rattle.transfer.specs.Inputs.{winners_in}
+use Rattle.transfer.proofs.won_from.Goals.{then-won-side, else-won-side}
 use Rattle.transfer.proofs.won_from.Goals as goal
 
 pub loop-i-init : goal.loop-i-init
@@ -23,10 +23,10 @@ loop-i-preserved c =
     let ts = c.args.ts in
     let n : length ts.answers ≡ 13 = search (rules, length_under) in
     let next = won_at ts n c.args.side l.i (omega arith) in
-    ⊎_elim
-    (λ w. (l.invariant.0, omega arith, omega (arith, rw (eq-eqb (seat_at ts n l.i % 2) c.args.side w.0.taken) at next)))
-    (λ w. (l.invariant.0, omega arith, omega (arith, rw (ne_eqb (seat_at ts n l.i % 2) c.args.side w.0.left) at next)))
-    c.if-won-side.branch
+    elim c.if-won-side.branch [
+      then-won-side w ↦ (l.invariant.0, omega arith, omega (arith, rw (eq-eqb (seat_at ts n l.i % 2) c.args.side w.if-won-side.true) at next))
+      | else-won-side w ↦ (l.invariant.0, omega arith, omega (arith, rw (ne_eqb (seat_at ts n l.i % 2) c.args.side w.if-won-side.false) at next))
+    ]
 
 pub returns : goal.returns
 returns c =

@@ -34,15 +34,15 @@ ran c =
     (omega arith) (omega (arith, whole_is c)) (omega (arith, whole_is c))
 
 -- where it stopped there is a card to come, and the code there is whole
-module _ (c : tie.After-read-run) (z : c.read-run.result.refusal ≡ 0 → ⊥) where
-  within : c.read-run.result.place < (start_of c).args.count
-  within = omega (arith, ((ran c).stopped z).0, whole_is c)
+within : (c : tie.After-read-run) → (c.read-run.result.refusal ≡ 0 → ⊥) → c.read-run.result.place < (start_of c).args.count
+within c z = omega (arith, ((ran c).stopped z).0, whole_is c)
 
-  code_reads : (let r = c.read-run.result in read 6 (start_of c).args.bytes.now r.next ≡ found r.code (r.next + 6))
-  code_reads =
-      let a = (start_of c).args in
-      let inside = whole_in (length a.bytes.now) a.at a.count (whole_is c) c.read-run.result.place ((ran c).stopped z).0 in
-      read_is 6 _ _ (sym ((ran c).stopped z).1) (omega (arith, (ran c).there.along, inside))
+code_reads : (c : tie.After-read-run) → (c.read-run.result.refusal ≡ 0 → ⊥)
+    → (let r = c.read-run.result in read 6 (start_of c).args.bytes.now r.next ≡ found r.code (r.next + 6))
+code_reads c z =
+    let a = (start_of c).args in
+    let inside = whole_in (length a.bytes.now) a.at a.count (whole_is c) c.read-run.result.place ((ran c).stopped z).0 in
+    read_is 6 _ _ (sym ((ran c).stopped z).1) (omega (arith, (ran c).there.along, inside))
 
 whole-codes-requires : tie.Need-whole-codes-requires
 whole-codes-requires c κs = search rules

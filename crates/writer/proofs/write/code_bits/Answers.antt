@@ -1,0 +1,10 @@
+-- `code_bits` meets its contract. Assumes nothing.
+use native.Mathlib.Omega.{arith}
+use borrow.Author.Tests.{eq-eqb, ne_eqb}
+use Rattle.writer.proofs.write.code_bits.Goals as goal
+
+pub returns-then-code-eq52 : goal.returns-then-code-eq52
+returns-then-code-eq52 c = (rw (eq-eqb _ _ c.if-code-eq52.true), omega arith)
+
+pub returns-else-code-eq52 : goal.returns-else-code-eq52
+returns-else-code-eq52 c = (rw (ne_eqb _ _ c.if-code-eq52.false), omega arith)
