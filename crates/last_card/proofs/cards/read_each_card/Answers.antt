@@ -12,17 +12,6 @@ use Rattle.last_card.proofs.RunTurns.{Ran, run_is}
 use Rattle.last_card.proofs.cards.read_each_card.Goals.{After-read_run-run, Start}
 use Rattle.last_card.proofs.cards.read_each_card.Goals as goal
 
--- where it stopped there is a card to come, and the code there is whole
-module _ (c : tie.After-read-run) (z : c.read-run.result.refusal ≡ 0 → ⊥) where
-  within : c.read-run.result.place < (start_of c).args.count
-  within = omega (arith, ((ran c).stopped z).0, whole_is c)
-
-  code_reads : (let r = c.read-run.result in read 6 (start_of c).args.bytes.now r.next ≡ found r.code (r.next + 6))
-  code_reads =
-      let a = (start_of c).args in
-      let inside = whole_in (length a.bytes.now) a.at a.count (whole_is c) c.read-run.result.place ((ran c).stopped z).0 in
-      read_is 6 _ _ (sym ((ran c).stopped z).1) (omega (arith, (ran c).there.along, inside))
-
 pub read_run-run-requires : goal.read_run-run-requires
 read_run-run-requires c =
     let e = c.whole_codes-whole.ensures in
@@ -30,7 +19,11 @@ read_run-run-requires c =
 
 pub read_plays-requires : goal.read_plays-requires
 read_plays-requires c =
-    let n = within c c.if-run-ne0.true in
+    let n = (let h : (c.read_run-run.result.refusal ≡ 0 → ⊥) → c.read_run-run.result.place < c.args.count = λ z. omega (arith, (((let h : (let a = c.args in
+    Ran a.bytes.now a.deal a.trump a.opening a.at a.count c.read_run-run.result c.whole_codes-whole.result) = let a = c.args in
+    run_is a.bytes.now a.deal a.trump a.opening a.at a.count ((let h : length c.args.deal ≡ 52 = search rules in h)) _ _ c.read_run-run.ensures
+    (card-begins a.bytes.now a.deal a.trump a.opening a.at a.count (rw c.requires.3 at c.new-first.ensures))
+    (omega arith) (omega (arith, (c.whole_codes-whole.ensures))) (omega (arith, (c.whole_codes-whole.ensures))) in h)).stopped z).0, (c.whole_codes-whole.ensures)) in h) c.if-run-ne0.true in
     let along = ((let h : (let a = c.args in
     Ran a.bytes.now a.deal a.trump a.opening a.at a.count c.read_run-run.result c.whole_codes-whole.result) = let a = c.args in
     run_is a.bytes.now a.deal a.trump a.opening a.at a.count ((let h : length c.args.deal ≡ 52 = search rules in h)) _ _ c.read_run-run.ensures
@@ -40,7 +33,11 @@ read_plays-requires c =
 
 pub returns-then-begins_code : goal.returns-then-begins_code
 returns-then-begins_code c =
-    let n = within c c.if-run-ne0.true in
+    let n = (let h : (c.read_run-run.result.refusal ≡ 0 → ⊥) → c.read_run-run.result.place < c.args.count = λ z. omega (arith, (((let h : (let a = c.args in
+    Ran a.bytes.now a.deal a.trump a.opening a.at a.count c.read_run-run.result c.whole_codes-whole.result) = let a = c.args in
+    run_is a.bytes.now a.deal a.trump a.opening a.at a.count ((let h : length c.args.deal ≡ 52 = search rules in h)) _ _ c.read_run-run.ensures
+    (card-begins a.bytes.now a.deal a.trump a.opening a.at a.count (rw c.requires.3 at c.new-first.ensures))
+    (omega arith) (omega (arith, (c.whole_codes-whole.ensures))) (omega (arith, (c.whole_codes-whole.ensures))) in h)).stopped z).0, (c.whole_codes-whole.ensures)) in h) c.if-run-ne0.true in
     c.read_plays.ensures _ _ _ _ (of-cards _ _ _ _ _ _ ((let h : (let a = c.args in
     Ran a.bytes.now a.deal a.trump a.opening a.at a.count c.read_run-run.result c.whole_codes-whole.result) = let a = c.args in
     run_is a.bytes.now a.deal a.trump a.opening a.at a.count ((let h : length c.args.deal ≡ 52 = search rules in h)) _ _ c.read_run-run.ensures
@@ -68,7 +65,26 @@ returns-then-run-ne0 c =
     Ran a.bytes.now a.deal a.trump a.opening a.at a.count c.read_run-run.result c.whole_codes-whole.result) = let a = c.args in
     run_is a.bytes.now a.deal a.trump a.opening a.at a.count ((let h : length c.args.deal ≡ 52 = search rules in h)) _ _ c.read_run-run.ensures
     (card-begins a.bytes.now a.deal a.trump a.opening a.at a.count (rw c.requires.3 at c.new-first.ensures))
-    (omega arith) (omega (arith, (c.whole_codes-whole.ensures))) (omega (arith, (c.whole_codes-whole.ensures))) in h)).there (within c z) ((let h : length c.args.deal ≡ 52 = search rules in h)) (code_reads c z) (((let h : (let a = c.args in
+    (omega arith) (omega (arith, (c.whole_codes-whole.ensures))) (omega (arith, (c.whole_codes-whole.ensures))) in h)).there ((let h : (c.read_run-run.result.refusal ≡ 0 → ⊥) → c.read_run-run.result.place < c.args.count = λ z. omega (arith, (((let h : (let a = c.args in
+    Ran a.bytes.now a.deal a.trump a.opening a.at a.count c.read_run-run.result c.whole_codes-whole.result) = let a = c.args in
+    run_is a.bytes.now a.deal a.trump a.opening a.at a.count ((let h : length c.args.deal ≡ 52 = search rules in h)) _ _ c.read_run-run.ensures
+    (card-begins a.bytes.now a.deal a.trump a.opening a.at a.count (rw c.requires.3 at c.new-first.ensures))
+    (omega arith) (omega (arith, (c.whole_codes-whole.ensures))) (omega (arith, (c.whole_codes-whole.ensures))) in h)).stopped z).0, (c.whole_codes-whole.ensures)) in h) z) ((let h : length c.args.deal ≡ 52 = search rules in h)) ((let h : (c.read_run-run.result.refusal ≡ 0 → ⊥)
+    → (let r = c.read_run-run.result in read 6 c.args.bytes.now r.next ≡ found r.code (r.next + 6)) = λ z. let a = c.args in
+    let inside = whole_in (length a.bytes.now) a.at a.count ((c.whole_codes-whole.ensures)) c.read_run-run.result.place (((let h : (let a = c.args in
+    Ran a.bytes.now a.deal a.trump a.opening a.at a.count c.read_run-run.result c.whole_codes-whole.result) = let a = c.args in
+    run_is a.bytes.now a.deal a.trump a.opening a.at a.count ((let h : length c.args.deal ≡ 52 = search rules in h)) _ _ c.read_run-run.ensures
+    (card-begins a.bytes.now a.deal a.trump a.opening a.at a.count (rw c.requires.3 at c.new-first.ensures))
+    (omega arith) (omega (arith, (c.whole_codes-whole.ensures))) (omega (arith, (c.whole_codes-whole.ensures))) in h)).stopped z).0 in
+    read_is 6 _ _ (sym (((let h : (let a = c.args in
+    Ran a.bytes.now a.deal a.trump a.opening a.at a.count c.read_run-run.result c.whole_codes-whole.result) = let a = c.args in
+    run_is a.bytes.now a.deal a.trump a.opening a.at a.count ((let h : length c.args.deal ≡ 52 = search rules in h)) _ _ c.read_run-run.ensures
+    (card-begins a.bytes.now a.deal a.trump a.opening a.at a.count (rw c.requires.3 at c.new-first.ensures))
+    (omega arith) (omega (arith, (c.whole_codes-whole.ensures))) (omega (arith, (c.whole_codes-whole.ensures))) in h)).stopped z).1) (omega (arith, ((let h : (let a = c.args in
+    Ran a.bytes.now a.deal a.trump a.opening a.at a.count c.read_run-run.result c.whole_codes-whole.result) = let a = c.args in
+    run_is a.bytes.now a.deal a.trump a.opening a.at a.count ((let h : length c.args.deal ≡ 52 = search rules in h)) _ _ c.read_run-run.ensures
+    (card-begins a.bytes.now a.deal a.trump a.opening a.at a.count (rw c.requires.3 at c.new-first.ensures))
+    (omega arith) (omega (arith, (c.whole_codes-whole.ensures))) (omega (arith, (c.whole_codes-whole.ensures))) in h)).there.along, inside)) in h) z) (((let h : (let a = c.args in
     Ran a.bytes.now a.deal a.trump a.opening a.at a.count c.read_run-run.result c.whole_codes-whole.result) = let a = c.args in
     run_is a.bytes.now a.deal a.trump a.opening a.at a.count ((let h : length c.args.deal ≡ 52 = search rules in h)) _ _ c.read_run-run.ensures
     (card-begins a.bytes.now a.deal a.trump a.opening a.at a.count (rw c.requires.3 at c.new-first.ensures))
