@@ -199,7 +199,7 @@ class Function:
                 k += 1
                 if k < len(segs):
                     f = segs[k]
-                    f = {"inv": "invariant", "pre": "requires"}.get(f, f)
+                    f = {"inv": "invariant", "pre": "requires", "type-inv": "type_inv"}.get(f, f)
                     if snew.startswith(("if", "loop")):
                         f = {"taken": "true", "left": "false"}.get(f, f)
                     if (snew, f) in self.raw:

@@ -1,4 +1,6 @@
 // What best play would give from a table record, for C: the record is read up to its last card, and the tricks left that declarer's side takes are told.
+#![tactic(auto)]
+
 ghost use Rattle.std.specs.Prelude.{◌≡◌};
 ghost use Rattle.laws.specs.BestRecord.{best_of, best_number};
 ghost use Rattle.best_record.specs.Ending.{ending_at};

@@ -23,6 +23,10 @@ use Rattle.writer.specs.Fields.{events_in, code_fields, fields_of}
 use Rattle.contents.proofs.Items.{items_at, none_at, whole_code, whole-card, whole-behind}
 use Rattle.writer.proofs.Measuring.{fields-card, fields_code}
 
+-- two facts as one
+pub both : {A B : Type 0} → A → B → A × B
+both a b = (a, b)
+
 -- what a call that puts one field, or several, says of the packer and of the buffer
 abbrev One : Packer → List ℕ → Field → Packer → List ℕ → Type 0
 One p old f q left = (q ≡ packer_after (length old) p f) × (left ≡ bytes_after p f old)

@@ -1,4 +1,6 @@
 // A table record written from its contents, given as plain numbers: they are checked in the judge's order, and then written into a lent buffer.
+#![tactic(auto)]
+
 mod write;
 
 ghost use Rattle.std.specs.Prelude.{◌≡◌, length};

@@ -4,7 +4,7 @@ use mathlib.Core.Path.{◌≡◌, refl, sym, ap, ◌∙◌}
 use native.Mathlib.Omega.{arith}
 use borrow.Author.Rules.{rules}
 use lib.ListN.{length, get_or}
-use Rattle.writer.proofs.Writing.{Reached, plays_begin, plays-long, plays_end, plays-card, plays_code, plays-room}
+use Rattle.writer.proofs.Writing.{both, Reached, plays_begin, plays-long, plays_end, plays-card, plays_code, plays-room}
 use Rattle.writer.proofs.write.put_events.Goals.{After-begins_code, After-put_code-q, At-loop-i, Start, Then-begins_code}
 use Rattle.writer.proofs.write.put_events.Goals as goal
 
@@ -34,7 +34,7 @@ pub loop-i-preserved : goal.loop-i-preserved
 loop-i-preserved c =
     (
       plays-card _ _ _ c.loop-i.invariant.0 c.loop-i-test.true (sym c.begins_code.ensures ∙ c.if-begins_code.false)
-          (rw c.wide.ensures.0 at (c.put-q.ensures.packer, c.put-q.ensures.bytes)),
+          (rw c.wide.ensures.0 at (both c.put-q.ensures.packer c.put-q.ensures.bytes)),
       omega (arith, c.loop-i-test.true),
     )
 
