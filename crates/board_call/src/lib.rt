@@ -1,4 +1,6 @@
 // What Law 2 says of a board, for C: its dealer, and which sides are vulnerable.
+#![tactic(auto)]
+
 ghost use Rattle.std.specs.Prelude.{◌≡◌};
 ghost use Rattle.board_call.specs.Asked.{is_board, dealer_asked, vulnerable_asked};
 ghost use Rattle.deal.specs.Sides.{sides_of};
