@@ -1,4 +1,4 @@
-# `make` says what there is to do. What is built beside the proofs stands in build/, since `rt ci` removes target/; what each step printed, in build/log/.
+# `make` says what there is to do. What is built stands in build/, also what `rt` made of a crate, since `rt ci` clears crates/NAME/out; what each step printed, in build/log/.
 .PHONY: help test demo demo-proved install install-files bench fuzz fuzz-programs outside proved clean tools rt-tool FORCE
 ifndef V
 .SILENT:
@@ -15,20 +15,15 @@ help:
 	echo "make bench     the speed of the proved judge, writer and merges beside Rust's; 2 minutes once built"
 	echo "make fuzz      compares on random input for FUZZ_SECONDS (60), from SEED where given, and feeds the C programs for as long again; what is found is kept"
 	echo "make jumps     which instructions and jumps of the archives and programs the trials run, by callgrind, and what is left; 3 minutes once built"
-	echo "make other-ways    the same trials on processors of other kinds by qemu-user, and each program compiled in other ways; 2 minutes once built"
+	echo "make other-ways    the same trials on processors of other kinds by qemu-user, and each program run in other ways; 5 minutes once built"
 	echo "make reproducible  the archives built again from nothing in another folder, compared byte for byte"
-	echo "make clean     removes build/ and target/"
+	echo "make clean     removes build/ and what rt keeps of each crate"
 	echo "V=1 shows each command."
 
 # The seconds that each line of progress tells are counted from here, also in a make that this one calls.
 BEGAN := $(or $(BEGAN),$(shell date +%s))
 export BEGAN
-RT = make/progress.py rt
 STEP = make/progress.py step
-
-# Crates and edits that are tried at a time: more than there are processors, so that none is idle while the last of a batch ends.
-RT_JOBS ?= $(shell expr 3 \* $$(nproc))
-export RT_JOBS
 
 PREFIX = /usr/local
 FUZZ_SECONDS = 60
@@ -51,14 +46,14 @@ PBN_GAMES = 3000
 # behind the same interface, as build/stand-in/libtally.a has the Rust tally behind that of build/libtally.a.
 ARCHIVE = build/libjudge.a
 TALLY_ARCHIVE = build/libtally.a
-TREE = target/bin/tree
-SHEET = target/bin/sheet
-CELLS = target/bin/cells
-SLIP = target/bin/slip
-BEST = target/bin/best
-PBN = target/bin/pbn
-TEAM = target/bin/team
-MERGES = target/bin/try_merges
+TREE = build/bin/tree
+SHEET = build/bin/sheet
+CELLS = build/bin/cells
+SLIP = build/bin/slip
+BEST = build/bin/best
+PBN = build/bin/pbn
+TEAM = build/bin/team
+MERGES = build/bin/try_merges
 
 CC = cc
 CXX = c++
@@ -70,12 +65,13 @@ RUST = build/rust/release
 CARGO = cd tests && JUDGE_ARCHIVE=$(abspath $(ARCHIVE)) TALLY_ARCHIVE=$(abspath $(TALLY_ARCHIVE)) CARGO_TARGET_DIR=$(abspath build/rust) cargo
 SEED_WORDS = $(if $(SEED),--seed $(SEED))
 
-# Everything is proved once, by `rt ci`; what is tried from outside uses what it left in target/.
+# `rt ci` proves everything, and refuses files that are not laid out; what is tried from outside uses the programs that it left in crates/NAME/out.
+PROGRAMS = $(patsubst crates/%/src/main.rt,%,$(wildcard crates/*/src/main.rt))
 test: tools
-	rm -f build/log/passed
-	$(STEP) layout rt fmt --check
 	$(STEP) labels tests/labels.py
-	$(RT) ci ci
+	make/progress.py ci ci
+	mkdir -p build/bin
+	for program in $(PROGRAMS); do cp crates/$$program/out/$$program build/bin/$$program || exit 1; done
 	$(MAKE) --no-print-directory outside
 	cat build/log/passed
 
@@ -90,30 +86,34 @@ tools: rt-tool
 
 $(ARCHIVE) $(TALLY_ARCHIVE) $(TREE) $(SHEET) $(CELLS) $(SLIP) $(BEST) $(PBN) $(TEAM) $(MERGES): | rt-tool
 
-SOURCES = crates.txt $(shell find crates -name '*.rt' -o -name '*.antt')
+SOURCES = crates.txt $(shell find crates -name out -prune -o '(' -name '*.rt' -o -name '*.antt' ')' -print)
 
-# Each exporting crate is proved again where its archive is made, one after the other, since they share the stamps of what they stand on.
+# One after the other, since the crates stand on the same ones.
 ifndef AT_ONCE
 .NOTPARALLEL:
 endif
-target/staticlib/lib%.a: $(SOURCES) | rt-tool
-	$(STEP) archive-$* rt staticlib $*
 
-# Judge, writer, best play, the reader of texts, slips and boards are compiled apart: docs/PERFORMANCE.md says why.
-JUDGE_MEMBERS = judge writer_call best_record pbn_record slip_text board_call
-build/libjudge.a: $(JUDGE_MEMBERS:%=target/staticlib/lib%.a)
+# A member of an archive, from the static library of the crate that exports it to C.
+build/members/%.o: $(SOURCES) | rt-tool
 	$(call need,$(AR))
-	@mkdir -p build
+	@mkdir -p $(@D)
+	$(STEP) archive-$* sh -c 'cd crates/$*_c && rt lib'
+	$(AR) p crates/$*_c/out/lib$*_c.a $*_c.o >$@
+
+# Judge, writer, best play, the reader of texts, slips and boards are compiled apart: docs/PERFORMANCE.md says why. The calls on tallies have a crate of their own.
+JUDGE_MEMBERS = judge writer_call best_record pbn_record slip_text board_call
+TALLY_MEMBERS = tally_calls
+build/libjudge.a: $(JUDGE_MEMBERS:%=build/members/%.o)
+build/libtally.a: $(TALLY_MEMBERS:%=build/members/%.o)
+build/libjudge.a build/libtally.a:
 	@rm -f $@
-	printf 'create $@\n$(^:%=addlib %\n)save\nend\n' | $(AR) -M
+	$(AR) rcsD $@ $^
 
-# The calls on tallies have a crate of their own, tally_calls, that exports them.
-build/libtally.a: target/staticlib/libtally_calls.a
-	@mkdir -p build
-	cp $< $@
-
-target/bin/%: $(SOURCES)
-	$(RT) check-$* check $*
+# A program that `make test` has not taken from `rt ci`, or that has grown old. `rt run` builds it and runs it, on no input here.
+build/bin/%: $(SOURCES) | rt-tool
+	@mkdir -p $(@D)
+	$(STEP) program-$* sh -c 'cd crates/$* && rt check && { rt run </dev/null; test -x out/$*; }'
+	cp crates/$*/out/$* $@
 
 build/stand-in/libjudge.a build/stand-in/libtally.a: FORCE
 	$(CARGO) rustc --release --offline --locked --quiet --lib --crate-type staticlib --features stand_in
@@ -196,7 +196,7 @@ build/valgrind/%: build/%
 	printf '#!/bin/sh\nexec valgrind --quiet --error-exitcode=99 --leak-check=full --errors-for-leak-kinds=all %s "$$@"\n' $(abspath $<) >$@
 	chmod +x $@
 
-demo: demo-proved build/terminal build/section build/standings $(SHEET) $(CELLS) $(SLIP) $(BEST) $(PBN) python
+demo: build/terminal build/section build/standings $(SHEET) $(CELLS) $(SLIP) $(BEST) $(PBN) python
 	@echo "Records that are accepted:"
 	@build/terminal $(sort $(filter-out samples/refused-%,$(wildcard samples/*.hex)))
 	@echo "Records that are refused:"
@@ -265,18 +265,9 @@ install-files:
 build/rust-built: $(ARCHIVE) $(TALLY_ARCHIVE) FORCE | tools
 	$(CARGO) build --release --offline --locked --quiet
 
-# What is shown, and what is tried from outside, each proved all at once, so that crates that do not depend on each other are proved side by side.
-EXPORTING = $(JUDGE_MEMBERS) tally_calls
-
-demo-proved: rt-tool
-	$(RT) check-demo check $(EXPORTING) $(notdir $(SHEET) $(CELLS) $(SLIP) $(BEST) $(PBN))
-
-proved: rt-tool
-	$(RT) check-outside check $(EXPORTING) $(notdir $(TREE) $(SHEET) $(CELLS) $(SLIP) $(BEST) $(PBN) $(TEAM))
-
 # What is tried from outside is built here, one after the other, and then tried, as many at a time as there are processors.
 OUTSIDE = build/rust-built build/terminal build/section build/standings build/fuzz/programs $(VALGRIND) $(SHARED) $(TREE) $(SHEET) $(CELLS) $(SLIP) $(BEST) $(PBN) $(TEAM)
-outside: tools proved $(OUTSIDE) python chromium engines build/engines/left-count-mpi
+outside: tools $(OUTSIDE) python chromium engines build/engines/left-count-mpi
 	mkdir -p build/work
 	$(MAKE) --no-print-directory --output-sync=target -j$(shell nproc) AT_ONCE=1 FUZZ_SECONDS=$(GATE_FUZZ_SECONDS) trials
 
@@ -334,17 +325,17 @@ build/jumps/again.so: tests/jumps/again.c
 	@mkdir -p $(@D)
 	$(CC) $(CFLAGS) -fPIC -shared $< -o $@
 
-jumps: tools $(JUMPS) $(patsubst crates/%/stdout,target/bin/%,$(wildcard crates/*/stdout))
+jumps: tools $(JUMPS) $(PROGRAMS:%=build/bin/%)
 	tests/jumps/jumps.py $(SEED_WORDS)
 	grep -v 'never ran$$' build/jumps/left | cut -f 1,2,4 | grep '^lib'
 
 jumps-short: tools $(JUMPS)
 	$(jumps-short)
 
-# The same calls on processors of other kinds, as qemu-user has them; and every program by the kit's other ways to compile: -O0, -O3, with assumptions checked.
-# Not by the kit: pbn, which its trial does not lower, and try_merges, which needs more steps than its interpreter allows.
+# The same calls on processors of other kinds, as qemu-user has them; and every program by the kit's other ways to run it: on an interpreter, and compiled with checks.
+# Not by the kit: try_merges, which needs more steps than its interpreter allows.
 PROCESSORS = qemu64 Conroe Nehalem Haswell EPYC-Rome
-NOT_TRIED = pbn try_merges
+NOT_TRIED = try_merges
 .PHONY: other-ways qemu
 qemu:
 	@command -v qemu-x86_64 >/dev/null || test "$$(id -u)" != 0 || ! command -v apt-get >/dev/null || \
@@ -353,8 +344,8 @@ qemu:
 
 other-ways: qemu jumps-short
 	for cpu in $(PROCESSORS); do $(STEP) calls-on-$$cpu qemu-x86_64 -cpu $$cpu build/jumps/calls $(CURDIR)/build/jumps/*.calls || exit 1; done
-	for crate in $(filter-out $(NOT_TRIED),$(patsubst crates/%/stdout,%,$(wildcard crates/*/stdout))); do $(STEP) try-$$crate rt try $$crate || exit 1; done
-	echo "not compiled in other ways: $(NOT_TRIED)"
+	for crate in $(filter-out $(NOT_TRIED),$(PROGRAMS)); do $(STEP) try-$$crate make/tried.sh $$crate || exit 1; done
+	echo "not run in other ways: $(NOT_TRIED)"
 
 # The archives built from nothing in another folder, of what is committed, have the same bytes.
 .PHONY: reproducible
@@ -418,6 +409,6 @@ engines-bench: engines build/rust-built build/section build/standings
 	$(PYTHON) tests/engines/bench.py $(PG_CONFIG) build/work/engines/whole-field -- $(EXTENSION_MAKE)
 
 clean:
-	rm -rf build target python/clubscore/*.so
+	rm -rf build crates/*/out python/clubscore/*.so
 
 FORCE:

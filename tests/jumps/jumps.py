@@ -22,7 +22,7 @@ import callgrind
 WORK = "build/jumps"
 RUNS = WORK + "/runs"
 RUST = "build/rust/release"
-PROGRAMS = "target/bin"
+PROGRAMS = "build/bin"
 CALLS = WORK + "/calls"
 AGAIN = WORK + "/again.so"
 VALGRIND = ["valgrind", "--tool=callgrind", "--dump-instr=yes", "--collect-jumps=yes"]

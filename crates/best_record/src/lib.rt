@@ -24,8 +24,7 @@ fn is_ending(out: bool, played: u64) -> bool
 
 // Says how many of the tricks left declarer's side takes by best play on both sides, 0 to 4; or a refusal × 1024 + its place, as the judge refuses the record
 // up to its last card, and then 31 where no ending has been reached.
-#[unsafe(no_mangle)]
-pub extern "C" fn judge_best_play(bytes: &[u8]) -> u32
+pub fn judge_best_play(bytes: &[u8]) -> u32
     ensures { result ≡ best_number (best_of bytes.now) }
 {
     let reached = read_to_last_card(bytes);

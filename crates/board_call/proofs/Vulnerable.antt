@@ -1,7 +1,7 @@
 -- The number of the vulnerable sides, by whether each side is vulnerable. Assumes nothing.
 use Prim.Native.Nat.{ℕ}
 use mathlib.Core.Path.{◌≡◌, refl}
-use mathlib.Core.Bool.{Bool, true, false}
+use mathlib.Core.Bool.{Bool}
 use Rattle.laws.specs.Choice.{if◌then◌else◌}
 use Rattle.laws.specs.Law2.{Vulnerability, none, ns, ew, both, vulnerability, includes, vulnerable}
 use Rattle.deal.specs.Sides.{sides_of}

@@ -1,4 +1,6 @@
 // What Law 2 says of a board, for C: its dealer, and which sides are vulnerable.
+#![tactic(auto)]
+
 ghost use Rattle.std.specs.Prelude.{◌≡◌};
 ghost use Rattle.board_call.specs.Asked.{is_board, dealer_asked, vulnerable_asked};
 ghost use Rattle.deal.specs.Sides.{sides_of};
@@ -17,8 +19,7 @@ fn is_board(board: u32) -> bool
 }
 
 // The dealer of a board, a seat from 0 to 3; 3 with place 0 for a number that is not 1 to 127.
-#[unsafe(no_mangle)]
-pub extern "C" fn judge_dealer(board: u32) -> u32
+pub fn judge_dealer(board: u32) -> u32
     ensures { result ≡ dealer_asked board }
 {
     if is_board(board) {
@@ -40,8 +41,7 @@ fn sides(board: u8) -> u32
 }
 
 // The vulnerable sides of a board, as above; 3 with place 0 for a number that is not 1 to 127.
-#[unsafe(no_mangle)]
-pub extern "C" fn judge_vulnerable(board: u32) -> u32
+pub fn judge_vulnerable(board: u32) -> u32
     ensures { result ≡ vulnerable_asked board }
 {
     if is_board(board) {

@@ -1,13 +1,16 @@
 // The sheet with percentages of standard input on standard output. Its first 769 bytes decide it, and 3097 bytes are enough for every one.
-use libc::{STDIN_FILENO, STDOUT_FILENO};
+#![tactic(auto)]
+
+use std::io;
+use std::io::{Read, Write};
 use text::Outcome;
 
-fn main() {
-    let mut input = [0u8; 769];
-    let n = io::read_full(STDIN_FILENO, &mut input);
+fn main(rt: HostRuntime) -> io::Result<()> {
+    let mut input = Vec::new(rt.alloc());
+    rt.stdin().take(769).read_to_end(&mut input)?;
     let mut text = [0u8; 3097];
-    let Outcome::Written(length) = sheet_text::write_cells(&input[..n], &mut text) else {
-        return;
-    };
-    io::write_all(STDOUT_FILENO, &text[..length]);
+    match sheet_text::write_cells(&input, &mut text) {
+        Outcome::Written(length) => rt.stdout().write_all(&text[..length]),
+        Outcome::TooShort => Ok(()),
+    }
 }

@@ -72,8 +72,7 @@ fn put_winners(winners: &mut [u8], ts: Tricks)
 
 // Judges a table record. The answer is 0, with seven bytes in answer, a byte for each revoke in list, 52 bytes of the plays against Law 50C or 50D1 in
 // failures, and winner and winning card of each complete trick in winners; or a refusal × 1024 + its place, with all four as they were.
-#[unsafe(no_mangle)]
-pub extern "C" fn judge_record(
+pub fn judge_record(
     bytes: &[u8],
     answer: &mut [u8],
     list: &mut [u8],

@@ -63,8 +63,7 @@ fn narrow(line: u32) -> u16
 // Reads a text of Portable Bridge Notation and writes its record at a table over the front of a buffer. The answer is how many bytes were written, which is
 // below 1024; or a refusal × 1024 + its place, with the buffer as it was: 32 and the line where the text leaves the subset, and then what the writer refuses
 // its contents with, 32 for the seat of a tag among it.
-#[unsafe(no_mangle)]
-pub extern "C" fn judge_read_pbn(text: &[u8], table: u32, out: &mut [u8]) -> u32
+pub fn judge_read_pbn(text: &[u8], table: u32, out: &mut [u8]) -> u32
     ensures number { result ≡ number_of (read_pbn text.now table (length out.old)) }
     ensures left { out.new ≡ record_left (read_pbn text.now table (length out.old)) out.old }
 {

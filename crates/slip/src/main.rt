@@ -1,13 +1,16 @@
 // The slip of the table record on standard input, on standard output. Its first 506 bytes decide it, and 72 bytes are enough for every slip.
-use libc::{STDIN_FILENO, STDOUT_FILENO};
+#![tactic(auto)]
+
+use std::io;
+use std::io::{Read, Write};
 use text::Outcome;
 
-fn main() {
-    let mut input = [0u8; 506];
-    let n = io::read_full(STDIN_FILENO, &mut input);
+fn main(rt: HostRuntime) -> io::Result<()> {
+    let mut input = Vec::new(rt.alloc());
+    rt.stdin().take(506).read_to_end(&mut input)?;
     let mut text = [0u8; 72];
-    let Outcome::Written(length) = slip_text::write(&input[..n], &mut text) else {
-        return;
-    };
-    io::write_all(STDOUT_FILENO, &text[..length]);
+    match slip_text::write(&input, &mut text) {
+        Outcome::Written(length) => rt.stdout().write_all(&text[..length]),
+        Outcome::TooShort => Ok(()),
+    }
 }

@@ -72,8 +72,7 @@ pub fn write(bytes: &[u8], out: &mut [u8]) -> Outcome
 
 // Writes the slip of a table record over the front of a buffer. The answer is how many bytes were written, at most 72; or a refusal × 1024 + its place, with
 // the buffer as it was: the judge's, or, last, 22 for a buffer that is too short.
-#[unsafe(no_mangle)]
-pub extern "C" fn judge_slip(bytes: &[u8], text: &mut [u8]) -> u32
+pub fn judge_slip(bytes: &[u8], text: &mut [u8]) -> u32
     ensures number { result ≡ number_of (slip_call bytes.now (length text.old)) }
     ensures left { text.new ≡ record_left (slip_call bytes.now (length text.old)) text.old }
 {

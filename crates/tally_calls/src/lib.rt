@@ -34,8 +34,7 @@ fn narrow_score(score: i32) -> i16
 }
 
 // A fresh tally of a board; 1, or 3 for a board outside 1 to 127.
-#[unsafe(no_mangle)]
-pub extern "C" fn tally_fresh(board: u32, out: &mut [u8]) -> u32
+pub fn tally_fresh(board: u32, out: &mut [u8]) -> u32
     ensures number { result ≡ number_of (fresh_call board (length out.old)) }
     ensures left { out.new ≡ buffer_left (fresh_call board (length out.old)) out.old }
 {
@@ -47,8 +46,7 @@ pub extern "C" fn tally_fresh(board: u32, out: &mut [u8]) -> u32
 }
 
 // A result added to a tally: a score with the holders of the 52 cards; 1, 17, 20, 4, 28 or 19.
-#[unsafe(no_mangle)]
-pub extern "C" fn tally_add(tally: &[u8], score: i32, holders: &[u8], out: &mut [u8]) -> u32
+pub fn tally_add(tally: &[u8], score: i32, holders: &[u8], out: &mut [u8]) -> u32
     ensures number { result ≡ number_of (add_call tally.now score holders.now (length out.old)) }
     ensures left { out.new
         ≡ buffer_left (add_call tally.now score holders.now (length out.old)) out.old }
@@ -62,8 +60,7 @@ pub extern "C" fn tally_add(tally: &[u8], score: i32, holders: &[u8], out: &mut 
 }
 
 // Two tallies of one board and one deal merged; 1, 17, 18, 28 or 19.
-#[unsafe(no_mangle)]
-pub extern "C" fn tally_merge(a: &[u8], b: &[u8], out: &mut [u8]) -> u32
+pub fn tally_merge(a: &[u8], b: &[u8], out: &mut [u8]) -> u32
     ensures number { result ≡ number_of (merge_call a.now b.now (length out.old)) }
     ensures left { out.new
         ≡ buffer_left (merge_call a.now b.now (length out.old)) out.old }
@@ -78,13 +75,7 @@ pub extern "C" fn tally_merge(a: &[u8], b: &[u8], out: &mut [u8]) -> u32
 }
 
 // Law 78A's matchpoints of a result in a tally, four bytes; 1, 17, 20, 4, 28 or 21.
-#[unsafe(no_mangle)]
-pub extern "C" fn tally_matchpoints(
-    tally: &[u8],
-    score: i32,
-    holders: &[u8],
-    points: &mut [u8],
-) -> u32
+pub fn tally_matchpoints(tally: &[u8], score: i32, holders: &[u8], points: &mut [u8]) -> u32
     ensures number { result ≡ number_of (matchpoints_call tally.now score holders.now (length points.old)) }
     ensures left { points.new
         ≡ buffer_left (matchpoints_call tally.now score holders.now (length points.old)) points.old }
@@ -98,8 +89,7 @@ pub extern "C" fn tally_matchpoints(
 }
 
 // The cell of an awarded result, nine bytes; 1, or 20 for anything but 60, 50 and 40 per cent.
-#[unsafe(no_mangle)]
-pub extern "C" fn tally_award(percent: u32, cell: &mut [u8]) -> u32
+pub fn tally_award(percent: u32, cell: &mut [u8]) -> u32
     ensures number { result ≡ number_of (award_call percent (length cell.old)) }
     ensures left { cell.new ≡ buffer_left (award_call percent (length cell.old)) cell.old }
 {
@@ -111,8 +101,7 @@ pub extern "C" fn tally_award(percent: u32, cell: &mut [u8]) -> u32
 }
 
 // The cell of a result in a tally, nine bytes; 1, 17, 20, 4, 28 or 21.
-#[unsafe(no_mangle)]
-pub extern "C" fn tally_cell(tally: &[u8], score: i32, holders: &[u8], cell: &mut [u8]) -> u32
+pub fn tally_cell(tally: &[u8], score: i32, holders: &[u8], cell: &mut [u8]) -> u32
     ensures number { result ≡ number_of (cell_call tally.now score holders.now (length cell.old)) }
     ensures left { cell.new
         ≡ buffer_left (cell_call tally.now score holders.now (length cell.old)) cell.old }
@@ -126,13 +115,7 @@ pub extern "C" fn tally_cell(tally: &[u8], score: i32, holders: &[u8], cell: &mu
 }
 
 // The shares of both sides in a result of a tally, in hundredths of a per cent, four bytes; 65535 each where it is alone; 1, 17, 20, 4, 28 or 21.
-#[unsafe(no_mangle)]
-pub extern "C" fn tally_hundredths(
-    tally: &[u8],
-    score: i32,
-    holders: &[u8],
-    shares: &mut [u8],
-) -> u32
+pub fn tally_hundredths(tally: &[u8], score: i32, holders: &[u8], shares: &mut [u8]) -> u32
     ensures number { result ≡ number_of (hundredths_call tally.now score holders.now (length shares.old)) }
     ensures left { shares.new
         ≡ buffer_left (hundredths_call tally.now score holders.now (length shares.old)) shares.old }

@@ -1,7 +1,10 @@
 // Plays a team match from standard input, a board a line: its number, and the scores at the two tables, as in `1 420 -50`. For each line it writes
 // the first team's IMPs or the refusal, and at the end the totals of the two teams.
-use libc::{STDIN_FILENO, STDOUT_FILENO};
+#![tactic(auto)]
+
 use score::ImpAnswer;
+use std::io;
+use std::io::{Read, Write};
 use team_match::{TeamMatch, TotalsAnswer};
 use team_run::{Reply, Run};
 use text::Outcome;
@@ -14,51 +17,51 @@ struct Turn {
 }
 
 // Writes the start of some bytes, as much of them as a text has filled.
-fn show(outcome: Outcome, bytes: &[u8]) {
+fn show<W: Write>(out: &mut W, outcome: Outcome, bytes: &[u8]) -> io::Result<()> {
     let Outcome::Written(n) = outcome else {
-        return;
+        return Ok(());
     };
     if bytes.len() < n {
-        return;
+        return Ok(());
     }
-    io::write_all(STDOUT_FILENO, &bytes[..n]);
+    out.write_all(&bytes[..n])
 }
 
 // Writes what a board is answered.
-fn say_board(answer: ImpAnswer) {
+fn say_board<W: Write>(out: &mut W, answer: ImpAnswer) -> io::Result<()> {
     let mut text = [0u8; 12];
     let outcome = team_text::write_board(answer, &mut text);
-    show(outcome, &text);
+    show(out, outcome, &text)
 }
 
 // Writes that a line cannot be read.
-fn say_refusal(line: u64) {
+fn say_refusal<W: Write>(out: &mut W, line: u64) -> io::Result<()> {
     let mut text = [0u8; 34];
     let outcome = team_text::write_refusal(line, &mut text);
-    show(outcome, &text);
+    show(out, outcome, &text)
 }
 
 // Writes the totals of the two teams.
-fn say_totals(m: TeamMatch) {
+fn say_totals<W: Write>(out: &mut W, m: TeamMatch) -> io::Result<()> {
     let TotalsAnswer::Totals { first, second } = team_match::totals(m) else {
-        return;
+        return Ok(());
     };
     let mut text = [0u8; 30];
     let outcome = team_text::write_totals(first, second, &mut text);
-    show(outcome, &text);
+    show(out, outcome, &text)
 }
 
 // Writes what a byte brought.
-fn report(reply: Reply, line: u64) {
+fn report<W: Write>(out: &mut W, reply: Reply, line: u64) -> io::Result<()> {
     match reply {
-        Reply::Nothing => {}
-        Reply::Answer(answer) => say_board(answer),
-        Reply::Stopped => say_refusal(line),
+        Reply::Nothing => Ok(()),
+        Reply::Answer(answer) => say_board(out, answer),
+        Reply::Stopped => say_refusal(out, line),
     }
 }
 
 // More bytes of the input: each board's answer is written.
-fn feed(run: Run, bytes: &[u8]) -> Run {
+fn feed<W: Write>(out: &mut W, run: Run, bytes: &[u8]) -> io::Result<Run> {
     let mut r = run;
     let mut i: usize = 0;
     while i < bytes.len() {
@@ -66,57 +69,52 @@ fn feed(run: Run, bytes: &[u8]) -> Run {
         let next = fed.run;
         let reply = fed.reply;
         let line = next.line;
-        report(reply, line.number);
+        report(out, reply, line.number)?;
         r = next;
         i += 1;
     }
-    r
+    Ok(r)
 }
 
 // The end of the input: a last line without a newline is answered, and where the run is not over the totals are written.
-fn finish(run: Run) {
+fn finish<W: Write>(out: &mut W, run: Run) -> io::Result<()> {
     let fed = team_run::finish(run);
     let last = fed.run;
     let reply = fed.reply;
     let line = last.line;
-    report(reply, line.number);
+    report(out, reply, line.number)?;
     if last.over {
-        return;
+        return Ok(());
     }
     let m = last.state;
-    say_totals(m);
+    say_totals(out, m)
 }
 
 // Reads once, and takes the bytes that came.
-fn read_some(run: Run) -> Turn {
-    let mut buffer = io::buffer();
-    let got = libc::read(STDIN_FILENO, &mut buffer);
-    let n = io::count(got, &buffer);
+fn read_some<R: Read, W: Write>(input: &mut R, out: &mut W, run: Run) -> io::Result<Turn> {
+    let mut buffer = [0u8; 4096];
+    let n = input.read(&mut buffer)?;
     if n == 0 {
-        return Turn {
-            run: run,
-            more: false,
-        };
+        return Ok(Turn { run, more: false });
     }
-    let next = feed(run, &buffer[..n]);
-    Turn {
+    let next = feed(out, run, &buffer[..n])?;
+    Ok(Turn {
         run: next,
         more: !next.over,
-    }
+    })
 }
 
-// The loop counts its turns down, from a number that no run uses up: nothing says that the input ends.
-fn main() {
+// The turns are counted, up to a number that no run reaches: nothing says that the input ends.
+fn main(rt: HostRuntime) -> io::Result<()> {
+    let mut input = rt.stdin();
+    let mut out = rt.stdout();
     let mut run = team_run::start();
-    let mut turns = u64::MAX;
-    while turns > 0 {
-        let turn = read_some(run);
-        let next = turn.run;
-        run = next;
+    for _ in 0..u64::MAX {
+        let turn = read_some(&mut input, &mut out, run)?;
+        run = turn.run;
         if !turn.more {
-            finish(run);
-            return;
+            break;
         }
-        turns -= 1;
     }
+    finish(&mut out, run)
 }

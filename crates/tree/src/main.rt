@@ -1,6 +1,9 @@
 // Runs a script of tally calls from standard input on a stack of at most 16 tallies, and writes what each call answers; at the end, the top tally.
 // A line is `fresh B`, `add S`, `merge`, `matchpoints S`, `cell S` or `award N`.
-use libc::STDIN_FILENO;
+#![tactic(auto)]
+
+use std::io;
+use std::io::{Read, Write};
 use tree_run::Run;
 
 // A run after one read, and whether there may be more to read.
@@ -11,35 +14,31 @@ struct Turn {
 }
 
 // Reads once, and takes the bytes that came.
-fn read_some(run: Run) -> Turn {
-    let mut buffer = io::buffer();
-    let got = libc::read(STDIN_FILENO, &mut buffer);
-    let n = io::count(got, &buffer);
+fn read_some<R: Read, W: Write>(input: &mut R, out: &mut W, run: Run) -> io::Result<Turn> {
+    let mut buffer = [0u8; 4096];
+    let n = input.read(&mut buffer)?;
     if n == 0 {
-        return Turn {
-            run: run,
-            more: false,
-        };
+        return Ok(Turn { run, more: false });
     }
-    let next = tree_print::feed(run, &buffer[..n]);
-    Turn {
+    let next = tree_print::feed(out, run, &buffer[..n])?;
+    Ok(Turn {
         run: next,
         more: !next.over,
-    }
+    })
 }
 
-// The loop counts its turns down, from a number that no run uses up: nothing says that the input ends.
-fn main() {
+// The turns are counted, up to a number that no run reaches: nothing says that the input ends.
+fn main(rt: HostRuntime) -> io::Result<()> {
+    let mut input = rt.stdin();
+    let mut out = rt.stdout();
     let mut run = tree_run::start();
-    let mut turns = u64::MAX;
-    while turns > 0 {
-        let turn = read_some(run);
-        let next = turn.run;
-        run = next;
+    for _ in 0..u64::MAX {
+        let turn = read_some(&mut input, &mut out, run)?;
+        run = turn.run;
         if !turn.more {
-            tree_print::finish(run);
-            return;
+            break;
         }
-        turns -= 1;
     }
+    tree_print::finish(&mut out, run)?;
+    Ok(())
 }

@@ -1,44 +1,47 @@
-// A run of a script whose answers are written to standard output as they come, and the top tally at its end. The texts are those that
-// `sheet_text` puts into lent bytes.
-ghost use Rattle.std.specs.Prelude.{◌≡◌};
+// A run of a script whose answers are written as they come, and the top tally at its end. The texts are those that `sheet_text` puts into lent bytes.
+// An error is the writer's. It leaves the run as it was given, and some of the answers may be written.
+#![tactic(auto)]
+
+ghost use Rattle.std.specs.Prelude.{◌≡◌, IfOk};
 ghost use Rattle.tree_run.specs.Runs.{finished_of};
 ghost use Rattle.tree_print.specs.Printing.{fed_of};
 
-use libc::STDOUT_FILENO;
+use std::io;
+use std::io::Write;
 use tally::Tally;
 use text::Outcome;
 use tree_run::{Reply, Run};
 use tree_stack::Said;
 
 // Writes what a call on a line answers.
-fn say(said: Said, line: u64) {
+fn say<W: Write>(out: &mut W, said: Said, line: u64) -> io::Result<()> {
     let mut text = [0u8; 34];
-    let Outcome::Written(n) = answer_text::write_said(said, line, &mut text) else {
-        return;
-    };
-    io::write_all(STDOUT_FILENO, &text[..n]);
+    match answer_text::write_said(said, line, &mut text) {
+        Outcome::Written(n) => out.write_all(&text[..n]),
+        Outcome::TooShort => Ok(()),
+    }
 }
 
 // Writes what a byte brought.
-fn report(reply: Reply, line: u64) {
+fn report<W: Write>(out: &mut W, reply: Reply, line: u64) -> io::Result<()> {
     match reply {
-        Reply::Nothing => {}
-        Reply::Answer(said) => say(said, line),
+        Reply::Nothing => Ok(()),
+        Reply::Answer(said) => say(out, said, line),
     }
 }
 
 // Writes a tally, an entry a line.
-fn show(t: Tally) {
+fn show<W: Write>(out: &mut W, t: Tally) -> io::Result<()> {
     let mut text = [0u8; 1408];
-    let Outcome::Written(n) = answer_text::write_tally(t, &mut text) else {
-        return;
-    };
-    io::write_all(STDOUT_FILENO, &text[..n]);
+    match answer_text::write_tally(t, &mut text) {
+        Outcome::Written(n) => out.write_all(&text[..n]),
+        Outcome::TooShort => Ok(()),
+    }
 }
 
 // More bytes of the script: each call's answer is written.
-pub fn feed(run: Run, bytes: &[u8]) -> Run
-    ensures { result ≡ fed_of run bytes.now }
+pub fn feed<W: Write>(out: &mut W, run: Run, bytes: &[u8]) -> io::Result<Run>
+    ensures { IfOk result (λ r. r ≡ fed_of run bytes.now) }
 {
     let mut r = run;
     let mut i: usize = 0;
@@ -47,26 +50,26 @@ pub fn feed(run: Run, bytes: &[u8]) -> Run
         let next = fed.run;
         let reply = fed.reply;
         let line = next.line;
-        report(reply, line.number);
+        report(out, reply, line.number)?;
         r = next;
         i += 1;
     }
-    r
+    Ok(r)
 }
 
 // The end of the script: a last line without a newline is answered, and where the run is not over the top tally is written.
-pub fn finish(run: Run) -> Run
-    ensures { result ≡ (finished_of run).run }
+pub fn finish<W: Write>(out: &mut W, run: Run) -> io::Result<Run>
+    ensures { IfOk result (λ r. r ≡ (finished_of run).run) }
 {
     let fed = tree_run::finish(run);
     let last = fed.run;
     let reply = fed.reply;
     let line = last.line;
-    report(reply, line.number);
+    report(out, reply, line.number)?;
     if last.over {
-        return last;
+        return Ok(last);
     }
     let s = last.stack;
-    show(tree_run::top(s));
-    last
+    show(out, tree_run::top(s))?;
+    Ok(last)
 }

@@ -1,55 +1,53 @@
 // What best play would give from records in files, each under a line that names it; and one answer with bytes enough and one too few.
-use libc::STDOUT_FILENO;
+#![tactic(auto)]
+
+use std::io::{Read, Write};
+use std::{fs, io};
 use text::Outcome;
 
 // The answer for a record.
-fn show(name: &[u8], record: &[u8]) {
-    io::write_all(STDOUT_FILENO, name);
-    io::write_all(STDOUT_FILENO, b": ");
+fn show<W: Write>(out: &mut W, name: &[u8], record: &[u8]) -> io::Result<()> {
+    out.write_all(name)?;
+    out.write_all(b": ")?;
     let mut text = [0u8; 8];
-    let Outcome::Written(length) = best_text::write(record, &mut text) else {
-        return;
-    };
-    io::write_all(STDOUT_FILENO, &text[..length]);
+    match best_text::write(record, &mut text) {
+        Outcome::Written(length) => out.write_all(&text[..length]),
+        Outcome::TooShort => Ok(()),
+    }
 }
 
 // The answer for the record in a file of that name.
-fn file(name: &[u8]) {
-    let fd = os::open_read(name);
-    if fd < 0 {
-        os::fail(name);
-        return;
-    }
-    let mut buffer = io::buffer();
-    let n = io::read_full(fd, &mut buffer);
-    libc::close(fd);
-    show(name, &buffer[..n]);
+fn file<W: Write>(rt: &HostRuntime, out: &mut W, name: &str) -> io::Result<()> {
+    let mut record = Vec::new(rt.alloc());
+    fs::open(rt, name)?.take(4096).read_to_end(&mut record)?;
+    show(out, name.as_bytes(), &record)
 }
 
 // What the answer for no bytes gives in lent bytes, all `.` before.
-fn lend(bytes: &mut [u8]) {
+fn lend<W: Write>(out: &mut W, bytes: &mut [u8]) -> io::Result<()> {
     match best_text::write(b"", bytes) {
-        Outcome::Written(_) => io::write_all(STDOUT_FILENO, b"written:\n"),
-        Outcome::TooShort => io::write_all(STDOUT_FILENO, b"too short:\n"),
-    };
-    io::write_all(STDOUT_FILENO, bytes);
-    io::write_all(STDOUT_FILENO, b"\n");
+        Outcome::Written(_) => out.write_all(b"written:\n"),
+        Outcome::TooShort => out.write_all(b"too short:\n"),
+    }?;
+    out.write_all(bytes)?;
+    out.write_all(b"\n")
 }
 
-fn main() {
-    file(b"claim-best-play");
-    file(b"all-four");
-    file(b"last-two");
-    file(b"partscore");
-    file(b"trick-under-way");
-    file(b"seventeen-left");
-    file(b"passed-out");
-    file(b"claim");
-    file(b"refused-claim");
-    file(b"refused-card");
-    file(b"wrong-card");
+fn main(rt: HostRuntime) -> io::Result<()> {
+    let mut out = rt.stdout();
+    file(&rt, &mut out, "claim-best-play")?;
+    file(&rt, &mut out, "all-four")?;
+    file(&rt, &mut out, "last-two")?;
+    file(&rt, &mut out, "partscore")?;
+    file(&rt, &mut out, "trick-under-way")?;
+    file(&rt, &mut out, "seventeen-left")?;
+    file(&rt, &mut out, "passed-out")?;
+    file(&rt, &mut out, "claim")?;
+    file(&rt, &mut out, "refused-claim")?;
+    file(&rt, &mut out, "refused-card")?;
+    file(&rt, &mut out, "wrong-card")?;
     let mut enough = [46u8; 6];
-    lend(&mut enough);
+    lend(&mut out, &mut enough)?;
     let mut few = [46u8; 3];
-    lend(&mut few);
+    lend(&mut out, &mut few)
 }

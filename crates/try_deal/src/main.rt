@@ -1,31 +1,24 @@
 // The deal's functions at work. For some boards: the board, its dealer, and whether North-South and East-West are vulnerable.
 // Then, for some deals, the first seat without thirteen cards, 4 where each has thirteen, and how many cards of each suit, and of suit 4, North holds,
 // with 1 where it is any.
-use libc::STDOUT_FILENO;
+#![tactic(auto)]
 
-fn number(n: u64) {
-    io::print_decimal(STDOUT_FILENO, n);
-}
+use std::io;
+use std::io::Write;
 
-fn text(bytes: &[u8]) {
-    io::write_all(STDOUT_FILENO, bytes);
-}
-
-fn flag(b: bool) {
+fn flag<W: Write>(out: &mut W, b: bool) -> io::Result<()> {
     if b {
-        text(b" 1");
-        return;
+        return write!(out, " 1");
     }
-    text(b" 0");
+    write!(out, " 0")
 }
 
-fn board(b: u8) {
-    number(b as u64);
-    text(b" ");
-    number(deal::dealer(b) as u64);
-    flag(deal::vulnerable(b, 0));
-    flag(deal::vulnerable(b, 3));
-    text(b"\n");
+fn board<W: Write>(out: &mut W, b: u8) -> io::Result<()> {
+    let dealer = deal::dealer(b);
+    write!(out, "{b} {dealer}")?;
+    flag(out, deal::vulnerable(b, 0))?;
+    flag(out, deal::vulnerable(b, 3))?;
+    writeln!(out)
 }
 
 // A deal in which each suit is one seat's: clubs North's, diamonds East's, hearts South's, spades West's.
@@ -39,43 +32,41 @@ fn by_suits() -> [u8; 52] {
     holders
 }
 
-fn holdings(holders: [u8; 52]) {
+fn holdings<W: Write>(out: &mut W, holders: [u8; 52]) -> io::Result<()> {
     let hands = deal::hands(holders);
-    number(deal::seat_without_thirteen(hands) as u64);
+    let first = deal::seat_without_thirteen(hands);
+    write!(out, "{first}")?;
     let north = hands[0];
-    let mut suit: u8 = 0;
-    while suit < 5 {
-        text(b" ");
-        number(deal::suit_held(north, suit) as u64);
-        flag(deal::holds_suit(north, suit));
-        suit += 1;
+    for suit in 0..5u8 {
+        let held = deal::suit_held(north, suit);
+        write!(out, " {held}")?;
+        flag(out, deal::holds_suit(north, suit))?;
     }
-    text(b"\n");
+    writeln!(out)
 }
 
-fn boards() {
-    let mut b: u8 = 1;
-    while b <= 17 {
-        board(b);
-        b += 1;
+fn boards<W: Write>(out: &mut W) -> io::Result<()> {
+    for b in 1..18u8 {
+        board(out, b)?;
     }
-    board(127);
+    board(out, 127)
 }
 
-fn main() {
-    boards();
+fn main(rt: HostRuntime) -> io::Result<()> {
+    let mut out = rt.stdout();
+    boards(&mut out)?;
     let mut holders = by_suits();
-    holdings(holders);
+    holdings(&mut out, holders)?;
     // North's ace of clubs for East's two of diamonds.
     holders[12] = 1;
     holders[13] = 0;
-    holdings(holders);
+    holdings(&mut out, holders)?;
     // West has that two of diamonds: North is left with twelve.
     holders[13] = 3;
-    holdings(holders);
+    holdings(&mut out, holders)?;
     // North has it back, and the two of hearts for the two of clubs: East has fourteen and South twelve, and East comes first.
     holders[13] = 0;
     holders[26] = 0;
     holders[0] = 1;
-    holdings(holders);
+    holdings(&mut out, holders)
 }

@@ -1,7 +1,11 @@
 // Tries a tally of each forged kind through every call, on either side of a merge. A line has the kind, whether the tally is well formed (1 or 0),
 // and the refusals of: a score added, merged as the first, merged as the second, merged with itself, matchpoints asked.
+#![tactic(auto)]
+
 use deal::SUITS;
 use matchpoints::MatchpointAnswer;
+use std::io;
+use std::io::Write;
 use tally::Tally;
 
 // A tally as described: board 7, one deal, with 450 once, 420 twice and -50 once.
@@ -108,9 +112,8 @@ fn merge_refusal(a: Tally, b: Tally) -> u8 {
 }
 
 // Writes a space and a number.
-fn number(n: u8) {
-    io::write_all(1, b" ");
-    io::print_decimal(1, n as u64);
+fn number<W: Write>(out: &mut W, n: u8) -> io::Result<()> {
+    write!(out, " {n}")
 }
 
 // 1 for yes, 0 for no.
@@ -119,47 +122,85 @@ fn yes(b: bool) -> u8 {
 }
 
 // Writes a kind of tally, and what each call answers to one of that kind.
-fn line(kind: &[u8], t: Tally) {
+fn line<W: Write>(out: &mut W, kind: &[u8], t: Tally) -> io::Result<()> {
     let good = described();
-    io::write_all(1, kind);
-    number(yes(tally::well_formed(t)));
-    number(add_refusal(t));
-    number(merge_refusal(t, good));
-    number(merge_refusal(good, t));
-    number(merge_refusal(t, t));
-    number(points_refusal(t));
-    io::write_all(1, b"\n");
+    out.write_all(kind)?;
+    number(out, yes(tally::well_formed(t)))?;
+    number(out, add_refusal(t))?;
+    number(out, merge_refusal(t, good))?;
+    number(out, merge_refusal(good, t))?;
+    number(out, merge_refusal(t, t))?;
+    number(out, points_refusal(t))?;
+    out.write_all(b"\n")
 }
 
-fn main() {
-    line(b"as described:", described());
-    line(b"unsorted:", with_entry(1, 460, 2));
-    line(b"repeated score:", with_entry(1, 450, 2));
-    line(b"score not a multiple of 10:", with_entry(1, 425, 2));
-    line(b"score above 7600:", with_entry(0, 7610, 1));
-    line(b"score below -7600:", with_entry(2, -7610, 1));
-    line(b"count 0 before a used place:", with_entry(1, 420, 0));
-    line(b"count 0 at the first place:", with_entry(0, 450, 0));
-    line(b"no entry before a used place:", with_entry(1, 0, 0));
-    line(b"score in an unused place:", with_entry(3, -60, 0));
-    line(b"score in the last place:", with_entry(127, -60, 0));
-    line(b"count in an unused place:", with_entry(64, 0, 1));
-    line(b"count in the last place:", with_entry(127, 0, 1));
-    line(b"129 results:", with_entry(2, -50, 126));
-    line(b"257 results:", with_entry(1, 420, 255));
-    line(b"board 0:", with_board(0));
-    line(b"board 128:", with_board(128));
-    line(b"board 255:", with_board(255));
-    line(b"beside a refusal:", beside_refusal());
-    line(b"another deal:", with_holders(0, 1, 13, 0));
+fn main(rt: HostRuntime) -> io::Result<()> {
+    let mut out = rt.stdout();
+    line(&mut out, b"as described:", described())?;
+    line(&mut out, b"unsorted:", with_entry(1, 460, 2))?;
+    line(&mut out, b"repeated score:", with_entry(1, 450, 2))?;
     line(
+        &mut out,
+        b"score not a multiple of 10:",
+        with_entry(1, 425, 2),
+    )?;
+    line(&mut out, b"score above 7600:", with_entry(0, 7610, 1))?;
+    line(&mut out, b"score below -7600:", with_entry(2, -7610, 1))?;
+    line(
+        &mut out,
+        b"count 0 before a used place:",
+        with_entry(1, 420, 0),
+    )?;
+    line(
+        &mut out,
+        b"count 0 at the first place:",
+        with_entry(0, 450, 0),
+    )?;
+    line(
+        &mut out,
+        b"no entry before a used place:",
+        with_entry(1, 0, 0),
+    )?;
+    line(
+        &mut out,
+        b"score in an unused place:",
+        with_entry(3, -60, 0),
+    )?;
+    line(
+        &mut out,
+        b"score in the last place:",
+        with_entry(127, -60, 0),
+    )?;
+    line(&mut out, b"count in an unused place:", with_entry(64, 0, 1))?;
+    line(&mut out, b"count in the last place:", with_entry(127, 0, 1))?;
+    line(&mut out, b"129 results:", with_entry(2, -50, 126))?;
+    line(&mut out, b"257 results:", with_entry(1, 420, 255))?;
+    line(&mut out, b"board 0:", with_board(0))?;
+    line(&mut out, b"board 128:", with_board(128))?;
+    line(&mut out, b"board 255:", with_board(255))?;
+    line(&mut out, b"beside a refusal:", beside_refusal())?;
+    line(&mut out, b"another deal:", with_holders(0, 1, 13, 0))?;
+    line(
+        &mut out,
         b"another deal in the last cards:",
         with_holders(26, 3, 39, 2),
-    );
-    line(b"a holder that is no seat:", with_holders(51, 4, 51, 4));
-    line(b"a seat with twelve cards:", with_holders(13, 2, 13, 2));
-    line(b"results and no deal:", without_deal());
-    line(b"a deal and no result:", deal_alone());
-    line(b"no result, and one holder:", without_result(51, 1));
-    line(b"no result:", without_result(0, 0));
+    )?;
+    line(
+        &mut out,
+        b"a holder that is no seat:",
+        with_holders(51, 4, 51, 4),
+    )?;
+    line(
+        &mut out,
+        b"a seat with twelve cards:",
+        with_holders(13, 2, 13, 2),
+    )?;
+    line(&mut out, b"results and no deal:", without_deal())?;
+    line(&mut out, b"a deal and no result:", deal_alone())?;
+    line(
+        &mut out,
+        b"no result, and one holder:",
+        without_result(51, 1),
+    )?;
+    line(&mut out, b"no result:", without_result(0, 0))
 }

@@ -1,8 +1,12 @@
 // Merges two tallies of 64 distinct scores, a thousand times for each byte of standard input, and writes how many merges were accepted:
 // what docs/PERFORMANCE.md measures. Each merge takes a count from the one before it, so that none can be left out.
+#![tactic(auto)]
+
 ghost use Rattle.std.specs.Prelude.{◌≤◌};
 
 use deal::SUITS;
+use std::io;
+use std::io::Read;
 use tally::Tally;
 
 // A tally of board 1 and of one deal: 64 scores, each 20 below the one before it, one result each.
@@ -50,12 +54,13 @@ fn merges(a: Tally, b: Tally, n: usize) -> usize {
     sum
 }
 
-fn main() {
-    let mut buffer = [0u8; 4096];
-    let n = io::read_full(0, &mut buffer);
+fn main(rt: HostRuntime) -> io::Result<()> {
+    let mut input = Vec::new(rt.alloc());
+    rt.stdin().take(4096).read_to_end(&mut input)?;
+    let n = input.len();
     if n <= 4096 {
         let sum = merges(filled(1290), filled(1280), n * 1000);
-        io::print_decimal(1, sum as u64);
-        io::write_all(1, b"\n");
+        return println!(rt; "{sum}");
     }
+    Ok(())
 }

@@ -1,20 +1,23 @@
 // A worked play with penalty cards. It prints the number that each code is refused with, 0 for none; then the revokes (trick, seat, suit, excused) and the
 // plays against Law 50 (their bytes).
 // A card is 13 × suit + rank: clubs from 0, diamonds from 13, hearts from 26, spades from 39, the two first. Seats are 0 North to 3 West.
-use libc::STDOUT_FILENO;
+#![tactic(auto)]
+
 use position::{Listed, Table};
+use std::io;
+use std::io::Write;
 
-fn number(n: u64) {
-    io::print_decimal(STDOUT_FILENO, n);
+fn number<W: Write>(out: &mut W, n: u64) -> io::Result<()> {
+    write!(out, "{n}")
 }
 
-fn text(bytes: &[u8]) {
-    io::write_all(STDOUT_FILENO, bytes);
+fn text<W: Write>(out: &mut W, bytes: &[u8]) -> io::Result<()> {
+    out.write_all(bytes)
 }
 
-fn line(n: u8) {
-    number(n as u64);
-    text(b"\n");
+fn line<W: Write>(out: &mut W, n: u8) -> io::Result<()> {
+    number(out, n as u64)?;
+    text(out, b"\n")
 }
 
 // A rank and a suit make the seat, in turn: North has the 2 6 T A of clubs, the 5 9 K of diamonds, the 4 8 Q of hearts and the 3 7 J of spades;
@@ -25,23 +28,23 @@ const HOLDERS: [u8; 52] = [
 ];
 
 // The exposure of a card: its refusal is printed, and it stands where there is none.
-fn expose(t: Table, card: u8, deliberate: bool) -> Table {
+fn expose<W: Write>(out: &mut W, t: Table, card: u8, deliberate: bool) -> io::Result<Table> {
     let refusal = t.exposure_refusal(card);
-    line(refusal);
+    line(out, refusal)?;
     if refusal != 0 {
-        return t;
+        return Ok(t);
     }
-    t.expose(card, deliberate)
+    Ok(t.expose(card, deliberate))
 }
 
 // A lead choice, likewise.
-fn choose(t: Table, kind: u8, suit: u8) -> Table {
+fn choose<W: Write>(out: &mut W, t: Table, kind: u8, suit: u8) -> io::Result<Table> {
     let refusal = t.choice_refusal(kind, suit);
-    line(refusal);
+    line(out, refusal)?;
     if refusal != 0 {
-        return t;
+        return Ok(t);
     }
-    t.choose(kind, suit)
+    Ok(t.choose(kind, suit))
 }
 
 fn trick(t: Table, a: u8, b: u8, c: u8, d: u8) -> Table {
@@ -53,58 +56,59 @@ fn trick(t: Table, a: u8, b: u8, c: u8, d: u8) -> Table {
 
 // South is declarer in notrump, so West leads. A card of South's is no penalty card. East's ten of diamonds is exposed: no spade can be required, a diamond is.
 // West leads a spade though he has diamonds.
-fn first_trick(t: Table) -> Table {
-    let mine = expose(t, 2, false);
-    let faced = expose(mine, 21, false);
-    let spade = choose(faced, 0, 3);
-    let asked = choose(spade, 0, 1);
-    trick(asked, 39, 40, 41, 42)
+fn first_trick<W: Write>(out: &mut W, t: Table) -> io::Result<Table> {
+    let mine = expose(out, t, 2, false)?;
+    let faced = expose(out, mine, 21, false)?;
+    let spade = choose(out, faced, 0, 3)?;
+    let asked = choose(out, spade, 0, 1)?;
+    Ok(trick(asked, 39, 40, 41, 42))
 }
 
 // East's three of clubs is exposed by accident: it is minor. South leads a club, and East plays the seven.
-fn second_trick(t: Table) -> Table {
-    let faced = expose(t, 1, false);
-    trick(faced, 2, 3, 0, 5)
+fn second_trick<W: Write>(out: &mut W, t: Table) -> io::Result<Table> {
+    let faced = expose(out, t, 1, false)?;
+    Ok(trick(faced, 2, 3, 0, 5))
 }
 
 // East is to lead, West's jack of hearts is exposed, and hearts are forbidden. East leads a heart, with the three of clubs on the table.
-fn third_trick(t: Table) -> Table {
-    let faced = expose(t, 35, false);
-    let asked = choose(faced, 1, 2);
-    trick(asked, 29, 26, 27, 28)
+fn third_trick<W: Write>(out: &mut W, t: Table) -> io::Result<Table> {
+    let faced = expose(out, t, 35, false)?;
+    let asked = choose(out, faced, 1, 2)?;
+    Ok(trick(asked, 29, 26, 27, 28))
 }
 
-fn show_revoke(byte: u8, excused: u8) {
-    number((byte / 16) as u64);
-    text(b",");
-    number((byte / 4 % 4) as u64);
-    text(b",");
-    number((byte % 4) as u64);
-    text(b",");
-    number(excused as u64);
-    text(b"\n");
+fn show_revoke<W: Write>(out: &mut W, byte: u8, excused: u8) -> io::Result<()> {
+    number(out, (byte / 16) as u64)?;
+    text(out, b",")?;
+    number(out, (byte / 4 % 4) as u64)?;
+    text(out, b",")?;
+    number(out, (byte % 4) as u64)?;
+    text(out, b",")?;
+    number(out, excused as u64)?;
+    text(out, b"\n")
 }
 
-fn show_revokes(rs: Listed) {
-    line(rs.count);
-    show_revoke(rs.list[0], rs.excused[0]);
-    show_revoke(rs.list[1], rs.excused[1]);
+fn show_revokes<W: Write>(out: &mut W, rs: Listed) -> io::Result<()> {
+    line(out, rs.count)?;
+    show_revoke(out, rs.list[0], rs.excused[0])?;
+    show_revoke(out, rs.list[1], rs.excused[1])
 }
 
-fn show_failures(bytes: [u8; 52]) {
-    line(bytes[0]);
-    line(bytes[1]);
-    line(bytes[2]);
+fn show_failures<W: Write>(out: &mut W, bytes: [u8; 52]) -> io::Result<()> {
+    line(out, bytes[0])?;
+    line(out, bytes[1])?;
+    line(out, bytes[2])
 }
 
-fn main() {
+fn main(rt: HostRuntime) -> io::Result<()> {
+    let mut out = rt.stdout();
     let holders = HOLDERS;
     let dealt = deal::hands(holders);
     let start = Table::new(holders, dealt, 4, 3);
-    let one = first_trick(start);
-    let two = second_trick(one);
-    let end = third_trick(two);
-    show_revokes(end.revokes());
+    let one = first_trick(&mut out, start)?;
+    let two = second_trick(&mut out, one)?;
+    let end = third_trick(&mut out, two)?;
+    show_revokes(&mut out, end.revokes())?;
     let found = end.found;
-    show_failures(found.failure_bytes());
+    show_failures(&mut out, found.failure_bytes())
 }

@@ -1,18 +1,21 @@
 // Worked plays, four lines each: the winners of the tricks (seat, card), the revokes (trick, seat, suit led), the tricks of each side, and what
 // Law 64 makes of a claim.
 // A card is 13 × suit + rank: clubs from 0, diamonds from 13, hearts from 26, spades from 39, the two first. Seats are 0 North to 3 West.
+#![tactic(auto)]
+
 ghost use Rattle.std.specs.Prelude.{◌<◌};
 
-use libc::STDOUT_FILENO;
 use play::{Play, Tricks};
 use position::{Listed, Table};
+use std::io;
+use std::io::Write;
 
-fn number(n: u64) {
-    io::print_decimal(STDOUT_FILENO, n);
+fn number<W: Write>(out: &mut W, n: u64) -> io::Result<()> {
+    write!(out, "{n}")
 }
 
-fn text(bytes: &[u8]) {
-    io::write_all(STDOUT_FILENO, bytes);
+fn text<W: Write>(out: &mut W, bytes: &[u8]) -> io::Result<()> {
+    out.write_all(bytes)
 }
 
 // A rank and a suit make the seat, in turn: North has the 2 6 T A of clubs, the 5 9 K of diamonds, the 4 8 Q of hearts and the 3 7 J of spades;
@@ -27,46 +30,46 @@ fn deal() -> [u8; 52] {
     holders
 }
 
-fn show_winners(ts: Tricks) {
-    text(b"winners");
+fn show_winners<W: Write>(out: &mut W, ts: Tricks) -> io::Result<()> {
+    text(out, b"winners")?;
     let mut i: usize = 0;
     while i < 13 {
         if i < ts.count as usize {
             let won = ts.answers[i];
-            text(b" ");
-            number(won.seat as u64);
-            text(b",");
-            number(won.card as u64);
+            text(out, b" ")?;
+            number(out, won.seat as u64)?;
+            text(out, b",")?;
+            number(out, won.card as u64)?;
         }
         i += 1;
     }
-    text(b"\n");
+    text(out, b"\n")
 }
 
-fn show_revokes(rs: Listed) {
-    text(b"revokes");
+fn show_revokes<W: Write>(out: &mut W, rs: Listed) -> io::Result<()> {
+    text(out, b"revokes")?;
     let mut i: usize = 0;
     while i < 48 {
         if i < rs.count as usize {
-            text(b" ");
+            text(out, b" ")?;
             let revoke = rs.list[i] as u64;
-            number(revoke / 16);
-            text(b",");
-            number(revoke / 4 % 4);
-            text(b",");
-            number(revoke % 4);
+            number(out, revoke / 16)?;
+            text(out, b",")?;
+            number(out, revoke / 4 % 4)?;
+            text(out, b",")?;
+            number(out, revoke % 4)?;
         }
         i += 1;
     }
-    text(b"\n");
+    text(out, b"\n")
 }
 
-fn show_sides(ts: Tricks) {
-    text(b"NS ");
-    number(ts.won[0] as u64);
-    text(b" EW ");
-    number(ts.won[1] as u64);
-    text(b"\n");
+fn show_sides<W: Write>(out: &mut W, ts: Tricks) -> io::Result<()> {
+    text(out, b"NS ")?;
+    number(out, ts.won[0] as u64)?;
+    text(out, b" EW ")?;
+    number(out, ts.won[1] as u64)?;
+    text(out, b"\n")
 }
 
 fn wide(x: u8) -> u16
@@ -76,20 +79,26 @@ fn wide(x: u8) -> u16
 }
 
 // South's claim of so many of the tricks left.
-fn show_claim(ts: Tricks, rs: Listed, claim: u8, left: u8) {
+fn show_claim<W: Write>(
+    out: &mut W,
+    ts: Tricks,
+    rs: Listed,
+    claim: u8,
+    left: u8,
+) -> io::Result<()> {
     let won = wide(ts.won[0]) + wide(claim);
     let moved = transfer::transferred(rs, ts, 2, claim, left);
-    text(b"claim ");
-    number(claim as u64);
-    text(b" moved ");
-    number(moved as u64);
-    text(b" after ");
-    number(transfer::tricks_after(rs, 2, won, moved) as u64);
-    text(b"\n");
+    text(out, b"claim ")?;
+    number(out, claim as u64)?;
+    text(out, b" moved ")?;
+    number(out, moved as u64)?;
+    text(out, b" after ")?;
+    number(out, transfer::tricks_after(rs, 2, won, moved) as u64)?;
+    text(out, b"\n")
 }
 
 // Hearts are trumps and West leads; South is declarer and North dummy.
-fn show(cards: &[u8], claim: u8, left: u8) {
+fn show<W: Write>(out: &mut W, cards: &[u8], claim: u8, left: u8) -> io::Result<()> {
     let holders = deal();
     let mut p = Play::new(holders, deal::hands(holders), 2, 3);
     let mut i = 0;
@@ -97,102 +106,109 @@ fn show(cards: &[u8], claim: u8, left: u8) {
         let card = cards[i];
         let why = p.refusal(card);
         if why != 0 {
-            text(b"refused ");
-            number(why as u64);
-            text(b" at ");
-            number(i as u64);
-            text(b"\n");
-            return;
+            text(out, b"refused ")?;
+            number(out, why as u64)?;
+            text(out, b" at ")?;
+            number(out, i as u64)?;
+            return text(out, b"\n");
         }
         p = p.play(card);
         i += 1;
     }
     let ts = p.tricks();
     let rs = Table::after_cards(p, 3).revokes();
-    show_winners(ts);
-    show_revokes(rs);
-    show_sides(ts);
-    show_claim(ts, rs, claim, left);
+    show_winners(out, ts)?;
+    show_revokes(out, rs)?;
+    show_sides(out, ts)?;
+    show_claim(out, ts, rs, claim, left)
 }
 
 // Three rounds of spades, won by South's 5, South's 9 and West's ace; on the fourth North ruffs with the 4 of hearts, East overruffs
 // with the 5, and South, who has no spade left, discards a diamond.
-fn ruff_and_overruff() {
+fn ruff_and_overruff<W: Write>(out: &mut W) -> io::Result<()> {
     show(
+        out,
         &[
             39, 40, 41, 42, 46, 43, 44, 45, 50, 51, 48, 49, 47, 28, 29, 14,
         ],
         5,
         9,
-    );
+    )
 }
 
 // After these, East leads the 2 of diamonds, South plays the 7, and West revokes with a club. South's 7 wins.
-fn defender_revokes() {
+fn defender_revokes<W: Write>(out: &mut W) -> io::Result<()> {
     show(
+        out,
         &[
             39, 40, 41, 42, 46, 43, 44, 45, 50, 51, 48, 49, 47, 28, 29, 14, 13, 18, 3, 16,
         ],
         3,
         8,
-    );
+    )?;
     show(
+        out,
         &[
             39, 40, 41, 42, 46, 43, 44, 45, 50, 51, 48, 49, 47, 28, 29, 14, 13, 18, 3, 16,
         ],
         8,
         8,
-    );
+    )
 }
 
 // South revokes with a club and North's 5 wins; then South revokes with a trump, which wins.
-fn declarer_revokes() {
+fn declarer_revokes<W: Write>(out: &mut W) -> io::Result<()> {
     show(
+        out,
         &[
             39, 40, 41, 42, 46, 43, 44, 45, 50, 51, 48, 49, 47, 28, 29, 14, 13, 2, 15, 16,
         ],
         4,
         8,
-    );
+    )?;
     show(
+        out,
         &[
             39, 40, 41, 42, 46, 43, 44, 45, 50, 51, 48, 49, 47, 28, 29, 14, 13, 26, 15, 16,
         ],
         4,
         8,
-    );
+    )?;
     show(
+        out,
         &[
             39, 40, 41, 42, 46, 43, 44, 45, 50, 51, 48, 49, 47, 28, 29, 14, 13, 26, 15, 16,
         ],
         0,
         8,
-    );
+    )
 }
 
 // North revokes in dummy with a club; South's 7 wins.
-fn dummy_revokes() {
+fn dummy_revokes<W: Write>(out: &mut W) -> io::Result<()> {
     show(
+        out,
         &[
             39, 40, 41, 42, 46, 43, 44, 45, 50, 51, 48, 49, 47, 28, 29, 14, 13, 18, 15, 0,
         ],
         4,
         8,
-    );
+    )
 }
 
 // A card of another hand, a card that its own seat has played, one that another seat has played, and no card.
-fn refusals() {
-    show(&[39, 41], 0, 0);
-    show(&[39, 40, 41, 42, 42], 0, 0);
-    show(&[39, 40, 41, 42, 41], 0, 0);
-    show(&[52], 0, 0);
+fn refusals<W: Write>(out: &mut W) -> io::Result<()> {
+    show(out, &[39, 41], 0, 0)?;
+    show(out, &[39, 40, 41, 42, 42], 0, 0)?;
+    show(out, &[39, 40, 41, 42, 41], 0, 0)?;
+    show(out, &[52], 0, 0)
 }
 
-fn main() {
-    ruff_and_overruff();
-    defender_revokes();
-    declarer_revokes();
-    dummy_revokes();
-    refusals();
+fn main(rt: HostRuntime) -> io::Result<()> {
+    let mut out = rt.stdout();
+    ruff_and_overruff(&mut out)?;
+    defender_revokes(&mut out)?;
+    declarer_revokes(&mut out)?;
+    dummy_revokes(&mut out)?;
+    refusals(&mut out)
 }

@@ -1,166 +1,169 @@
 // IMPs and sums of both units at work. First the IMPs of pairs of scores: those of P7, each end of the scale and ten points less, signs, the widest
 // difference, and scores that are not valid. Then sums of IMPs and of matchpoints, at the ends of what a number holds.
-use libc::STDOUT_FILENO;
+#![tactic(auto)]
+
 use score::{ImpAnswer, ImpSum, Imps, MatchpointSum, Matchpoints};
+use std::io;
+use std::io::Write;
 
-fn text(bytes: &[u8]) {
-    io::write_all(STDOUT_FILENO, bytes);
+fn text<W: Write>(out: &mut W, bytes: &[u8]) -> io::Result<()> {
+    out.write_all(bytes)
 }
 
-fn number(n: u64) {
-    io::print_decimal(STDOUT_FILENO, n);
+fn number<W: Write>(out: &mut W, n: u64) -> io::Result<()> {
+    write!(out, "{n}")
 }
 
-fn signed(n: i32) {
+fn signed<W: Write>(out: &mut W, n: i32) -> io::Result<()> {
     if n < 0 {
-        text(b"-");
-        number((-(n as i64)) as u64);
-        return;
+        text(out, b"-")?;
+        return number(out, (-(n as i64)) as u64);
     }
-    number(n as u64);
+    number(out, n as u64)
 }
 
 // Writes two scores and their IMPs.
-fn imps(first: i16, second: i16) {
-    signed(first as i32);
-    text(b" ");
-    signed(second as i32);
+fn imps<W: Write>(out: &mut W, first: i16, second: i16) -> io::Result<()> {
+    signed(out, first as i32)?;
+    text(out, b" ")?;
+    signed(out, second as i32)?;
     match score::imps_of(first, second) {
         ImpAnswer::Refused(n) => {
-            text(b" refused ");
-            number(n as u64);
+            text(out, b" refused ")?;
+            number(out, n as u64)?;
         }
         ImpAnswer::Scored(i) => {
-            text(b" ");
-            signed(i.0);
+            text(out, b" ")?;
+            signed(out, i.0)?;
         }
     }
-    text(b"\n");
+    text(out, b"\n")
 }
 
 // Writes two numbers of IMPs and their sum.
-fn imp_sum(a: i32, b: i32) {
-    text(b"IMPs ");
-    signed(a);
-    text(b" ");
-    signed(b);
+fn imp_sum<W: Write>(out: &mut W, a: i32, b: i32) -> io::Result<()> {
+    text(out, b"IMPs ")?;
+    signed(out, a)?;
+    text(out, b" ")?;
+    signed(out, b)?;
     match score::add_imps(Imps(a), Imps(b)) {
         ImpSum::ImpTotal(i) => {
-            text(b" ");
-            signed(i.0);
+            text(out, b" ")?;
+            signed(out, i.0)?;
         }
-        ImpSum::ImpsDoNotFit => text(b" does not fit"),
+        ImpSum::ImpsDoNotFit => text(out, b" does not fit")?,
     }
-    text(b"\n");
+    text(out, b"\n")
 }
 
 // Writes two numbers of matchpoints and their sum.
-fn matchpoint_sum(a: u32, b: u32) {
-    text(b"matchpoints ");
-    number(a as u64);
-    text(b" ");
-    number(b as u64);
+fn matchpoint_sum<W: Write>(out: &mut W, a: u32, b: u32) -> io::Result<()> {
+    text(out, b"matchpoints ")?;
+    number(out, a as u64)?;
+    text(out, b" ")?;
+    number(out, b as u64)?;
     match score::add_matchpoints(Matchpoints(a), Matchpoints(b)) {
         MatchpointSum::MatchpointTotal(m) => {
-            text(b" ");
-            number(m.0 as u64);
+            text(out, b" ")?;
+            number(out, m.0 as u64)?;
         }
-        MatchpointSum::MatchpointsDoNotFit => text(b" does not fit"),
+        MatchpointSum::MatchpointsDoNotFit => text(out, b" does not fit")?,
     }
-    text(b"\n");
+    text(out, b"\n")
 }
 
-fn examples() {
-    imps(10, 0);
-    imps(20, 0);
-    imps(490, 0);
-    imps(500, 0);
-    imps(3990, 0);
-    imps(4000, 0);
-    imps(-500, 0);
+fn examples<W: Write>(out: &mut W) -> io::Result<()> {
+    imps(out, 10, 0)?;
+    imps(out, 20, 0)?;
+    imps(out, 490, 0)?;
+    imps(out, 500, 0)?;
+    imps(out, 3990, 0)?;
+    imps(out, 4000, 0)?;
+    imps(out, -500, 0)
 }
 
 // The first half of the scale: ten points less than an entry, and the entry.
-fn lower_half() {
-    imps(40, 0);
-    imps(50, 0);
-    imps(80, 0);
-    imps(90, 0);
-    imps(120, 0);
-    imps(130, 0);
-    imps(160, 0);
-    imps(170, 0);
-    imps(210, 0);
-    imps(220, 0);
-    imps(260, 0);
-    imps(270, 0);
-    imps(310, 0);
-    imps(320, 0);
-    imps(360, 0);
-    imps(370, 0);
-    imps(420, 0);
-    imps(430, 0);
-    imps(590, 0);
-    imps(600, 0);
+fn lower_half<W: Write>(out: &mut W) -> io::Result<()> {
+    imps(out, 40, 0)?;
+    imps(out, 50, 0)?;
+    imps(out, 80, 0)?;
+    imps(out, 90, 0)?;
+    imps(out, 120, 0)?;
+    imps(out, 130, 0)?;
+    imps(out, 160, 0)?;
+    imps(out, 170, 0)?;
+    imps(out, 210, 0)?;
+    imps(out, 220, 0)?;
+    imps(out, 260, 0)?;
+    imps(out, 270, 0)?;
+    imps(out, 310, 0)?;
+    imps(out, 320, 0)?;
+    imps(out, 360, 0)?;
+    imps(out, 370, 0)?;
+    imps(out, 420, 0)?;
+    imps(out, 430, 0)?;
+    imps(out, 590, 0)?;
+    imps(out, 600, 0)
 }
 
 // The second half, as losses.
-fn upper_half() {
-    imps(0, 740);
-    imps(0, 750);
-    imps(0, 890);
-    imps(0, 900);
-    imps(0, 1090);
-    imps(0, 1100);
-    imps(0, 1290);
-    imps(0, 1300);
-    imps(0, 1490);
-    imps(0, 1500);
-    imps(0, 1740);
-    imps(0, 1750);
-    imps(0, 1990);
-    imps(0, 2000);
-    imps(0, 2240);
-    imps(0, 2250);
-    imps(0, 2490);
-    imps(0, 2500);
-    imps(0, 2990);
-    imps(0, 3000);
-    imps(0, 3490);
-    imps(0, 3500);
+fn upper_half<W: Write>(out: &mut W) -> io::Result<()> {
+    imps(out, 0, 740)?;
+    imps(out, 0, 750)?;
+    imps(out, 0, 890)?;
+    imps(out, 0, 900)?;
+    imps(out, 0, 1090)?;
+    imps(out, 0, 1100)?;
+    imps(out, 0, 1290)?;
+    imps(out, 0, 1300)?;
+    imps(out, 0, 1490)?;
+    imps(out, 0, 1500)?;
+    imps(out, 0, 1740)?;
+    imps(out, 0, 1750)?;
+    imps(out, 0, 1990)?;
+    imps(out, 0, 2000)?;
+    imps(out, 0, 2240)?;
+    imps(out, 0, 2250)?;
+    imps(out, 0, 2490)?;
+    imps(out, 0, 2500)?;
+    imps(out, 0, 2990)?;
+    imps(out, 0, 3000)?;
+    imps(out, 0, 3490)?;
+    imps(out, 0, 3500)
 }
 
 // Differences of two scores that are not 0, and scores that are not valid.
-fn pairs() {
-    imps(0, 0);
-    imps(420, 420);
-    imps(620, -100);
-    imps(-100, 620);
-    imps(-50, 420);
-    imps(7600, -7600);
-    imps(-7600, 7600);
-    imps(7610, 0);
-    imps(0, -7610);
-    imps(425, 420);
-    imps(420, 425);
-    imps(32767, -32768);
+fn pairs<W: Write>(out: &mut W) -> io::Result<()> {
+    imps(out, 0, 0)?;
+    imps(out, 420, 420)?;
+    imps(out, 620, -100)?;
+    imps(out, -100, 620)?;
+    imps(out, -50, 420)?;
+    imps(out, 7600, -7600)?;
+    imps(out, -7600, 7600)?;
+    imps(out, 7610, 0)?;
+    imps(out, 0, -7610)?;
+    imps(out, 425, 420)?;
+    imps(out, 420, 425)?;
+    imps(out, 32767, -32768)
 }
 
-fn main() {
-    examples();
-    lower_half();
-    upper_half();
-    pairs();
-    imp_sum(10, -12);
-    imp_sum(-24, -24);
-    imp_sum(2147483646, 1);
-    imp_sum(2147483647, 1);
-    imp_sum(-2147483647, -1);
-    imp_sum(-2147483648, -1);
-    imp_sum(-2147483648, 2147483647);
-    matchpoint_sum(0, 0);
-    matchpoint_sum(254, 254);
-    matchpoint_sum(4294967294, 1);
-    matchpoint_sum(4294967295, 1);
-    matchpoint_sum(4294967295, 4294967295);
+fn main(rt: HostRuntime) -> io::Result<()> {
+    let mut out = rt.stdout();
+    examples(&mut out)?;
+    lower_half(&mut out)?;
+    upper_half(&mut out)?;
+    pairs(&mut out)?;
+    imp_sum(&mut out, 10, -12)?;
+    imp_sum(&mut out, -24, -24)?;
+    imp_sum(&mut out, 2147483646, 1)?;
+    imp_sum(&mut out, 2147483647, 1)?;
+    imp_sum(&mut out, -2147483647, -1)?;
+    imp_sum(&mut out, -2147483648, -1)?;
+    imp_sum(&mut out, -2147483648, 2147483647)?;
+    matchpoint_sum(&mut out, 0, 0)?;
+    matchpoint_sum(&mut out, 254, 254)?;
+    matchpoint_sum(&mut out, 4294967294, 1)?;
+    matchpoint_sum(&mut out, 4294967295, 1)?;
+    matchpoint_sum(&mut out, 4294967295, 4294967295)
 }

@@ -1,22 +1,25 @@
 // The sheet of many inputs, each under a line that names it; and the example of docs/RULES.md with bytes enough and one too few.
+#![tactic(auto)]
+
 ghost use Rattle.std.specs.Prelude.{◌≤◌};
 
-use libc::STDOUT_FILENO;
+use std::io;
+use std::io::Write;
 use text::Outcome;
 
 // The sheet of an input.
-fn show(name: &[u8], input: &[u8]) {
-    io::write_all(STDOUT_FILENO, name);
-    io::write_all(STDOUT_FILENO, b":\n");
+fn show<W: Write>(out: &mut W, name: &[u8], input: &[u8]) -> io::Result<()> {
+    out.write_all(name)?;
+    out.write_all(b":\n")?;
     let mut text = [0u8; 2331];
-    let Outcome::Written(length) = sheet_text::write(input, &mut text) else {
-        return;
-    };
-    io::write_all(STDOUT_FILENO, &text[..length]);
+    match sheet_text::write(input, &mut text) {
+        Outcome::Written(length) => out.write_all(&text[..length]),
+        Outcome::TooShort => Ok(()),
+    }
 }
 
 // The sheet of the line `-7600`, so many times.
-fn repeated(name: &[u8], times: usize)
+fn repeated<W: Write>(out: &mut W, name: &[u8], times: usize) -> io::Result<()>
     requires { times ≤ 256 }
 {
     let line = b"-7600\n";
@@ -27,53 +30,54 @@ fn repeated(name: &[u8], times: usize)
         input[i] = line[i % 6];
         i += 1;
     }
-    show(name, &input[..n]);
+    show(out, name, &input[..n])
 }
 
 // What the example of docs/RULES.md gives in lent bytes, all `.` before.
-fn lend(bytes: &mut [u8]) {
+fn lend<W: Write>(out: &mut W, bytes: &mut [u8]) -> io::Result<()> {
     match sheet_text::write(b"420\n420\n-50\n450\n", bytes) {
-        Outcome::Written(_) => io::write_all(STDOUT_FILENO, b"written:\n"),
-        Outcome::TooShort => io::write_all(STDOUT_FILENO, b"too short:\n"),
-    };
-    io::write_all(STDOUT_FILENO, bytes);
-    io::write_all(STDOUT_FILENO, b"\n");
+        Outcome::Written(_) => out.write_all(b"written:\n"),
+        Outcome::TooShort => out.write_all(b"too short:\n"),
+    }?;
+    out.write_all(bytes)?;
+    out.write_all(b"\n")
 }
 
-fn taken() {
-    show(b"no input", b"");
-    show(b"no last newline", b"420\n420\n-50\n450");
-    show(b"zero", b"0\n10\n-10\n");
-    show(b"the ends of the range", b"7600\n-7600\n7600\n");
-    repeated(b"128 results", 128);
+fn taken<W: Write>(out: &mut W) -> io::Result<()> {
+    show(out, b"no input", b"")?;
+    show(out, b"no last newline", b"420\n420\n-50\n450")?;
+    show(out, b"zero", b"0\n10\n-10\n")?;
+    show(out, b"the ends of the range", b"7600\n-7600\n7600\n")?;
+    repeated(out, b"128 results", 128)
 }
 
-fn refused() {
-    show(b"a bad line", b"420\n450\n4a0\n-50\n");
-    show(b"two bad lines", b"420\n1\n2\n");
-    show(b"minus zero", b"420\n-0\n");
-    show(b"two zeros", b"00\n");
-    show(b"a leading zero", b"010\n");
-    show(b"a plus", b"+10\n");
-    show(b"above the range", b"420\n420\n7610\n");
-    show(b"below the range", b"-7610\n");
-    show(b"no multiple of ten", b"425\n");
-    show(b"five digits", b"10000\n");
-    show(b"a minus alone", b"-\n");
-    show(b"a space", b"420 \n");
-    show(b"an empty line", b"420\n\n450\n");
-    show(b"an empty last line", b"420\n\n");
-    show(b"a newline alone", b"\n");
-    show(b"a carriage return", b"420\r\n450\r\n");
-    repeated(b"129 results", 129);
-    repeated(b"256 results", 256);
+fn refused<W: Write>(out: &mut W) -> io::Result<()> {
+    show(out, b"a bad line", b"420\n450\n4a0\n-50\n")?;
+    show(out, b"two bad lines", b"420\n1\n2\n")?;
+    show(out, b"minus zero", b"420\n-0\n")?;
+    show(out, b"two zeros", b"00\n")?;
+    show(out, b"a leading zero", b"010\n")?;
+    show(out, b"a plus", b"+10\n")?;
+    show(out, b"above the range", b"420\n420\n7610\n")?;
+    show(out, b"below the range", b"-7610\n")?;
+    show(out, b"no multiple of ten", b"425\n")?;
+    show(out, b"five digits", b"10000\n")?;
+    show(out, b"a minus alone", b"-\n")?;
+    show(out, b"a space", b"420 \n")?;
+    show(out, b"an empty line", b"420\n\n450\n")?;
+    show(out, b"an empty last line", b"420\n\n")?;
+    show(out, b"a newline alone", b"\n")?;
+    show(out, b"a carriage return", b"420\r\n450\r\n")?;
+    repeated(out, b"129 results", 129)?;
+    repeated(out, b"256 results", 256)
 }
 
-fn main() {
-    taken();
-    refused();
+fn main(rt: HostRuntime) -> io::Result<()> {
+    let mut out = rt.stdout();
+    taken(&mut out)?;
+    refused(&mut out)?;
     let mut enough = [46u8; 59];
-    lend(&mut enough);
+    lend(&mut out, &mut enough)?;
     let mut few = [46u8; 56];
-    lend(&mut few);
+    lend(&mut out, &mut few)
 }

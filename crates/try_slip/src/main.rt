@@ -1,55 +1,53 @@
 // The slips of records in files, each under a line that names it; and one slip with bytes enough and one too few.
-use libc::STDOUT_FILENO;
+#![tactic(auto)]
+
+use std::io::{Read, Write};
+use std::{fs, io};
 use text::Outcome;
 
 // The slip of a record.
-fn show(name: &[u8], record: &[u8]) {
-    io::write_all(STDOUT_FILENO, name);
-    io::write_all(STDOUT_FILENO, b":\n");
+fn show<W: Write>(out: &mut W, name: &[u8], record: &[u8]) -> io::Result<()> {
+    out.write_all(name)?;
+    out.write_all(b":\n")?;
     let mut text = [0u8; 72];
-    let Outcome::Written(length) = slip_text::write(record, &mut text) else {
-        return;
-    };
-    io::write_all(STDOUT_FILENO, &text[..length]);
+    match slip_text::write(record, &mut text) {
+        Outcome::Written(length) => out.write_all(&text[..length]),
+        Outcome::TooShort => Ok(()),
+    }
 }
 
 // The slip of the record in a file of that name.
-fn file(name: &[u8]) {
-    let fd = os::open_read(name);
-    if fd < 0 {
-        os::fail(name);
-        return;
-    }
-    let mut buffer = io::buffer();
-    let n = io::read_full(fd, &mut buffer);
-    libc::close(fd);
-    show(name, &buffer[..n]);
+fn file<W: Write>(rt: &HostRuntime, out: &mut W, name: &str) -> io::Result<()> {
+    let mut record = Vec::new(rt.alloc());
+    fs::open(rt, name)?.take(4096).read_to_end(&mut record)?;
+    show(out, name.as_bytes(), &record)
 }
 
 // What the slip of no bytes gives in lent bytes, all `.` before.
-fn lend(bytes: &mut [u8]) {
+fn lend<W: Write>(out: &mut W, bytes: &mut [u8]) -> io::Result<()> {
     match slip_text::write(b"", bytes) {
-        Outcome::Written(_) => io::write_all(STDOUT_FILENO, b"written:\n"),
-        Outcome::TooShort => io::write_all(STDOUT_FILENO, b"too short:\n"),
-    };
-    io::write_all(STDOUT_FILENO, bytes);
-    io::write_all(STDOUT_FILENO, b"\n");
+        Outcome::Written(_) => out.write_all(b"written:\n"),
+        Outcome::TooShort => out.write_all(b"too short:\n"),
+    }?;
+    out.write_all(bytes)?;
+    out.write_all(b"\n")
 }
 
-fn main() {
-    file(b"partscore-over");
-    file(b"slam");
-    file(b"doubled-made");
-    file(b"doubled-one-down");
-    file(b"redoubled-down");
-    file(b"east-west");
-    file(b"doubled-down");
-    file(b"revoke-two-tricks");
-    file(b"longest-slip");
-    file(b"passed-out");
-    file(b"claim-of-13");
+fn main(rt: HostRuntime) -> io::Result<()> {
+    let mut out = rt.stdout();
+    file(&rt, &mut out, "partscore-over")?;
+    file(&rt, &mut out, "slam")?;
+    file(&rt, &mut out, "doubled-made")?;
+    file(&rt, &mut out, "doubled-one-down")?;
+    file(&rt, &mut out, "redoubled-down")?;
+    file(&rt, &mut out, "east-west")?;
+    file(&rt, &mut out, "doubled-down")?;
+    file(&rt, &mut out, "revoke-two-tricks")?;
+    file(&rt, &mut out, "longest-slip")?;
+    file(&rt, &mut out, "passed-out")?;
+    file(&rt, &mut out, "claim-of-13")?;
     let mut enough = [46u8; 6];
-    lend(&mut enough);
+    lend(&mut out, &mut enough)?;
     let mut few = [46u8; 3];
-    lend(&mut few);
+    lend(&mut out, &mut few)
 }

@@ -1,6 +1,10 @@
 // Tries states of a team match, some of them forged. A line has the kind, whether it is a state (1 or 0), the refusals of board 127 played and of the
 // totals asked, 0 for none, and whether the state after the play is the state before it.
+#![tactic(auto)]
+
 use score::{ImpAnswer, Imps};
+use std::io;
+use std::io::Write;
 use team_match::{TeamMatch, TotalsAnswer};
 
 // A state with a total, and the boards from a number up to another used.
@@ -58,9 +62,8 @@ fn same(a: TeamMatch, b: TeamMatch) -> bool {
 }
 
 // Writes a space and a number.
-fn number(n: u8) {
-    io::write_all(1, b" ");
-    io::print_decimal(1, n as u64);
+fn number<W: Write>(out: &mut W, n: u8) -> io::Result<()> {
+    write!(out, " {n}")
 }
 
 // 1 for yes, 0 for no.
@@ -69,33 +72,38 @@ fn yes(b: bool) -> u8 {
 }
 
 // Writes a kind of state, and what each call answers to it.
-fn line(kind: &[u8], m: TeamMatch) {
-    io::write_all(1, kind);
-    io::write_all(1, b":");
-    number(yes(team_match::is_match(m)));
-    number(play_refusal(m));
-    number(totals_refusal(m));
+fn line<W: Write>(out: &mut W, kind: &[u8], m: TeamMatch) -> io::Result<()> {
+    out.write_all(kind)?;
+    out.write_all(b":")?;
+    number(out, yes(team_match::is_match(m)))?;
+    number(out, play_refusal(m))?;
+    number(out, totals_refusal(m))?;
     let played = team_match::play(m, 127, 420, -50);
     let after = played.state;
-    number(yes(same(m, after)));
-    io::write_all(1, b"\n");
+    number(out, yes(same(m, after)))?;
+    out.write_all(b"\n")
 }
 
-fn main() {
-    line(b"before the first board", team_match::start());
-    line(b"2 boards, -48", state(-48, 1, 2));
-    line(b"2 boards, 48", state(48, 1, 2));
-    line(b"2 boards, -49", state(-49, 1, 2));
-    line(b"2 boards, 49", state(49, 1, 2));
-    line(b"2 boards, 50", state(50, 1, 2));
-    line(b"no board, 1", state(1, 1, 0));
-    line(b"place 0", state(0, 0, 2));
-    line(b"31 boards", state(0, 1, 31));
-    line(b"32 boards", state(768, 1, 32));
-    line(b"32 boards, 769", state(769, 1, 32));
-    line(b"32 boards, board 127 among them", state(0, 96, 127));
-    line(b"33 boards", state(0, 1, 33));
-    line(b"127 boards", state(0, 1, 127));
-    line(b"least total", state(-2147483648, 1, 32));
-    line(b"greatest total", state(2147483647, 1, 32));
+fn main(rt: HostRuntime) -> io::Result<()> {
+    let mut out = rt.stdout();
+    line(&mut out, b"before the first board", team_match::start())?;
+    line(&mut out, b"2 boards, -48", state(-48, 1, 2))?;
+    line(&mut out, b"2 boards, 48", state(48, 1, 2))?;
+    line(&mut out, b"2 boards, -49", state(-49, 1, 2))?;
+    line(&mut out, b"2 boards, 49", state(49, 1, 2))?;
+    line(&mut out, b"2 boards, 50", state(50, 1, 2))?;
+    line(&mut out, b"no board, 1", state(1, 1, 0))?;
+    line(&mut out, b"place 0", state(0, 0, 2))?;
+    line(&mut out, b"31 boards", state(0, 1, 31))?;
+    line(&mut out, b"32 boards", state(768, 1, 32))?;
+    line(&mut out, b"32 boards, 769", state(769, 1, 32))?;
+    line(
+        &mut out,
+        b"32 boards, board 127 among them",
+        state(0, 96, 127),
+    )?;
+    line(&mut out, b"33 boards", state(0, 1, 33))?;
+    line(&mut out, b"127 boards", state(0, 1, 127))?;
+    line(&mut out, b"least total", state(-2147483648, 1, 32))?;
+    line(&mut out, b"greatest total", state(2147483647, 1, 32))
 }

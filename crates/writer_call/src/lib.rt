@@ -6,8 +6,7 @@ ghost use Rattle.contents.specs.Given.{given};
 // Writes a record from its contents over the front of a buffer. `plays` has the cards and the codes among them, a flat list of numbers; `marked` 0 is no
 // claim, anything else a claim of `claim`. The answer is how many bytes were written, which is below 1024; or a refusal × 1024 + its place, with the buffer as
 // it was.
-#[unsafe(no_mangle)]
-pub extern "C" fn judge_write_record(
+pub fn judge_write_record(
     board: u32,
     table: u32,
     holders: &[u8],

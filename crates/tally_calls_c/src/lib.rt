@@ -1,0 +1,84 @@
+// The calls on tallies, as C calls them. A tally is 398 bytes; each call returns 0, or a refusal × 1024 + its place with the lent buffer as it was; a buffer
+// that is too short comes first.
+#![tactic(auto)]
+
+ghost use Rattle.std.specs.Prelude.{◌≡◌, length};
+ghost use Rattle.tally_calls.specs.Calls.{number_of, buffer_left, fresh_call, add_call, merge_call, matchpoints_call, award_call, cell_call, hundredths_call};
+
+// A fresh tally of a board; 1, or 3 for a board outside 1 to 127.
+#[unsafe(no_mangle)]
+pub extern "C" fn tally_fresh(board: u32, out: &mut [u8]) -> u32
+    ensures number { result ≡ number_of (fresh_call board (length out.old)) }
+    ensures left { out.new ≡ buffer_left (fresh_call board (length out.old)) out.old }
+{
+    tally_calls::tally_fresh(board, out)
+}
+
+// A result added to a tally: a score with the holders of the 52 cards; 1, 17, 20, 4, 28 or 19.
+#[unsafe(no_mangle)]
+pub extern "C" fn tally_add(tally: &[u8], score: i32, holders: &[u8], out: &mut [u8]) -> u32
+    ensures number { result ≡ number_of (add_call tally.now score holders.now (length out.old)) }
+    ensures left { out.new
+        ≡ buffer_left (add_call tally.now score holders.now (length out.old)) out.old }
+{
+    tally_calls::tally_add(tally, score, holders, out)
+}
+
+// Two tallies of one board and one deal merged; 1, 17, 18, 28 or 19.
+#[unsafe(no_mangle)]
+pub extern "C" fn tally_merge(a: &[u8], b: &[u8], out: &mut [u8]) -> u32
+    ensures number { result ≡ number_of (merge_call a.now b.now (length out.old)) }
+    ensures left { out.new
+        ≡ buffer_left (merge_call a.now b.now (length out.old)) out.old }
+{
+    tally_calls::tally_merge(a, b, out)
+}
+
+// Law 78A's matchpoints of a result in a tally, four bytes; 1, 17, 20, 4, 28 or 21.
+#[unsafe(no_mangle)]
+pub extern "C" fn tally_matchpoints(
+    tally: &[u8],
+    score: i32,
+    holders: &[u8],
+    points: &mut [u8],
+) -> u32
+    ensures number { result ≡ number_of (matchpoints_call tally.now score holders.now (length points.old)) }
+    ensures left { points.new
+        ≡ buffer_left (matchpoints_call tally.now score holders.now (length points.old)) points.old }
+{
+    tally_calls::tally_matchpoints(tally, score, holders, points)
+}
+
+// The cell of an awarded result, nine bytes; 1, or 20 for anything but 60, 50 and 40 per cent.
+#[unsafe(no_mangle)]
+pub extern "C" fn tally_award(percent: u32, cell: &mut [u8]) -> u32
+    ensures number { result ≡ number_of (award_call percent (length cell.old)) }
+    ensures left { cell.new ≡ buffer_left (award_call percent (length cell.old)) cell.old }
+{
+    tally_calls::tally_award(percent, cell)
+}
+
+// The cell of a result in a tally, nine bytes; 1, 17, 20, 4, 28 or 21.
+#[unsafe(no_mangle)]
+pub extern "C" fn tally_cell(tally: &[u8], score: i32, holders: &[u8], cell: &mut [u8]) -> u32
+    ensures number { result ≡ number_of (cell_call tally.now score holders.now (length cell.old)) }
+    ensures left { cell.new
+        ≡ buffer_left (cell_call tally.now score holders.now (length cell.old)) cell.old }
+{
+    tally_calls::tally_cell(tally, score, holders, cell)
+}
+
+// The shares of both sides in a result of a tally, in hundredths of a per cent, four bytes; 65535 each where it is alone; 1, 17, 20, 4, 28 or 21.
+#[unsafe(no_mangle)]
+pub extern "C" fn tally_hundredths(
+    tally: &[u8],
+    score: i32,
+    holders: &[u8],
+    shares: &mut [u8],
+) -> u32
+    ensures number { result ≡ number_of (hundredths_call tally.now score holders.now (length shares.old)) }
+    ensures left { shares.new
+        ≡ buffer_left (hundredths_call tally.now score holders.now (length shares.old)) shares.old }
+{
+    tally_calls::tally_hundredths(tally, score, holders, shares)
+}

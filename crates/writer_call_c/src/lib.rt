@@ -1,0 +1,30 @@
+// The writer of table records, as C calls it.
+#![tactic(auto)]
+
+ghost use Rattle.std.specs.Prelude.{◌≡◌, length};
+ghost use Rattle.laws.specs.Writing.{write_of, number_of, record_left};
+ghost use Rattle.contents.specs.Given.{given};
+
+// Writes a record from its contents over the front of a buffer. `plays` has the cards and the codes among them, a flat list of numbers; `marked` 0 is no
+// claim, anything else a claim of `claim`. The answer is how many bytes were written, which is below 1024; or a refusal × 1024 + its place, with the buffer as
+// it was.
+#[unsafe(no_mangle)]
+pub extern "C" fn judge_write_record(
+    board: u32,
+    table: u32,
+    holders: &[u8],
+    calls: &[u8],
+    plays: &[u8],
+    marked: u32,
+    claim: u32,
+    out: &mut [u8],
+) -> u32
+    ensures number { result
+        ≡ number_of (write_of (given board table holders.now calls.now plays.now marked claim)
+        (length out.old)) }
+    ensures left { out.new
+        ≡ record_left (write_of (given board table holders.now calls.now plays.now marked claim)
+        (length out.old)) out.old }
+{
+    writer_call::judge_write_record(board, table, holders, calls, plays, marked, claim, out)
+}
