@@ -1,4 +1,6 @@
 // The judge of table records, for C: the record judged, and the answer written to what was lent.
+#![tactic(auto)]
+
 ghost use Rattle.std.specs.Prelude.{◌≡◌, ◌++◌, map, ◌*◌, ◌<◌, ◌≤◌, length, take, drop};
 ghost use Rattle.laws.specs.Record.{bytes_of};
 ghost use Rattle.laws.specs.Judge.{judge_of, number_of};

@@ -1,4 +1,6 @@
 // A table record from a text of Portable Bridge Notation, for C.
+#![tactic(auto)]
+
 mod tags;
 
 ghost use Rattle.std.specs.Prelude.{◌≡◌, reverse, ◌≤◌, ◌<◌, length};

@@ -1,4 +1,6 @@
 // The writer of table records, for C.
+#![tactic(auto)]
+
 ghost use Rattle.std.specs.Prelude.{◌≡◌, length};
 ghost use Rattle.laws.specs.Writing.{write_of, number_of, record_left};
 ghost use Rattle.contents.specs.Given.{given};
