@@ -66,9 +66,8 @@ def as_record(text, fields):
     if re.match(r"(rw|simp|elim|by_test|subst)\b", rest) or rest.startswith("λ"):
         return f"{head}LOOK {rest}"
     got = parts_of(rest)
-    while got and len(got) == 2 and len(fields) > 2 and parts_of(got[1]):
-        inner = parts_of(got[1])
-        got = [got[0], *inner]
+    while got and len(got) < len(fields) and parts_of(got[-1]):
+        got = [*got[:-1], *parts_of(got[-1])]
     if got and len(got) == len(fields):
         return head + "record { " + "; ".join(f"{f} = {p}" for f, p in zip(fields, got)) + " }"
     paths = [".0"] if len(fields) == 2 else []
@@ -268,7 +267,7 @@ class Function:
                 if got is not None:
                     env[m.group(1)] = got
                     k = end
-                    k2 = re.compile(r"\s*in\b\s*").match(text, k)
+                    k2 = re.compile(r"\s*in(?![\w'-])\s*").match(text, k)
                     k = k2.end() if k2 else k
                     continue
                 env.pop(m.group(1), None)
@@ -369,9 +368,9 @@ class Function:
             elif text[k] in ")]}":
                 depth -= 1
             elif depth == 0:
-                if re.compile(r"\blet\b").match(text, k) and not text[k - 1].isalnum():
+                if re.compile(r"let(?![\w'-])").match(text, k) and text[k - 1] in " \n(":
                     lets += 1
-                if re.compile(r"\bin\b").match(text, k) and text[k - 1] in " \n":
+                if re.compile(r"in(?![\w'-])").match(text, k) and text[k - 1] in " \n":
                     if lets == 0:
                         return k
                     lets -= 1

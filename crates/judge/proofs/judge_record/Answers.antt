@@ -10,27 +10,27 @@ pub returns-then-answer-lt7 : goal.returns-then-answer-lt7
 returns-then-answer-lt7 c =
     let a = c.args in
     let l = short_answer a.bytes.now a.answer.now a.list.now a.failures.now a.winners.now c.if-answer-lt7.true in
-    record { number = ((c.refusal_number.ensures ∙ l.number, (l.answered, (l.listed, (l.failed, l.won))))).0; answered = ((c.refusal_number.ensures ∙ l.number, (l.answered, (l.listed, (l.failed, l.won))))).1.0; listed = ((c.refusal_number.ensures ∙ l.number, (l.answered, (l.listed, (l.failed, l.won))))).1.1.0; failed = ((c.refusal_number.ensures ∙ l.number, (l.answered, (l.listed, (l.failed, l.won))))).1.1.1.0; won = ((c.refusal_number.ensures ∙ l.number, (l.answered, (l.listed, (l.failed, l.won))))).1.1.1.1 }
+    record { number = c.refusal_number.ensures ∙ l.number; answered = l.answered; listed = l.listed; failed = l.failed; won = l.won }
 
 pub returns-then-list-lt48 : goal.returns-then-list-lt48
 returns-then-list-lt48 c =
     let a = c.args in
     let l = short_list a.bytes.now a.answer.now a.list.now a.failures.now a.winners.now (omega arith) c.if-list-lt48.true in
-    record { number = ((c.refusal_number-then-list-lt48.ensures ∙ l.number, (l.answered, (l.listed, (l.failed, l.won))))).0; answered = ((c.refusal_number-then-list-lt48.ensures ∙ l.number, (l.answered, (l.listed, (l.failed, l.won))))).1.0; listed = ((c.refusal_number-then-list-lt48.ensures ∙ l.number, (l.answered, (l.listed, (l.failed, l.won))))).1.1.0; failed = ((c.refusal_number-then-list-lt48.ensures ∙ l.number, (l.answered, (l.listed, (l.failed, l.won))))).1.1.1.0; won = ((c.refusal_number-then-list-lt48.ensures ∙ l.number, (l.answered, (l.listed, (l.failed, l.won))))).1.1.1.1 }
+    record { number = c.refusal_number-then-list-lt48.ensures ∙ l.number; answered = l.answered; listed = l.listed; failed = l.failed; won = l.won }
 
 pub returns-then-failures-lt52 : goal.returns-then-failures-lt52
 returns-then-failures-lt52 c =
     let a = c.args in
     let l = short_failures a.bytes.now a.answer.now a.list.now a.failures.now a.winners.now (omega arith) (omega arith)
     c.if-failures-lt52.true in
-    record { number = ((c.refusal_number-then-failures-lt52.ensures ∙ l.number, (l.answered, (l.listed, (l.failed, l.won))))).0; answered = ((c.refusal_number-then-failures-lt52.ensures ∙ l.number, (l.answered, (l.listed, (l.failed, l.won))))).1.0; listed = ((c.refusal_number-then-failures-lt52.ensures ∙ l.number, (l.answered, (l.listed, (l.failed, l.won))))).1.1.0; failed = ((c.refusal_number-then-failures-lt52.ensures ∙ l.number, (l.answered, (l.listed, (l.failed, l.won))))).1.1.1.0; won = ((c.refusal_number-then-failures-lt52.ensures ∙ l.number, (l.answered, (l.listed, (l.failed, l.won))))).1.1.1.1 }
+    record { number = c.refusal_number-then-failures-lt52.ensures ∙ l.number; answered = l.answered; listed = l.listed; failed = l.failed; won = l.won }
 
 pub returns-then-winners-lt26 : goal.returns-then-winners-lt26
 returns-then-winners-lt26 c =
     let a = c.args in
     let l = short_winners a.bytes.now a.answer.now a.list.now a.failures.now a.winners.now (omega arith) (omega arith) (omega arith)
     c.if-winners-lt26.true in
-    record { number = ((c.refusal_number-then-winners-lt26.ensures ∙ l.number, (l.answered, (l.listed, (l.failed, l.won))))).0; answered = ((c.refusal_number-then-winners-lt26.ensures ∙ l.number, (l.answered, (l.listed, (l.failed, l.won))))).1.0; listed = ((c.refusal_number-then-winners-lt26.ensures ∙ l.number, (l.answered, (l.listed, (l.failed, l.won))))).1.1.0; failed = ((c.refusal_number-then-winners-lt26.ensures ∙ l.number, (l.answered, (l.listed, (l.failed, l.won))))).1.1.1.0; won = ((c.refusal_number-then-winners-lt26.ensures ∙ l.number, (l.answered, (l.listed, (l.failed, l.won))))).1.1.1.1 }
+    record { number = c.refusal_number-then-winners-lt26.ensures ∙ l.number; answered = l.answered; listed = l.listed; failed = l.failed; won = l.won }
 
 pub returns-then-refusal-ne0 : goal.returns-then-refusal-ne0
 returns-then-refusal-ne0 c =
@@ -38,7 +38,7 @@ returns-then-refusal-ne0 c =
     let enough = enough-of a.answer.now a.list.now a.failures.now a.winners.now (omega arith) (omega arith) (omega arith) (omega arith) in
     let l = judge_refuses a.bytes.now a.answer.now a.list.now a.failures.now a.winners.now enough _ c.judge-judged.ensures
     (λ z. c.if-refusal-ne0.true (rw z)) in
-    record { number = ((l.number, (l.answered, (l.listed, (l.failed, l.won))))).0; answered = ((l.number, (l.answered, (l.listed, (l.failed, l.won))))).1.0; listed = ((l.number, (l.answered, (l.listed, (l.failed, l.won))))).1.1.0; failed = ((l.number, (l.answered, (l.listed, (l.failed, l.won))))).1.1.1.0; won = ((l.number, (l.answered, (l.listed, (l.failed, l.won))))).1.1.1.1 }
+    record { number = l.number; answered = l.answered; listed = l.listed; failed = l.failed; won = l.won }
 
 pub put_list-requires : goal.put_list-requires
 put_list-requires c =
@@ -60,4 +60,4 @@ returns c =
     let enough = enough-of a.answer.now a.list.now a.failures.now a.winners.now (omega arith) (omega arith) (omega arith) (omega arith) in
     let l = judge_accepts a.bytes.now a.answer.now a.list.now a.failures.now a.winners.now enough _ c.judge-judged.ensures c.if-refusal-ne0.false
     (c.put7.ensures, c.put_list.ensures, c.put_failures.ensures, c.put_winners.ensures) in
-    record { number = ((l.number, (l.answered, (l.listed, (l.failed, l.won))))).0; answered = ((l.number, (l.answered, (l.listed, (l.failed, l.won))))).1.0; listed = ((l.number, (l.answered, (l.listed, (l.failed, l.won))))).1.1.0; failed = ((l.number, (l.answered, (l.listed, (l.failed, l.won))))).1.1.1.0; won = ((l.number, (l.answered, (l.listed, (l.failed, l.won))))).1.1.1.1 }
+    record { number = l.number; answered = l.answered; listed = l.listed; failed = l.failed; won = l.won }

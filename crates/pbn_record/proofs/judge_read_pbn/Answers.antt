@@ -9,13 +9,6 @@ use Rattle.pbn_record.proofs.Written.{line_low, outside_told, Stood, stood, tags
 use Rattle.pbn_record.proofs.judge_read_pbn.Goals.{After-read_game-g, Else-g-ne0, Start}
 use Rattle.pbn_record.proofs.judge_read_pbn.Goals as goal
 
--- what stands in the text
-abbrev start_of : After-read_game-g → Start
-start_of r = r.before.before.before
-
-in-text : (c : Else-g-ne0) → Stood (start_of c.before.before).args.text.now c.read_game-g.result c.read_game-g.ensures
-in-text c = stood _ _ c.read_game-g.ensures c.if-g-ne0.false
-
 pub narrow-requires : goal.narrow-requires
 narrow-requires c = line_low _ _ c.read_game-g.ensures
 
@@ -26,31 +19,20 @@ returns-then-g-ne0 c =
 
 pub returns-then-tags-ne0 : goal.returns-then-tags-ne0
 returns-then-tags-ne0 c =
-    let s = in
-    record { number = (-text c.before.before.before in
-    tags_refused _ _ _ _ s.said s.read s.sayable _ (c.take_tags-tags.ensures _ s.sayable s.told) c.if-tags-ne0.true).0; left = (-text c.before.before.before in
-    tags_refused _ _ _ _ s.said s.read s.sayable _ (c.take_tags-tags.ensures _ s.sayable s.told) c.if-tags-ne0.true).1 }
+    let s = (let h : Stood c.args.text.now c.read_game-g.result c.read_game-g.ensures = stood _ _ c.read_game-g.ensures c.if-g-ne0.false in h) in
+    record { number = (tags_refused c.args.text.now c.args.table (length c.args.out.now) c.args.out.now s.said s.read s.sayable _ (c.take_tags-tags.ensures _ s.sayable s.told) c.if-tags-ne0.true).0; left = (tags_refused c.args.text.now c.args.table (length c.args.out.now) c.args.out.now s.said s.read s.sayable _ (c.take_tags-tags.ensures _ s.sayable s.told) c.if-tags-ne0.true).1 }
 
 pub write_game-requires : goal.write_game-requires
 write_game-requires c =
-    let s = in-text c.before.before.before.before in
-    count_low (start_of c.before.before.before.before.before.before).args.text.now _ 0 [] s.said s.read s.sayable _
+    let s = (let h : Stood c.args.text.now c.read_game-g.result c.read_game-g.ensures = stood _ _ c.read_game-g.ensures c.if-g-ne0.false in h) in
+    count_low c.args.text.now _ 0 [] s.said s.read s.sayable _
     (c.take_tags-tags.ensures _ s.sayable s.told) c.if-tags-ne0.false _ s.told
 
 pub returns : goal.returns
 returns c =
-    let a = (start_of c.before.before.before.before.before.before.before.before.before).args in
-    let s = in
-    record { number = (-text c.before.before.before.before.before.before.before in
+    let a = c.args in
+    let s = (let h : Stood c.args.text.now c.read_game-g.result c.read_game-g.ensures = stood _ _ c.read_game-g.ensures c.if-g-ne0.false in h) in
     let tags = c.take_tags-tags.ensures _ s.sayable s.told in
     let trump = trump_is a.text.now _ 0 [] s.said s.read s.sayable _ tags c.if-tags-ne0.false in
-    let said = written_as a.text.now a.table (length a.out.now) [] s.said s.read s.sayable _ tags c.if-tags-ne0.false in (
-      c.write_game.ensures.number _ s.sayable s.told trump ∙ ap number_of (sym said),
-      c.write_game.ensures.left _ s.sayable s.told trump ∙ ap (λ k. record_left k a.out.now) (sym said),
-    )).0; left = (-text c.before.before.before.before.before.before.before in
-    let tags = c.take_tags-tags.ensures _ s.sayable s.told in
-    let trump = trump_is a.text.now _ 0 [] s.said s.read s.sayable _ tags c.if-tags-ne0.false in
-    let said = written_as a.text.now a.table (length a.out.now) [] s.said s.read s.sayable _ tags c.if-tags-ne0.false in (
-      c.write_game.ensures.number _ s.sayable s.told trump ∙ ap number_of (sym said),
-      c.write_game.ensures.left _ s.sayable s.told trump ∙ ap (λ k. record_left k a.out.now) (sym said),
-    )).1 }
+    let said = written_as a.text.now a.table (length a.out.now) [] s.said s.read s.sayable _ tags c.if-tags-ne0.false in
+    record { number = c.write_game.ensures.number _ s.sayable s.told trump ∙ ap number_of (sym said); left = c.write_game.ensures.left _ s.sayable s.told trump ∙ ap (λ k. record_left k a.out.now) (sym said) }

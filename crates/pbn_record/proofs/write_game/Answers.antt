@@ -39,10 +39,9 @@ same : (w : After-write_record) (x : Game) → let a = w.args in
     (take w.cards_listed-n.result w.order_of_play-order.result.cards) 0 0
     ≡ contents_in x a.table
 same w x ok eg et =
-    let n = w.before.before.before.before.before in
-    let o = order-of w in
-    given_is x ok _ eg _ _ et (start_of o).pre _ _ _ _ refl refl o.order-of-play.ensures (order-length o)
-    (ap (λ k. take k o.order-of-play.result.cards) n.cards-listed.ensures.0)
+    let long : length w.order_of_play-order.result.cards ≡ 52 = search rules in
+    given_is x ok _ eg _ _ et w.requires _ _ _ _ refl refl w.order_of_play-order.ensures long
+    (ap (λ k. take k w.order_of_play-order.result.cards) w.cards_listed-n.ensures.0)
 
 pub returns : goal.returns
 returns c =
