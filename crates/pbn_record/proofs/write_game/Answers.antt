@@ -46,4 +46,4 @@ same w x ok eg et =
 pub returns : goal.returns
 returns c =
     let out = c.args.out.now in
-    record { number = λ x ok eg et. c.write_record.ensures.number ∙ ap (λ k. number_of (write_of k (length out))) (same c x ok eg et); left = λ x ok eg et. c.write_record.ensures.left ∙ ap (λ k. record_left (write_of k (length out)) out) (same c x ok eg et) }
+    record { number = λ x ok eg et. c.write_record.ensures.number ∙ ap (λ k. number_of (write_of k (length out))) (same c.before.before.before x ok eg et); left = λ x ok eg et. c.write_record.ensures.left ∙ ap (λ k. record_left (write_of k (length out)) out) (same c.before.before.before x ok eg et) }
