@@ -165,9 +165,8 @@ class Function:
                 for a, b in self.args:
                     if a == key:
                         segs[k + 1] = b.split(".")[-1]
-                out += ["args", segs[k + 1]]
-                k += 2
-                continue
+                out += ["args", *segs[k + 1:]]
+                break
             if s == "ranges" and k + 1 < len(segs):
                 key = f".ranges.{segs[k + 1]}"
                 for a, b in self.args:
@@ -184,6 +183,8 @@ class Function:
                 k += 1 + len(path)
                 continue
             found = self.step_of.get(canon(s)) or (self.step_of.get(canon(s[:-4])) if s.endswith("_lem") else None)
+            if not found and canon(s) != canon(s).lower():
+                found = self.step_of.get(canon(s).lower())
             if not found and s.startswith("is_Is"):
                 found = self.step_of.get("is" + re.sub("([A-Z])", lambda w: "_" + w.group(1).lower(), s[5:]))
             if found:
@@ -208,6 +209,9 @@ class Function:
                         if field is None:
                             return Tuple("".join("." + s for s in out), self.clauses[snew])
                         out.append(field)
+                    # what is behind are fields of a value or parts of a fact
+                    out += segs[k:]
+                    break
                 continue
             if s in ("requires", "pre") and isinstance(self.pre, (list, dict)) and not out:
                 fields = self.pre if isinstance(self.pre, list) else self.pre.get("fields", [])
@@ -349,8 +353,12 @@ class Function:
     def written_out(self, name, expr):
         parameter, kind, value = self.bodies[name]
         put = lambda text: re.sub(rf"(?<![\w'.-]){re.escape(parameter)}(?![\w'-])", lambda w: expr, text)
-        if re.match(r"\(?(omega|search|grind|simp|cc)\b", value.strip()):
-            return f"(let h : {put(kind).strip()} = {put(value).strip()} in h)"
+        last = value.strip()
+        while last.startswith("let "):
+            last = last[self.let_end(last, 4):].strip()[2:].strip()
+        if re.match(r"\(?(omega|search|grind|simp|cc)\b", last) or last.startswith("record") or parts_of(last):
+            kind = put(kind).strip()
+            return f"(let h : {f'({kind})' if 'let ' in kind else kind} = {put(value).strip()} in h)"
         return f"({put(value).strip()})"
 
     def parens(self, expr, tight=False):
