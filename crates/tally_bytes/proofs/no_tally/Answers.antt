@@ -3,12 +3,8 @@ use mathlib.Core.Path.{refl}
 use Rattle.laws.specs.Padded.{padded}
 use Rattle.tally.specs.Entries.{entries_of}
 use Rattle.tally.specs.Tallies.{tally_with, tally_for, tally_of}
-use Rattle.tally_bytes.proofs.no_tally.Statement.{statement}
-use Rattle.tally_bytes.proofs.no_tally.Tie as tie
+use Rattle.tally_bytes.proofs.no_tally.Goals as goal
 
-returns : tie.Need-returns
+pub returns : goal.returns
 unfolding tally_of tally_for tally_with entries_of padded
 returns c = refl
-
-pub no-tally-spec : {M : Type 1} → statement M
-no-tally-spec = tie.close (tie.spec returns)
