@@ -63,6 +63,11 @@ def as_record(text, fields):
         end = Function.let_end(None, rest, 4)
         head += rest[:end] + "in\n    "
         rest = rest[end:].strip()[2:].strip()
+    if rest.startswith("rw "):
+        # what is left is given as a tuple: each part is rewritten
+        for k in range(len(rest)):
+            if rest[k] == "(" and balanced_end(rest, k) == len(rest) and rest[k - 1] in " \n" and len(parts_of(rest[k:]) or []) == len(fields):
+                return head + "record { " + "; ".join(f"{f} = {rest[:k]}{p if re.fullmatch(r'[^ ]+', p) else f'({p})'}" for f, p in zip(fields, parts_of(rest[k:]))) + " }"
     if re.match(r"(rw|simp|elim|by_test|subst)\b", rest) or rest.startswith("λ"):
         return f"{head}LOOK {rest}"
     got = parts_of(rest)
@@ -260,6 +265,11 @@ class Function:
                 end = self.let_end(text, start)
                 bound = text[start:end].strip()
                 got = self.place_expr(bound, env)
+                if re.fullmatch(rf"{WORD}(?:\.before)*\.[\w'-]+\.given(?:\.[01])*", bound) and bound.split(".")[0] in env:
+                    # what an arm knows is named part by part now
+                    k2 = re.compile(r"\s*in\b\s*").match(text, end)
+                    text = text[:k] + re.sub(rf"(?<![\w'.-]){re.escape(m.group(1))}(?=\.)", lambda w: bound, text[k2.end():])
+                    continue
                 argued = re.fullmatch(rf"({WORD})(?:\.before)*\.(args|ranges)", bound)
                 if argued and argued.group(1) in env:
                     self.argued[m.group(1)] = argued.group(2)
