@@ -172,6 +172,8 @@ class Function:
                         segs[k + 1] = b.split(".")[-1]
                 out += ["args", *segs[k + 1:]]
                 break
+            if s == "fits" and not out:
+                s = "ranges"
             if s == "ranges" and k + 1 < len(segs):
                 key = f".ranges.{segs[k + 1]}"
                 for a, b in self.args:
