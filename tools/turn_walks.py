@@ -63,11 +63,17 @@ def as_record(text, fields):
         end = Function.let_end(None, rest, 4)
         head += rest[:end] + "in\n    "
         rest = rest[end:].strip()[2:].strip()
+    if rest.startswith("rw "):
+        # what is left is given as a tuple: each part is rewritten
+        for k in range(len(rest)):
+            if rest[k] == "(" and balanced_end(rest, k) == len(rest) and rest[k - 1] in " \n" and len(parts_of(rest[k:]) or []) == len(fields):
+                return head + "record { " + "; ".join(f"{f} = {rest[:k]}{p if re.fullmatch(r'[^ ]+', p) else f'({p})'}" for f, p in zip(fields, parts_of(rest[k:]))) + " }"
     if re.match(r"(rw|simp|elim|by_test|subst)\b", rest) or rest.startswith("λ"):
         return f"{head}LOOK {rest}"
     got = parts_of(rest)
-    while got and len(got) < len(fields) and parts_of(got[-1]):
-        got = [*got[:-1], *parts_of(got[-1])]
+    while got and len(got) == 2 and len(fields) > 2 and parts_of(got[1]):
+        inner = parts_of(got[1])
+        got = [got[0], *inner]
     if got and len(got) == len(fields):
         return head + "record { " + "; ".join(f"{f} = {p}" for f, p in zip(fields, got)) + " }"
     paths = [".0"] if len(fields) == 2 else []
@@ -166,6 +172,8 @@ class Function:
                         segs[k + 1] = b.split(".")[-1]
                 out += ["args", *segs[k + 1:]]
                 break
+            if s == "fits" and not out:
+                s = "ranges"
             if s == "ranges" and k + 1 < len(segs):
                 key = f".ranges.{segs[k + 1]}"
                 for a, b in self.args:
@@ -182,7 +190,7 @@ class Function:
                 k += 1 + len(path)
                 continue
             found = self.step_of.get(canon(s)) or (self.step_of.get(canon(s[:-4])) if s.endswith("_lem") else None)
-            if not found and s[:1].isupper():
+            if not found and canon(s) != canon(s).lower():
                 found = self.step_of.get(canon(s).lower())
             if not found and s.startswith("is_Is"):
                 found = self.step_of.get("is" + re.sub("([A-Z])", lambda w: "_" + w.group(1).lower(), s[5:]))
@@ -198,9 +206,7 @@ class Function:
                 k += 1
                 if k < len(segs):
                     f = segs[k]
-                    f = {"inv": "invariant", "pre": "requires", "type-inv": "type_inv"}.get(f, f)
-                    if snew.startswith(("if", "loop")):
-                        f = {"taken": "true", "left": "false"}.get(f, f)
+                    f = {"inv": "invariant", "pre": "requires"}.get(f, f)
                     if (snew, f) in self.raw:
                         f = self.raw[(snew, f)]
                     out.append(f)
@@ -210,8 +216,10 @@ class Function:
                         if field is None:
                             return Tuple("".join("." + s for s in out), self.clauses[snew])
                         out.append(field)
-                out += segs[k:]
-                break
+                    # what is behind are fields of a value or parts of a fact
+                    out += segs[k:]
+                    break
+                continue
             if s in ("requires", "pre") and isinstance(self.pre, (list, dict)) and not out:
                 fields = self.pre if isinstance(self.pre, list) else self.pre.get("fields", [])
                 if len(fields) > 1:
@@ -259,6 +267,11 @@ class Function:
                 end = self.let_end(text, start)
                 bound = text[start:end].strip()
                 got = self.place_expr(bound, env)
+                if re.fullmatch(rf"{WORD}(?:\.before)*\.[\w'-]+\.given(?:\.[01])*", bound) and bound.split(".")[0] in env:
+                    # what an arm knows is named part by part now
+                    k2 = re.compile(r"\s*in\b\s*").match(text, end)
+                    text = text[:k] + re.sub(rf"(?<![\w'.-]){re.escape(m.group(1))}(?=\.)", lambda w: bound, text[k2.end():])
+                    continue
                 argued = re.fullmatch(rf"({WORD})(?:\.before)*\.(args|ranges)", bound)
                 if argued and argued.group(1) in env:
                     self.argued[m.group(1)] = argued.group(2)
@@ -267,7 +280,7 @@ class Function:
                 if got is not None:
                     env[m.group(1)] = got
                     k = end
-                    k2 = re.compile(r"\s*in(?![\w'-])\s*").match(text, k)
+                    k2 = re.compile(r"\s*in\b\s*").match(text, k)
                     k = k2.end() if k2 else k
                     continue
                 env.pop(m.group(1), None)
@@ -352,8 +365,12 @@ class Function:
     def written_out(self, name, expr):
         parameter, kind, value = self.bodies[name]
         put = lambda text: re.sub(rf"(?<![\w'.-]){re.escape(parameter)}(?![\w'-])", lambda w: expr, text)
-        if re.search(r"(?<![\w'-])(omega|search|grind|simp|cc|rw)(?![\w'-])", value) or value.strip().startswith("λ") or re.search(r"(?<![\w'-])_(?![\w'-])", value):
-            return f"(let h : {put(kind).strip()} = {put(value).strip()} in h)"
+        last = value.strip()
+        while last.startswith("let "):
+            last = last[self.let_end(last, 4):].strip()[2:].strip()
+        if re.match(r"\(?(omega|search|grind|simp|cc)\b", last) or last.startswith("record") or parts_of(last):
+            kind = put(kind).strip()
+            return f"(let h : {f'({kind})' if 'let ' in kind else kind} = {put(value).strip()} in h)"
         return f"({put(value).strip()})"
 
     def parens(self, expr, tight=False):
@@ -368,9 +385,9 @@ class Function:
             elif text[k] in ")]}":
                 depth -= 1
             elif depth == 0:
-                if re.compile(r"let(?![\w'-])").match(text, k) and text[k - 1] in " \n(":
+                if re.compile(r"\blet\b").match(text, k) and not text[k - 1].isalnum():
                     lets += 1
-                if re.compile(r"in(?![\w'-])").match(text, k) and text[k - 1] in " \n":
+                if re.compile(r"\bin\b").match(text, k) and text[k - 1] in " \n":
                     if lets == 0:
                         return k
                     lets -= 1
@@ -502,32 +519,30 @@ def turn(folder, info):
                 fn.said.append(f"{name}: no loop")
             new = f"{kind}-{found[0]}" if found else "decreases"
             table = {}
-            # the loop's variables go by a name that the invariant does not bind itself
-            var = next(v for v in ("l", "s", "at", "turn") if not re.search(rf"(?<![\w'.-]){v}(?![\w'-])", value))
             if found:
                 _, variables, changed = found
                 for p in params:
                     base = p.rstrip("₀")
                     if p.endswith("₀"):
-                        table[p] = f"{var}.initial.{base}"
+                        table[p] = f"l.initial.{base}"
                     else:
-                        table[p] = f"{var}.{p}"
+                        table[p] = f"l.{p}"
                     if base not in variables:
                         # by place: those that do not change, then first values, then values
                         fixed = [v for v, c in zip(variables, changed) if not c]
                         moving = [v for v, c in zip(variables, changed) if c]
-                        order = [f"{var}.{v}" for v in fixed] + [f"{var}.initial.{v}" for v in moving] + [f"{var}.{v}" for v in moving]
+                        order = [f"l.{v}" for v in fixed] + [f"l.initial.{v}" for v in moving] + [f"l.{v}" for v in moving]
                         if len(order) == len(params):
                             table[p] = order[params.index(p)]
                         else:
                             fn.said.append(f"{name}: parameter {p} of {variables}")
             else:
                 for p in params:
-                    table[p] = f"{var}.{p}"
+                    table[p] = f"l.{p}"
             value = re.sub(rf"(?<![\w'.-])({WORD}₀?)(?![\w'₀-])", lambda w: table.get(w.group(1), w.group(1)), value)
             # a signed variable is read as a number now
-            value = re.sub(rf"\(to_z w\d+ ({var}(?:\.initial)?\.\w+)\)|\bto_z w\d+ ({var}(?:\.initial)?\.\w+)(?![\w.'-])", lambda w: w.group(1) or w.group(2), value)
-            invariants.append(f"{note}abbrev pub {new} : goal.{new}\n{new} {var} = {value}" if "\n" not in value.strip() else f"{note}abbrev pub {new} : goal.{new}\n{new} {var} =\n    {value}")
+            value = re.sub(r"\(to_z w\d+ (l(?:\.initial)?\.\w+)\)|\bto_z w\d+ (l(?:\.initial)?\.\w+)(?![\w.'-])", lambda w: w.group(1) or w.group(2), value)
+            invariants.append(f"{note}abbrev pub {new} : goal.{new}\n{new} l = {value}" if "\n" not in value.strip() else f"{note}abbrev pub {new} : goal.{new}\n{new} l =\n    {value}")
             continue
         if re.search(r":\s*\{M : Type 1\} → statement", body):
             continue
@@ -575,11 +590,9 @@ def turn(folder, info):
                 value = fn.term(value, root, place[0])
             if fn.all_inline and name in fn.helpers and place[1]:
                 continue
-            if name in fn.helpers and (fn.all_inline or place[0] in INLINE.get(folder, [])) and not place[1]:
+            if name in fn.helpers and (fn.all_inline or place[0] in INLINE.get(folder, [])) and not place[1] and len(params) == 1:
                 kind = re.sub(r"\nunfolding .*", "", sig_text)
                 kind = kind.split("→", 1)[1] if "→" in kind else kind
-                if len(params) > 1:
-                    value = f"λ {' '.join(params[1:])}. {value.strip()}"
                 fn.bodies[name] = (params[0], kind, value)
                 continue
             answers.append(note + decl + sig_text + name + "".join(" " + p for p in params) + " =" + value)
@@ -587,11 +600,6 @@ def turn(folder, info):
             answers.append(piece)
     goals = f"use {module}.Goals as goal"
     given = f"use {module}.Given as goal"
-    out = "\n\n".join(a.rstrip() for a in answers)
-    for a, b in fn.args:
-        if a.startswith(".args."):
-            answers = [re.sub(rf"\.{a[6:]}(?![\w'])", "." + b[6:], x) for x in answers]
-            invariants = [re.sub(rf"\.{a[6:]}(?![\w'])", "." + b[6:], x) for x in invariants]
     out = "\n\n".join(a.rstrip() for a in answers)
     out = raws(out)
     if fn.named:

@@ -1,4 +1,6 @@
 // What the calls of a script of tally calls answer, as text, and the lines of a tally.
+#![tactic(auto)]
+
 ghost use Rattle.std.specs.Prelude.{◌≡◌, ◌≤◌, ◌<◌, length};
 ghost use Rattle.answer_text.specs.Answers.{placed_text, refused_at_text, hex_digit, hex_digits, bits_text};
 ghost use Rattle.answer_text.specs.Answers.{said_text, entry_text, tally_text};

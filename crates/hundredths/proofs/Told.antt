@@ -1,14 +1,13 @@
 -- The shares of a result by the matchpoints that a tally answers for it. Assumes nothing.
-use Prim.Native.Nat.{ℕ, ◌+◌, ◌-◌, ◌*◌, ◌/◌, ◌≤◌}
+use Prim.Native.Nat.{ℕ, ◌+◌, ◌≤◌}
 use native.Mathlib.Omega.{arith}
-use mathlib.Core.Path.{◌≡◌, refl, sym, ap, ◌∙◌}
-use mathlib.Core.Bool.{Bool, true, false}
+use mathlib.Core.Path.{◌≡◌}
+use mathlib.Core.Bool.{true, false}
 use mathlib.Core.List.{List}
 use borrow.Author.Tests.{eqb-true, eqb-false, eq-eqb, ne_eqb}
 use lib.Dec.{eqb}
 use lib.IntN.{ℤ}
 use lib.ListN.{length}
-use Rattle.laws.specs.CellSheet.{hundredths}
 use Rattle.laws.specs.Law77.{valid_score}
 use Rattle.laws.specs.Law78.{occurrences, ns_matchpoints, ew_matchpoints, Points as BothSides, matchpoints}
 use Rattle.laws.specs.Percentages.{most_matchpoints}

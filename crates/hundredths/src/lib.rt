@@ -1,4 +1,6 @@
 // The shares of both sides in a result: hundredths of a per cent of the matchpoints that it can have, rounded half up from the exact fraction.
+#![tactic(auto)]
+
 ghost use Rattle.std.specs.Prelude.{◌≡◌, ◌+◌, ◌≤◌};
 ghost use Rattle.hundredths.specs.Shares.{share_of, shares_by, share_answer, shares_of_tally};
 

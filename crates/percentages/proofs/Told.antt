@@ -1,17 +1,17 @@
 -- The cell of a result by the matchpoints that a tally answers for it. Assumes nothing.
 use Prim.Native.Nat.{ℕ, ◌+◌, ◌-◌, ◌*◌, ◌/◌, ◌≤◌}
 use native.Mathlib.Omega.{arith}
-use mathlib.Core.Path.{◌≡◌, refl, sym, ap, ◌∙◌, subst}
-use mathlib.Core.Bool.{Bool, true, false}
+use mathlib.Core.Path.{◌≡◌}
+use mathlib.Core.Bool.{true, false}
 use mathlib.Core.List.{List}
-use borrow.Author.Tests.{eqb-true, eqb-false, eq-eqb, ne_eqb}
+use borrow.Author.Tests.{eqb-false}
 use lib.Dec.{eqb}
 use lib.IntN.{ℤ}
 use lib.ListN.{length}
-use Rattle.laws.specs.Refusals.{Answer, refused, answered, Placed, refused_at, given, placed}
+use Rattle.laws.specs.Refusals.{Answer, Placed, refused_at, given, placed}
 use Rattle.laws.specs.Law77.{valid_score}
 use Rattle.laws.specs.Law78.{occurrences, ns_matchpoints, ew_matchpoints, Points as BothSides, matchpoints}
-use Rattle.laws.specs.Percentages.{percentage, most_matchpoints, ns_percentage, cell_of, cell_asked, is_award, award, Cell as Entered}
+use Rattle.laws.specs.Percentages.{most_matchpoints, ns_percentage, cell_of, cell_asked, is_award, award, Cell as Entered}
 use Rattle.laws.proofs.Comparisons.{below_equal, both_most}
 use Rattle.laws.specs.Tally.{Result, scores_of, given_refusal, asked}
 use Rattle.laws.proofs.Tests.{by_test}

@@ -1,4 +1,6 @@
 // The cells of a page of results: a result of a tally with its percentage as a 64-bit float, and awarded results.
+#![tactic(auto)]
+
 ghost use Rattle.std.specs.Prelude.{◌≡◌, ◌+◌, ◌-◌, ◌*◌, ◌/◌, ◌≤◌};
 ghost use Rattle.laws.specs.Percentages.{percentage, is_award, award as awardAsked};
 ghost use Rattle.laws.specs.Refusals.{placed};

@@ -1,9 +1,9 @@
 -- The loop that reads the lines: what is read, and what is left to read. Assumes nothing.
-use Prim.Native.Nat.{ℕ, zero, suc, ◌+◌, ◌-◌, ◌≤◌, ◌<◌}
+use Prim.Native.Nat.{ℕ, suc, ◌+◌, ◌-◌, ◌≤◌, ◌<◌}
 use native.Mathlib.Numerals.{add-one}
 use native.Mathlib.Omega.{arith}
 use mathlib.Core.Path.{◌≡◌, refl, sym, ap, ◌∙◌}
-use mathlib.Core.Bool.{Bool, true, false, not, ◌||◌}
+use mathlib.Core.Bool.{true, false, not, ◌||◌}
 use mathlib.Core.List.{List, [], ◌∷◌, ◌++◌, map, append_assoc, append-nil}
 use borrow.Author.Tests.{le-ltb, ltb-false}
 use lib.Dec.{ltb}
@@ -13,7 +13,7 @@ use lib.Seq.{drop-drop}
 use mir.Syntax.{w16}
 use mir.Val.{to_z, of_z}
 use mir.Facts.{to_z-of_z}
-use Rattle.laws.specs.Choice.{if◌then◌else◌, how_many, some}
+use Rattle.laws.specs.Choice.{how_many, some}
 use Rattle.laws.specs.Law77.{valid_score}
 use Rattle.laws.specs.Sheet.{lines_of, score_of, is_score, is_zero, is_size, unsigned, refused_line}
 use Rattle.laws.specs.Cards.{cards_dealt, first_without_thirteen}
@@ -31,7 +31,6 @@ use Rattle.tally.proofs.OfLists.{Sound, answer-number, answer_made, add-list}
 use Rattle.tree_stack.specs.Deals.{suits}
 use Rattle.score_lines.specs.declared.Said.{Said}
 use Rattle.score_lines.specs.declared.Said.TheVariants.{Score, Nothing}
-use Rattle.score_lines.specs.declared.Results.{Results}
 use Rattle.score_lines.specs.Reading.{line_length, said_on}
 use Rattle.score_lines.specs.Whole.{Found}
 use Rattle.score_lines.proofs.Lines.{first-line, line-within}

@@ -1,4 +1,6 @@
 // The scores on the lines of a text, each line read, and the tally of them all, which are of one deal.
+#![tactic(auto)]
+
 ghost use Rattle.std.specs.Prelude.{◌≡◌, ◌+◌, ◌≤◌, length, drop};
 ghost use Rattle.tally.specs.Tallies.{add_of, no_tally};
 ghost use Rattle.tree_stack.specs.Deals.{suits};

@@ -1,16 +1,16 @@
 -- The loop that prints a tally's table, row by row. Assumes nothing.
-use Prim.Native.Nat.{ℕ, zero, suc, ◌+◌, ◌-◌, ◌*◌, ◌≤◌, ◌<◌}
+use Prim.Native.Nat.{ℕ, suc, ◌+◌, ◌-◌, ◌*◌, ◌≤◌, ◌<◌}
 use native.Mathlib.Numerals.{add-one}
 use native.Mathlib.Omega.{arith}
 use mathlib.Core.Path.{◌≡◌, refl, sym, ap, ◌∙◌}
-use mathlib.Core.Bool.{Bool, true, false}
+use mathlib.Core.Bool.{true, false}
 use mathlib.Core.List.{List, [], ◌∷◌, ◌++◌, map, append_assoc, append-nil}
 use borrow.Author.Tests.{eqb-true, eqb-false, eq-eqb, ne_eqb}
 use lib.Dec.{eqb}
-use lib.IntN.{ℤ, pos, nat_abs}
-use lib.ListN.{length, get_or, length-append}
+use lib.IntN.{ℤ, pos}
+use lib.ListN.{length, get_or}
 use mir.Syntax.{w16}
-use mir.Val.{SFits, to_z, of_z}
+use mir.Val.{to_z, of_z}
 use mir.Facts.{to_z-of_z}
 use Rattle.laws.specs.Refusals.{refused_at, given}
 use Rattle.laws.specs.Tally.{Result, refusal, given_refusal, asked}
@@ -20,19 +20,16 @@ use Rattle.laws.specs.CellSheet.{share, cell_row, cell_table}
 use Rattle.laws.specs.Percentages.{most_matchpoints}
 use Rattle.laws.specs.Sheet.{row, rows, table}
 use Rattle.laws.proofs.Comparisons.{below_equal, both_most}
-use Rattle.laws.proofs.Integers.{mag-le-size}
 use Rattle.laws.proofs.TallyRules.{scores_on, given_on_lem}
 use Rattle.laws.proofs.Tests.{by_test}
-use Rattle.score.proofs.Validity.{valid-size}
 use Rattle.tally.specs.declared.Tally.{Tally}
 use Rattle.score.specs.declared.Matchpoints.{Matchpoints}
 use Rattle.matchpoints.specs.declared.points.MatchpointAnswer.{MatchpointAnswer}
 use Rattle.matchpoints.specs.declared.points.MatchpointAnswer.TheVariants.{Refused, Points}
-use Rattle.tally.specs.Entries.{score, count, entry}
+use Rattle.tally.specs.Entries.{score, entry}
 use Rattle.tally.specs.Points.{matchpoints_of}
 use Rattle.matchpoints.specs.Points.{points_answer}
 use Rattle.tally.specs.Tallies.{entries_in, scores_in, results_in, well_formed, ceiling}
-use Rattle.tally.proofs.Ordered.{count_of}
 use Rattle.tally.proofs.Lists.{in_expand}
 use Rattle.matchpoints.proofs.Told.{same-ns, same-ew}
 use Rattle.tally.proofs.Dealing.{deal_carried}

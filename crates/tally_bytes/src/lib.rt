@@ -1,4 +1,6 @@
 // A tally in 398 bytes: read from a list of bytes, and written over the front of a lent buffer. `reading` and `writing` have the parts.
+#![tactic(auto)]
+
 mod reading;
 mod writing;
 

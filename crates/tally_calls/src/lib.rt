@@ -1,5 +1,7 @@
 // The calls on tallies for C. A tally is 398 bytes, as `tally_bytes` reads and writes them; `putting` writes the answers. Each call returns 0, or a refusal ×
 // 1024 + its place with the lent buffer as it was; a buffer that is too short comes first.
+#![tactic(auto)]
+
 mod putting;
 
 ghost use Rattle.std.specs.Prelude.{◌≡◌, length};

@@ -47,7 +47,7 @@ fn narrow(x: u32) -> u8
 // Two bytes for each side.
 fn put_both(out: &mut [u8], ns: u32, ew: u32)
     requires { 4 ≤ length out.old }
-    ensures { out.new ≡ two_each ns ew over (λ x. x.now) out.entry }
+    ensures { out.new ≡ two_each ns ew over out.old }
 {
     out[0] = narrow(ns / 256 % 256);
     out[1] = narrow(ns % 256);
@@ -94,7 +94,7 @@ fn last_byte(x: u64) -> u8
 // What a cell is, and eight bytes behind it, the most significant first.
 fn put_nine(cell: &mut [u8], kind: u8, bits: u64)
     requires { 9 ≤ length cell.old }
-    ensures { cell.new ≡ (kind ∷ bytes_of 8 bits) over (λ x. x.now) cell.entry }
+    ensures { cell.new ≡ (kind ∷ bytes_of 8 bits) over cell.old }
 {
     cell[0] = kind;
     let mut i: usize = 0;
@@ -115,7 +115,7 @@ fn bits_of(x: f64) -> u64
 // A cell.
 fn put_entered(entered: Cell, cell: &mut [u8])
     requires { (9 ≤ length cell.old) × Numbered (given (enteredAs entered)) }
-    ensures { cell.new ≡ cell_bytes (enteredAs entered) over (λ x. x.now) cell.entry }
+    ensures { cell.new ≡ cell_bytes (enteredAs entered) over cell.old }
 {
     match entered {
         Cell::Played(x) => put_nine(cell, 0, bits_of(x)),

@@ -3,7 +3,7 @@ use Prim.Native.Nat.{ℕ, zero, suc, ◌≤◌, ◌<◌, ◌+◌}
 use native.Mathlib.Nat.{add-zero, zero-add}
 use native.Mathlib.Numerals.{add-one}
 use native.Mathlib.Omega.{arith}
-use mathlib.Core.Path.{◌≡◌, refl, sym, ap, ◌∙◌}
+use mathlib.Core.Path.{◌≡◌, refl, sym, ap, ◌∙◌, subst}
 use mathlib.Core.Bool.{Bool, true, false, not, ◌&&◌, ◌||◌}
 use mathlib.Core.List.{List, [], ◌∷◌}
 use borrow.Author.Tests.{eq-eqb, ne_eqb, eqb-true, eqb-false, leb-true}
@@ -51,7 +51,9 @@ used-from : (l : List Bool) (i k : ℕ) → some (eqb (i + k)) (places_from i l)
 unfolding places_from is_used some
 used-from [] i k = refl
 used-from (true ∷ l) i zero = rw (add-zero, eq-eqb i i refl)
-used-from (true ∷ l) i (suc k) = rw (ne_eqb (i + suc k) i (λ e. omega arith), later i k) (used-from l (suc i) k)
+used-from (true ∷ l) i (suc k) =
+    ap (λ (t : Bool). t || some (eqb (i + suc k)) (places_from (suc i) l)) (ne_eqb (i + suc k) i (λ (e : i + suc k ≡ i). omega arith))
+    ∙ subst (λ (n : ℕ). some (eqb n) (places_from (suc i) l) ≡ get_or l k false) (sym (later i k)) (used-from l (suc i) k)
 used-from (false ∷ l) i zero = rw add-zero (none_before i (suc i) l (omega arith))
 used-from (false ∷ l) i (suc k) = rw (later i k) (used-from l (suc i) k)
 

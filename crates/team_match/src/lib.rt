@@ -1,5 +1,7 @@
 // A team match: boards played by two teams at two tables, each board's scores as IMPs in the first team's total. It knows the scores and the IMPs by
 // the contracts of `score`. A state is a value, and every call tests the state that it is given.
+#![tactic(auto)]
+
 ghost use Rattle.std.specs.Prelude.{◌≡◌, true, ◌&&◌, nat_abs, neg_ℤ, length, ◌≤◌};
 ghost use Rattle.score.specs.Units.{imp_answer};
 ghost use Rattle.laws.specs.Law77.{valid_score};

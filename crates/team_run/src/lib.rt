@@ -1,4 +1,6 @@
 // A run of a team match: bytes are taken one by one, and each line is a board, whose answer is handed back.
+#![tactic(auto)]
+
 ghost use Rattle.std.specs.Prelude.{◌≡◌};
 ghost use Rattle.team_run.specs.Runs.{start_of, asked_in, done_with, line_done, taken_byte, finished_of};
 

@@ -1,4 +1,6 @@
 // A line of a team match, read as a board and its two scores.
+#![tactic(auto)]
+
 ghost use Rattle.std.specs.Prelude.{◌≡◌, ◌≤◌, length, drop};
 ghost use Rattle.decimal.specs.Scores.{score_on};
 ghost use Rattle.team_script.specs.Boards.{to_space, field, behind, scored, asked_on};

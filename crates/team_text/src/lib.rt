@@ -1,4 +1,6 @@
 // What a team match prints: a board's IMPs or its refusal, a line that cannot be read, and the totals at the end.
+#![tactic(auto)]
+
 ghost use Rattle.std.specs.Prelude.{◌≡◌, ◌≤◌, length};
 ghost use Rattle.laws.specs.Decimal.{signed_decimal};
 ghost use Rattle.laws.specs.Sheet.{refusal};

@@ -1,4 +1,6 @@
 // A run of a script: bytes are taken one by one, and each line is a call, whose answer is handed back.
+#![tactic(auto)]
+
 ghost use Rattle.std.specs.Prelude.{◌≡◌};
 ghost use Rattle.tally.specs.Tallies.{no_tally};
 ghost use Rattle.tree_run.specs.Runs.{start_of, is_stopped, call_in, line_done, taken_byte, finished_of, top_of};

@@ -1,4 +1,6 @@
 // A line of a script of tally calls, read as a call.
+#![tactic(auto)]
+
 ghost use Rattle.std.specs.Prelude.{◌≡◌};
 ghost use Rattle.decimal.specs.Scores.{score_on};
 ghost use Rattle.tree_script.specs.Calls.{is_prefix, fresh_on, of_deal, given_on, with_given, award_on, tally_call_on, call_on};

@@ -3,14 +3,14 @@
 use Prim.Native.Nat.{ℕ}
 use mathlib.Core.Path.{◌≡◌, refl}
 use mathlib.Core.Bool.{true, false}
-use mathlib.Core.List.{List, [], ◌∷◌, map}
+use mathlib.Core.List.{[], ◌∷◌, map}
 use lib.ListN.{take, drop}
 use Rattle.laws.specs.Choice.{how_many, some}
 use Rattle.laws.specs.Cards.{cards_dealt, first_without_thirteen, east}
 use Rattle.laws.specs.Contents.{are_seats, take_deal}
 use Rattle.laws.specs.Reading.{refuse}
 use Rattle.laws.specs.Refusals.{not_thirteen}
-use Rattle.laws.specs.Tally.{same_deal, Refusal, refusal, deal_refusal}
+use Rattle.laws.specs.Tally.{same_deal, refusal, deal_refusal}
 use Rattle.tree_stack.specs.Deals.{suits, deal_numbered}
 
 pub deals : map (λ (n : ℕ). deal_refusal (deal_numbered n)) (0 ∷ 1 ∷ 2 ∷ 3 ∷ 4 ∷ 5 ∷ [])

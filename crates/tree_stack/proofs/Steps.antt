@@ -1,12 +1,10 @@
 -- The calls on a stack, by the tests that the code makes. Assumes nothing.
-use Prim.Native.Nat.{ℕ, ◌+◌, ◌-◌, ◌≤◌, ◌<◌}
-use native.Mathlib.Omega.{arith}
-use mathlib.Core.Path.{◌≡◌, refl, sym, ap, ◌∙◌}
+use Prim.Native.Nat.{ℕ, ◌-◌, ◌≤◌, ◌<◌}
+use mathlib.Core.Path.{◌≡◌, refl}
 use mathlib.Core.Bool.{Bool, true, false, ◌||◌}
 use borrow.Author.Tests.{lt-ltb, le-ltb}
 use lib.Dec.{ltb}
 use lib.IntN.{ℤ}
-use Rattle.laws.specs.Choice.{if◌then◌else◌}
 use Rattle.percentages.specs.Cells.{cell_of_tally}
 use Rattle.tally.specs.Tallies.{add_of, merge_of}
 use Rattle.tally.specs.Points.{matchpoints_of}

@@ -1,4 +1,6 @@
 // A stack of at most 16 tallies, and the calls on it.
+#![tactic(auto)]
+
 ghost use Rattle.std.specs.Prelude.{◌≡◌, ◌<◌, set};
 ghost use Rattle.laws.specs.Refusals.{given};
 ghost use Rattle.percentages.specs.Cells.{entered, cell_answer, Numbered};

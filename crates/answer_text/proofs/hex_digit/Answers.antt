@@ -1,0 +1,9 @@
+-- `answer_text::hex_digit` meets its contract, by its test. Assumes nothing.
+use borrow.Author.Tests.{lt-ltb, le-ltb}
+use Rattle.answer_text.proofs.hex_digit.Goals as goal
+
+pub returns-then-n-lt10 : goal.returns-then-n-lt10
+returns-then-n-lt10 c = rw (lt-ltb _ _ c.if-n-lt10.true)
+
+pub returns : goal.returns
+returns c = rw (le-ltb _ _ c.if-n-lt10.false)

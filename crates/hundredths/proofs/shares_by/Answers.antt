@@ -1,0 +1,7 @@
+-- `shares_by` meets its contract. Assumes nothing.
+use Rattle.hundredths.specs.Shares.{shares_by}
+use Rattle.hundredths.proofs.shares_by.Goals as goal
+
+pub returns : goal.returns
+unfolding shares_by
+returns c = rw (c.share-first.ensures, c.share-second.ensures)

@@ -1,0 +1,14 @@
+-- `sheet_text::whole::write_cells` meets its contract. Assumes nothing.
+use Rattle.sheet_text.specs.declared.columns.Columns.TheVariants.{Percentages}
+use Rattle.text.proofs.Puts.{local_length, taken-length, taken}
+use Rattle.sheet_text.proofs.Enough.{enough}
+use Rattle.sheet_text.proofs.whole.write_cells.Goals as goal
+
+pub slice_bounds-text-end : goal.slice_bounds-text-end
+slice_bounds-text-end c = local_length _ _ _ _ c.put_sheet-n.ensures (enough Percentages _)
+
+pub slice_bounds-lend-end : goal.slice_bounds-lend-end
+slice_bounds-lend-end c = taken-length _ _ _ _ c.put_sheet-n.ensures (enough Percentages _)
+
+pub returns : goal.returns
+returns c = record { answer = rw (← taken _ _ _ _ c.put_sheet-n.ensures (enough Percentages _)) c.lend.ensures.answer; bytes = rw (← taken _ _ _ _ c.put_sheet-n.ensures (enough Percentages _)) c.lend.ensures.bytes }

@@ -1,0 +1,11 @@
+-- `counts_in` meets its contract: the first i of the row are those of the bytes. Assumes nothing.
+use Prim.Native.Nat.{◌≤◌, ◌-◌}
+use mathlib.Core.Path.{◌≡◌}
+use lib.ListN.{length, take, drop}
+use Rattle.tally_bytes.proofs.reading.counts_in.Given as goal
+
+abbrev pub invariant-loop-i : goal.invariant-loop-i
+invariant-loop-i l = (l.i ≤ 128) × (length l.row ≡ 128) × (take l.i l.row ≡ take l.i (drop 270 l.bytes))
+
+abbrev pub decreases-loop-i : goal.decreases-loop-i
+decreases-loop-i l = 128 - l.i

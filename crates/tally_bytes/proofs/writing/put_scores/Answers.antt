@@ -1,0 +1,39 @@
+-- `put_scores` meets its contract: after i turns the bytes of the first i scores are stored. Assumes nothing.
+use Prim.Native.Nat.{◌<◌, ◌*◌}
+use native.Mathlib.Omega.{arith}
+use mathlib.Core.Path.{◌≡◌, ◌∙◌}
+use borrow.Author.Rules.{rules}
+use lib.IntN.{pos}
+use lib.ListN.{length, get_or, length-set}
+use mir.Syntax.{w16}
+use mir.Val.{SFits}
+use mir.Facts.{to_z-of_z}
+use Rattle.tally.proofs.InBytes.{length-score-bytes}
+use Rattle.tally_bytes.proofs.Rows.{stored_two, all_stored}
+use Rattle.tally_bytes.proofs.Places.{high_byte, low_byte}
+use Rattle.tally_bytes.proofs.writing.put_scores.Goals as goal
+
+pub bounds-out-i-in-loop-i : goal.bounds-out-i-in-loop-i
+bounds-out-i-in-loop-i c = simp length-set (omega arith)
+
+pub loop-i-preserved : goal.loop-i-preserved
+loop-i-preserved c =
+    let l = c.loop-i in
+    let a = c.args in
+    let n : length a.scores ≡ 128 = search rules in
+    let fits : SFits w16 (get_or a.scores l.i (pos 0)) = search rules in
+    let e = rw (to_z-of_z fits) at c.word_of-word.ensures in
+    let small : c.word_of-word.result < 65536 = search rules in (
+      omega arith,
+      stored_two a.out.now _ 14 l.i 0 l.invariant.1 (omega (arith, length-score-bytes a.scores))
+          (c.narrow.ensures ∙ high_byte a.scores l.i (omega arith) e small)
+          (c.narrow-in-loop-i.ensures ∙ low_byte a.scores l.i (omega arith) e small),
+      simp length-set l.invariant.2,
+    )
+
+pub returns : goal.returns
+returns c =
+    let l = c.loop-i in
+    let a = c.args in
+    let n : length a.scores ≡ 128 = search rules in
+    all_stored a.out.now _ 14 (2 * l.i) 0 l.invariant.1 (omega (arith, length-score-bytes a.scores))

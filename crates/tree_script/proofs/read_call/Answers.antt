@@ -1,0 +1,39 @@
+-- `tree_script::read_call` meets its contract. Assumes nothing.
+use mathlib.Core.Path.{sym, ap, ◌∙◌}
+use Rattle.tree_script.specs.declared.Call.TheVariants.{Cell}
+use Rattle.tree_script.specs.Calls.{given_on, with_given, award_on, call_on, cell_word, award_word}
+use Rattle.decimal.proofs.Scores.{rest-is}
+use Rattle.tree_script.proofs.Lines.{prefix-length}
+use Rattle.tree_script.proofs.read_call.Goals as goal
+
+pub slice_bounds-cell_on-count : goal.slice_bounds-cell_on-count
+slice_bounds-cell_on-count c = prefix-length cell_word _ (sym c.starts.ensures ∙ c.if-starts.true)
+
+pub slice_bounds-cell_on-start : goal.slice_bounds-cell_on-start
+slice_bounds-cell_on-start c = prefix-length cell_word _ (sym c.starts.ensures ∙ c.if-starts.true)
+
+pub returns-then-starts : goal.returns-then-starts
+unfolding call_on
+returns-then-starts c =
+    let s = c.args.line.now in
+    c.cell_on.ensures ∙ ap (λ (l : _). with_given Cell (given_on l)) (rest-is 5 s)
+    ∙ rw (sym c.starts.ensures ∙ c.if-starts.true)
+
+pub slice_bounds-award_on-count : goal.slice_bounds-award_on-count
+slice_bounds-award_on-count c = prefix-length award_word _ (sym c.starts-2.ensures ∙ c.if-starts-2.true)
+
+pub slice_bounds-award_on-start : goal.slice_bounds-award_on-start
+slice_bounds-award_on-start c = prefix-length award_word _ (sym c.starts-2.ensures ∙ c.if-starts-2.true)
+
+pub returns-then-starts-2 : goal.returns-then-starts-2
+unfolding call_on
+returns-then-starts-2 c =
+    let s = c.args.line.now in
+    let no_cell = sym c.starts.ensures ∙ c.if-starts.false in
+    c.award_on.ensures ∙ ap award_on (rest-is 6 s) ∙ rw (no_cell, sym c.starts-2.ensures ∙ c.if-starts-2.true)
+
+pub returns : goal.returns
+unfolding call_on
+returns c =
+    let no_cell = sym c.starts.ensures ∙ c.if-starts.false in
+    c.tally_call.ensures ∙ rw (no_cell, sym c.starts-2.ensures ∙ c.if-starts-2.false)
