@@ -15,11 +15,7 @@ fn number<W: Write>(out: &mut W, n: u64) -> io::Result<()> {
 }
 
 fn signed<W: Write>(out: &mut W, n: i32) -> io::Result<()> {
-    if n < 0 {
-        text(out, b"-")?;
-        return number(out, (-(n as i64)) as u64);
-    }
-    number(out, n as u64)
+    write!(out, "{n}")
 }
 
 // Writes two scores and their IMPs.
