@@ -1,7 +1,6 @@
 -- What the calls of a script answer, as text: a line for each call, and a line for each entry of a tally. Bytes are ASCII codes.
 -- Assumes nothing.
-use Rattle.std.specs.Prelude.{ℕ, zero, suc, ◌+◌, ◌/◌, ◌%◌, List, [], ◌∷◌, ◌++◌, eqb, ltb, ℤ}
-use Rattle.laws.specs.Choice.{if◌then◌else◌}
+use Rattle.std.specs.Prelude.{ℕ, zero, suc, ◌+◌, ◌/◌, ◌%◌, List, [], ◌∷◌, ◌++◌, eqb, ltb, ℤ, if◌then◌else◌}
 use Rattle.laws.specs.Decimal.{digit, decimal, signed_decimal}
 use Rattle.laws.specs.Sheet.{newline, refusal}
 use Rattle.text.specs.Refused.{refused_text}

@@ -1,4 +1,5 @@
 -- Law 19 on a position: a double or a redouble is allowed by it exactly when the Law on the history allows it. Assumes nothing.
+use Rattle.std.specs.Prelude.{if◌then◌else◌}
 use Prim.Native.Nat.{ℕ, ◌+◌, ◌%◌}
 use mathlib.Core.Path.{◌≡◌, refl, ap, ◌∙◌}
 use mathlib.Core.Bool.{Bool, true, false, not, ◌&&◌}
@@ -6,7 +7,6 @@ use mathlib.Core.List.{List, [], ◌∷◌}
 use native.Mathlib.Omega.{arith}
 use borrow.Author.Tests.{eqb-true, ne_eqb}
 use lib.Dec.{eqb}
-use Rattle.laws.specs.Choice.{if◌then◌else◌}
 use Rattle.laws.specs.Cards.{same_side}
 use Rattle.laws.specs.Auction.{pass, double, redouble, mark, is_bid, to_call}
 use Rattle.laws.specs.Auction.{is_pass_or_mark, before_passes, bid_by_opponents, bid_by_own_side, doubled_own_bid, may_double, may_redouble}

@@ -1,4 +1,5 @@
 -- The first player of each side to have bid each strain, and so the declarer. Assumes nothing.
+use Rattle.std.specs.Prelude.{if◌then◌else◌}
 use Prim.Native.Nat.{ℕ, ◌+◌, ◌-◌, ◌*◌, ◌/◌, ◌%◌, ◌^◌, ◌<◌}
 use mathlib.Core.Path.{◌≡◌, refl, sym, ap, ◌∙◌}
 use mathlib.Core.Logic.{◌≢◌}
@@ -9,7 +10,6 @@ use native.Mathlib.Omega.{arith}
 use borrow.Author.Tests.{eqb-true, eqb-false, ne_eqb, ltb-true, ltb-false}
 use lib.Dec.{eqb, ltb}
 use lib.Pow.{pow_pos, pow-add, field, shr-shr, mod-mod-pow}
-use Rattle.laws.specs.Choice.{if◌then◌else◌}
 use Rattle.laws.specs.Cards.{no_seat, clockwise, side_of}
 use Rattle.laws.specs.Auction.{is_bid, strain_of, to_call, last_bid, last_bidder, bids_strain, first_to_bid, declarer}
 use Rattle.laws.proofs.Tests.{by_test}

@@ -1,4 +1,5 @@
 -- What each field of a position says of its history: for every dealer and every history. Assumes nothing.
+use Rattle.std.specs.Prelude.{if◌then◌else◌}
 use Prim.Native.Nat.{ℕ, ◌-◌, ◌%◌}
 use mathlib.Core.Path.{◌≡◌, refl, sym, ap, ap₂, ◌∙◌}
 use mathlib.Core.Bool.{Bool, true, false, not}
@@ -6,7 +7,7 @@ use mathlib.Core.List.{List, [], ◌∷◌}
 use native.Mathlib.Omega.{arith}
 use borrow.Author.Tests.{eqb-true, leb-true, leb-false, eq-eqb, ne_eqb}
 use lib.Dec.{eqb, leb}
-use Rattle.laws.specs.Choice.{if◌then◌else◌, how_many}
+use Rattle.laws.specs.Choice.{how_many}
 use Rattle.laws.specs.Cards.{clockwise}
 use Rattle.laws.specs.Auction.{pass, double, redouble, mark, is_bid, is_pass_or_mark, calls_made, is_marked}
 use Rattle.laws.specs.Auction.{to_call, last_bid, last_bidder, doubling, passes_in_a_row, has_bid, is_over, passed_out}

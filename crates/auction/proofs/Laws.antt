@@ -1,5 +1,6 @@
 -- The position and the Laws on its history, for every dealer and every history: the verdict on a code and the contract.
 -- Assumes nothing.
+use Rattle.std.specs.Prelude.{if◌then◌else◌}
 use Prim.Native.Nat.{ℕ, ◌≤◌, ◌<◌}
 use mathlib.Core.Path.{◌≡◌, refl, sym, ap, ◌∙◌}
 use mathlib.Core.Logic.{◌↔◌}
@@ -8,7 +9,6 @@ use mathlib.Core.List.{List}
 use native.Mathlib.Omega.{arith}
 use borrow.Author.Tests.{leb-true, leb-false, le-leb, lt-ltb, le-ltb, eqb-true, eqb-false, ne_eqb}
 use lib.Dec.{eqb, ltb, leb}
-use Rattle.laws.specs.Choice.{if◌then◌else◌}
 use Rattle.laws.specs.Refusals.{accepted}
 use Rattle.laws.specs.Auction.{pass, double, redouble, mark, is_bid, last_bid, has_bid, sufficient, at_or_below, may_double, may_redouble}
 use Rattle.laws.specs.Auction.{is_marked, is_over, allowed, contract, trump_after, opening_after}

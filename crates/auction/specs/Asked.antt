@@ -1,6 +1,5 @@
 -- What a position answers: the verdict on a code, the end of the auction, the contract. Assumes nothing.
-use Rattle.std.specs.Prelude.{ℕ, ◌%◌, Bool, not, ◌&&◌, eqb, ltb, leb}
-use Rattle.laws.specs.Choice.{if◌then◌else◌}
+use Rattle.std.specs.Prelude.{ℕ, ◌%◌, Bool, not, ◌&&◌, eqb, ltb, leb, if◌then◌else◌}
 use Rattle.laws.specs.Cards.{same_side}
 use Rattle.laws.specs.Auction.{pass, double, redouble, level_of, strain_of}
 use Rattle.laws.specs.Refusals.{accepted, no_call, insufficient_bid, inadmissible_double, call_after_end, wrong_mark}

@@ -1,7 +1,6 @@
 -- The position of an auction: before the first call, after one more code, and after a history of calls and marks. It holds no history.
 -- Assumes nothing.
-use Rattle.std.specs.Prelude.{ℕ, ◌+◌, ◌-◌, ◌*◌, ◌/◌, ◌%◌, ◌^◌, Bool, false, List, [], ◌∷◌, eqb}
-use Rattle.laws.specs.Choice.{if◌then◌else◌}
+use Rattle.std.specs.Prelude.{ℕ, ◌+◌, ◌-◌, ◌*◌, ◌/◌, ◌%◌, ◌^◌, Bool, false, List, [], ◌∷◌, eqb, if◌then◌else◌}
 use Rattle.laws.specs.Cards.{no_seat, clockwise, side_of}
 use Rattle.laws.specs.Auction.{pass, double, redouble, mark, is_bid, is_pass_or_mark, strain_of}
 use Rattle.auction.specs.declared.Auction.{Auction}

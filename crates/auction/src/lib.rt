@@ -2,8 +2,7 @@
 // insufficient bid that was accepted.
 #![tactic(auto)]
 
-ghost use Rattle.std.specs.Prelude.{◌≡◌, [], ◌-◌, ◌<◌, ◌≤◌, eqb};
-ghost use Rattle.laws.specs.Choice.{if◌then◌else◌};
+ghost use Rattle.std.specs.Prelude.{◌≡◌, [], ◌-◌, ◌<◌, ◌≤◌, eqb, if◌then◌else◌};
 ghost use Rattle.laws.specs.Cards.{clockwise};
 ghost use Rattle.laws.specs.CallRefusal.{place_of};
 ghost use Rattle.auction.specs.Position.{passes_to_end, entry_at, entered, seat_at, after_call, position_of};

@@ -1,4 +1,5 @@
 -- The search on the position is the Laws' on the history, after every play in which no card was refused. Assumes nothing.
+use Rattle.std.specs.Prelude.{if◌then◌else◌}
 use Prim.Native.Nat.{ℕ, zero, suc, ◌+◌, ◌-◌, ◌%◌, ◌≤◌, max, min}
 use native.Mathlib.Omega.{arith}
 use native.Mathlib.Nat.{mod-eq_of_lt}
@@ -8,7 +9,6 @@ use mathlib.Core.List.{List, ◌∷◌}
 use borrow.Author.Tests.{lt-leb, le-ltb, eqb-false}
 use lib.Dec.{eqb, leb}
 use lib.ListN.{length}
-use Rattle.laws.specs.Choice.{if◌then◌else◌}
 use Rattle.laws.specs.Cards.{suit_of, dealt_to}
 use Rattle.laws.specs.Law44.{cards_played, cards_in_trick, trick_under_way, suit_led, leader, to_play, playable}
 use Rattle.laws.specs.Law61.{holds_suit, is_revoke}

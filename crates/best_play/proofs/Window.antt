@@ -1,11 +1,11 @@
 -- A number told from a floor to a ceiling: what a greater or a smaller one makes of it, and when no other can change it. Assumes nothing.
+use Rattle.std.specs.Prelude.{if◌then◌else◌}
 use Prim.Native.Nat.{ℕ, zero, suc, ◌+◌, ◌-◌, ◌<◌, ◌≤◌, max, min}
 use native.Mathlib.Omega.{arith}
 use mathlib.Core.Path.{◌≡◌, ◌∙◌}
 use mathlib.Core.Bool.{Bool, true, false}
 use borrow.Author.Tests.{leb-true, leb-false}
 use lib.Dec.{leb}
-use Rattle.laws.specs.Choice.{if◌then◌else◌}
 use Rattle.laws.specs.BestPlay.{greatest, smallest}
 use Rattle.laws.proofs.Tests.{by_test}
 use Rattle.best_play.specs.Search.{within}

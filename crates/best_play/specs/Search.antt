@@ -1,6 +1,5 @@
 -- The search for best play on the position that the code keeps. Assumes nothing.
-use Rattle.std.specs.Prelude.{ℕ, zero, suc, ◌+◌, ◌-◌, ◌%◌, max, min, Bool, true, false, not, ◌&&◌, eqb, leb, ltb}
-use Rattle.laws.specs.Choice.{if◌then◌else◌}
+use Rattle.std.specs.Prelude.{ℕ, zero, suc, ◌+◌, ◌-◌, ◌%◌, max, min, Bool, true, false, not, ◌&&◌, eqb, leb, ltb, if◌then◌else◌}
 use Rattle.laws.specs.Cards.{suit_of, dealt_to}
 use Rattle.laws.specs.BestPlay.{greatest, smallest}
 use Rattle.play.specs.declared.Play.{Play}

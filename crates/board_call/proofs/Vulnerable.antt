@@ -1,8 +1,8 @@
 -- The number of the vulnerable sides, by whether each side is vulnerable. Assumes nothing.
+use Rattle.std.specs.Prelude.{if◌then◌else◌}
 use Prim.Native.Nat.{ℕ}
 use mathlib.Core.Path.{◌≡◌, refl}
 use mathlib.Core.Bool.{Bool}
-use Rattle.laws.specs.Choice.{if◌then◌else◌}
 use Rattle.laws.specs.Law2.{Vulnerability, none, ns, ew, both, vulnerability, includes, vulnerable}
 use Rattle.deal.specs.Sides.{sides_of}
 

@@ -1,6 +1,5 @@
 -- What C is answered of a board by Law 2: a number for each that is asked for, a refusal for what is no board. Assumes nothing.
-use Rattle.std.specs.Prelude.{ℕ, Bool, false, eqb, leb}
-use Rattle.laws.specs.Choice.{if◌then◌else◌}
+use Rattle.std.specs.Prelude.{ℕ, Bool, false, eqb, leb, if◌then◌else◌}
 use Rattle.laws.specs.Law2.{dealer, vulnerability}
 use Rattle.laws.specs.Refusals.{refusal_number, no_board_or_table}
 use Rattle.deal.specs.Sides.{sides_of}

@@ -1,4 +1,5 @@
 -- The calls and the plays in the code are the Laws' sections of contents: what follows the loops. Assumes nothing.
+use Rattle.std.specs.Prelude.{if◌then◌else◌}
 use Prim.Native.Nat.{ℕ, ◌≤◌, ◌<◌, min}
 use native.Mathlib.Omega.{arith}
 use mathlib.Core.Path.{◌≡◌, refl, sym, ap, ◌∙◌}
@@ -7,7 +8,6 @@ use mathlib.Core.List.{List, []}
 use borrow.Author.Tests.{lt-ltb, le-ltb}
 use lib.Dec.{ltb}
 use lib.ListN.{length}
-use Rattle.laws.specs.Choice.{if◌then◌else◌}
 use Rattle.laws.specs.Refusals.{refusal_number, auction_unfinished, too_many_cards, too_many_calls}
 use Rattle.laws.specs.Auction.{is_over}
 use Rattle.laws.specs.CallRefusal.{call_refusal, call_place}

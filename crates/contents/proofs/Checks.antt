@@ -1,4 +1,5 @@
 -- Board and table, deal and claim in the code are the Laws' sections of contents: a law for each way out. Assumes nothing.
+use Rattle.std.specs.Prelude.{if◌then◌else◌}
 use Prim.Native.Nat.{ℕ, zero, suc, ◌+◌, ◌-◌, ◌/◌, ◌≤◌, ◌<◌, min}
 use native.Mathlib.Omega.{arith}
 use mathlib.Core.Path.{◌≡◌, refl, sym, ap, ◌∙◌}
@@ -7,7 +8,7 @@ use mathlib.Core.List.{List, [], ◌∷◌}
 use borrow.Author.Tests.{eq-eqb, ne_eqb, lt-ltb, le-ltb, lt-leb, le-leb, eqb-true}
 use lib.Dec.{ltb, eqb}
 use lib.ListN.{length, get_or, take, drop, drop_of_length-le}
-use Rattle.laws.specs.Choice.{if◌then◌else◌, some}
+use Rattle.laws.specs.Choice.{some}
 use Rattle.laws.specs.Refusals.{refusal_number, no_board_or_table, not_thirteen, play_unfinished, no_claim_point, claim_too_many}
 use Rattle.laws.specs.Law68.{none, agreed}
 use Rattle.laws.specs.Reading.{Reading, Reading.refused, Reading.found, refuse}

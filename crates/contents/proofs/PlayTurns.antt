@@ -1,4 +1,5 @@
 -- The loop over plays with codes among them: what the checks come to from a turn on is what they come to in all. Assumes nothing.
+use Rattle.std.specs.Prelude.{if◌then◌else◌}
 use Prim.Native.Nat.{ℕ, ◌≤◌, ◌<◌, ◌+◌}
 use native.Mathlib.Omega.{arith}
 use mathlib.Core.Path.{◌≡◌, refl, sym, ap, ◌∙◌}
@@ -7,7 +8,7 @@ use mathlib.Core.List.{List, [], ◌∷◌}
 use borrow.Author.Tests.{eq-eqb, ne_eqb, lt-ltb, le-ltb, ltb-true, ltb-false}
 use lib.Dec.{eqb, ltb}
 use lib.ListN.{length, get_or, drop}
-use Rattle.laws.specs.Choice.{if◌then◌else◌, some, how_many}
+use Rattle.laws.specs.Choice.{some, how_many}
 use Rattle.laws.specs.Refusals.{refusal_number, accepted, too_many_codes, choice_not_open}
 use Rattle.laws.specs.Law44.{cards_played}
 use Rattle.laws.specs.Events.{Event, played, exposed, choice, begins_code, exposure_code, cards_of}

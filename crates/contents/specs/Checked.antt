@@ -1,7 +1,6 @@
 -- What the code says of the checks of contents: a refusal by its number, or 0, with positions for histories.
 -- Assumes nothing.
-use Rattle.std.specs.Prelude.{ℕ, zero, suc, ◌+◌, ◌-◌, ◌/◌, min, Bool, not, ◌&&◌, ◌||◌, List, [], ltb, leb, eqb, get_or, replicate}
-use Rattle.laws.specs.Choice.{if◌then◌else◌}
+use Rattle.std.specs.Prelude.{ℕ, zero, suc, ◌+◌, ◌-◌, ◌/◌, min, Bool, not, ◌&&◌, ◌||◌, List, [], ltb, leb, eqb, get_or, replicate, if◌then◌else◌}
 use Rattle.laws.specs.Refusals.{refusal_number, too_many_cards, play_unfinished, no_claim_point, claim_too_many}
 use Rattle.laws.specs.Events.{Event, cards_of}
 use Rattle.laws.specs.FlatPlay.{items_of, cards_in}

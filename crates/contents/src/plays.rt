@@ -1,6 +1,6 @@
 // The plays of a record's contents, a flat list of numbers: each card, and each code among the cards, checked on those before it.
-ghost use Rattle.std.specs.Prelude.{◌≡◌, true, false, List, [], ℕ, ◌+◌, ◌<◌, ◌≤◌, min, length, drop};
-ghost use Rattle.laws.specs.Choice.{if◌then◌else◌, some, how_many};
+ghost use Rattle.std.specs.Prelude.{◌≡◌, true, false, List, [], ℕ, ◌+◌, ◌<◌, ◌≤◌, min, length, drop, if◌then◌else◌};
+ghost use Rattle.laws.specs.Choice.{some, how_many};
 ghost use Rattle.laws.specs.Events.{Event, begins_code, exposure_code};
 ghost use Rattle.laws.specs.CodeRefusal.{codes_full};
 ghost use Rattle.laws.specs.FlatPlay.{Item, code_item, items_of, is_card, cards_in, item_refusal, after_item};

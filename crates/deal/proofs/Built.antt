@@ -1,4 +1,5 @@
 -- The words of the four seats, built place after place. Assumes nothing.
+use Rattle.std.specs.Prelude.{if◌then◌else◌}
 use mathlib.Core.Path.{◌≡◌, refl, sym, ap, ap₂, ◌∙◌}
 use mathlib.Core.Bool.{true, false}
 use mathlib.Core.List.{List, [], ◌∷◌, ◌++◌}
@@ -11,7 +12,6 @@ use lib.Dec.{eqb}
 use lib.Pow.{pow_mono}
 use lib.ListN.{length, get_or, take, set, replicate, length-set, length-take, get_or-replicate}
 use lib.Seq.{take-suc, get_or-set_same, get_or-set_other, length-take-le, ext_get_or}
-use Rattle.laws.specs.Choice.{if◌then◌else◌}
 use Rattle.laws.proofs.Tests.{by_test}
 use Rattle.deal.specs.Hands.{word_of, words_of}
 use Rattle.deal.proofs.Words.{word_lt}

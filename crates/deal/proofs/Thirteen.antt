@@ -1,5 +1,6 @@
 -- Thirteen cards each: the first seat without, by the set bits of the four hands.
 -- Assumes nothing.
+use Rattle.std.specs.Prelude.{if◌then◌else◌}
 use mathlib.Core.Path.{◌≡◌, refl, ap, ◌∙◌}
 use mathlib.Core.Bool.{true, false}
 use mathlib.Core.List.{List}
@@ -9,7 +10,6 @@ use borrow.Author.Tests.{eqb-true, eq-eqb, ne_eqb}
 use lib.Count.{ones}
 use lib.ListN.{length, get_or, drop, drop_of_length-le}
 use lib.Seq.{drop-cons}
-use Rattle.laws.specs.Choice.{if◌then◌else◌}
 use Rattle.laws.specs.Cards.{no_seat, cards_dealt, has_thirteen, seats, first_without_thirteen, seat_without_thirteen}
 use Rattle.laws.proofs.Tests.{by_test}
 use Rattle.deal.specs.Hands.{words_of, not_thirteen_from}

@@ -1,4 +1,5 @@
 -- Laws of `word_of`: its bits are the places, its set bits are counted as the cards are. Assumes nothing.
+use Rattle.std.specs.Prelude.{if◌then◌else◌}
 use mathlib.Core.Path.{◌≡◌, refl, sym, ap, ap₂, ◌∙◌}
 use mathlib.Core.Bool.{Bool, true, false}
 use mathlib.Core.List.{List, [], ◌∷◌}
@@ -10,7 +11,7 @@ use lib.Dec.{eqb}
 use lib.Pow.{pow_pos, shr-shr, mod-pow-add}
 use lib.Count.{ones, ones_step}
 use lib.ListN.{length, get_or, take, drop}
-use Rattle.laws.specs.Choice.{if◌then◌else◌, how_many}
+use Rattle.laws.specs.Choice.{how_many}
 use Rattle.laws.specs.Cards.{cards_dealt}
 use Rattle.deal.specs.Hands.{word_of, suit_count}
 

@@ -1,8 +1,8 @@
 -- A seat's hand as a word, one bit for a place of the holder list, and a suit's cards as thirteen of its bits.
 -- Assumes nothing.
-use Rattle.std.specs.Prelude.{ℕ, suc, ◌+◌, ◌*◌, ◌/◌, ◌%◌, ◌^◌, Bool, not, ◌&&◌, List, [], ◌∷◌, eqb, ltb, take, drop}
+use Rattle.std.specs.Prelude.{ℕ, suc, ◌+◌, ◌*◌, ◌/◌, ◌%◌, ◌^◌, Bool, not, ◌&&◌, List, [], ◌∷◌, eqb, ltb, take, drop, if◌then◌else◌}
 use Rattle.std.specs.Int.Count.{ones}
-use Rattle.laws.specs.Choice.{if◌then◌else◌, some_below}
+use Rattle.laws.specs.Choice.{some_below}
 use Rattle.laws.specs.Cards.{dealt_to, cards_dealt}
 use Rattle.laws.specs.Law44.{is_of}
 

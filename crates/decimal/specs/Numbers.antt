@@ -1,6 +1,5 @@
 -- What bytes say as a number. Assumes nothing.
-use Rattle.std.specs.Prelude.{ℕ, List}
-use Rattle.laws.specs.Choice.{if◌then◌else◌}
+use Rattle.std.specs.Prelude.{ℕ, List, if◌then◌else◌}
 use Rattle.laws.specs.Decimal.{is_number, value}
 use Rattle.decimal.specs.declared.Number.{Number}
 use Rattle.decimal.specs.declared.Number.TheVariants.{Is, None}

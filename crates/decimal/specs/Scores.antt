@@ -1,6 +1,5 @@
 -- Boards and scores as a script says them. Assumes nothing.
-use Rattle.std.specs.Prelude.{ℕ, List, ltb, ℤ, pos, negsuc, neg_ℤ, drop}
-use Rattle.laws.specs.Choice.{if◌then◌else◌}
+use Rattle.std.specs.Prelude.{ℕ, List, ltb, ℤ, pos, negsuc, neg_ℤ, drop, if◌then◌else◌}
 use Rattle.laws.specs.Decimal.{minus, starts_with, is_number, value}
 use Rattle.decimal.specs.declared.Score.{Score}
 use Rattle.decimal.specs.declared.Score.TheVariants.{Of, Nothing}

@@ -1,7 +1,6 @@
 -- What the code's items are of a contract, and of what the judge says of a record.
 -- Assumes nothing.
-use Rattle.std.specs.Prelude.{ℕ, ◌≤◌, ◌/◌, ◌%◌, eqb, pos}
-use Rattle.laws.specs.Choice.{if◌then◌else◌}
+use Rattle.std.specs.Prelude.{ℕ, ◌≤◌, ◌/◌, ◌%◌, eqb, pos, if◌then◌else◌}
 use Rattle.laws.specs.Law2.{vulnerable}
 use Rattle.laws.specs.Law77.{Stake, items, declarer_score, ns_score}
 use Rattle.laws.specs.Record.{Parts}

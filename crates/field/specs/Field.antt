@@ -1,7 +1,6 @@
 -- What a read of a bit field answers.
 -- Assumes nothing.
-use Rattle.std.specs.Prelude.{ℕ, ◌+◌, ◌*◌, ◌&&◌, List, leb, length}
-use Rattle.laws.specs.Choice.{if◌then◌else◌}
+use Rattle.std.specs.Prelude.{ℕ, ◌+◌, ◌*◌, ◌&&◌, List, leb, length, if◌then◌else◌}
 use Rattle.laws.specs.Refusals.{Answer, refused, answered, record_ends}
 use Rattle.laws.specs.Reading.{number_at}
 use Rattle.field.specs.declared.Field.{Field}

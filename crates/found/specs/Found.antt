@@ -1,7 +1,6 @@
 -- What is found of the cards played, on the struct that the code keeps. A word of entries has the last entry lowest.
 -- Assumes nothing.
-use Rattle.std.specs.Prelude.{ℕ, ◌+◌, ◌*◌, ◌/◌, ◌%◌, ◌^◌, Bool, ◌&&◌, List, [], ◌∷◌, ltb, get_or}
-use Rattle.laws.specs.Choice.{if◌then◌else◌}
+use Rattle.std.specs.Prelude.{ℕ, ◌+◌, ◌*◌, ◌/◌, ◌%◌, ◌^◌, Bool, ◌&&◌, List, [], ◌∷◌, ltb, get_or, if◌then◌else◌}
 use Rattle.play.specs.Words.{bit_of, with_bit}
 use Rattle.found.specs.declared.found.Found.{Found}
 

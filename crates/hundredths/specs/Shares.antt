@@ -1,8 +1,7 @@
 -- The shares of both sides in a result, in hundredths of a per cent, over a list of results and in a tally; and what an answer stands for.
 -- Assumes nothing.
-use Rattle.std.specs.Prelude.{ℕ, ◌+◌, not, List, eqb, ℤ, length}
+use Rattle.std.specs.Prelude.{ℕ, ◌+◌, not, List, eqb, ℤ, length, if◌then◌else◌}
 use Rattle.laws.specs.CellSheet.{hundredths}
-use Rattle.laws.specs.Choice.{if◌then◌else◌}
 use Rattle.laws.specs.Law77.{valid_score}
 use Rattle.laws.specs.Law78.{occurrences, ns_matchpoints, ew_matchpoints}
 use Rattle.laws.specs.Percentages.{most_matchpoints}

@@ -1,4 +1,5 @@
 -- The judgement that the positions give is the Laws' on the record's parts. Assumes nothing.
+use Rattle.std.specs.Prelude.{if◌then◌else◌}
 use Prim.Native.Nat.{ℕ, ◌-◌, ◌/◌, ◌<◌}
 use native.Mathlib.Omega.{arith}
 use mathlib.Core.Path.{◌≡◌, refl, sym, ap, ◌∙◌, fun_ext}
@@ -7,7 +8,6 @@ use mathlib.Core.List.{List, [], ◌∷◌, reverse, reverse-reverse}
 use borrow.Author.Tests.{eqb-true, eqb-false, eq-eqb}
 use lib.Dec.{eqb}
 use lib.ListN.{get_or, length-map}
-use Rattle.laws.specs.Choice.{if◌then◌else◌}
 use Rattle.laws.specs.Refusals.{refuses_behind}
 use Rattle.laws.specs.Cards.{clockwise, side_of}
 use Rattle.laws.specs.Law2.{dealer, vulnerable}

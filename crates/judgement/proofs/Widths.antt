@@ -1,4 +1,5 @@
 -- Each field of the answer to lawful parts fits its width: contract, tricks before and after Law 64, revokes and score. Assumes nothing.
+use Rattle.std.specs.Prelude.{if◌then◌else◌}
 use Prim.Native.Nat.{ℕ, zero, suc, ◌+◌, ◌-◌, ◌*◌, ◌/◌, ◌^◌, ◌≤◌, ◌<◌, min}
 use native.Mathlib.Omega.{arith}
 use mathlib.Core.Path.{◌≡◌, refl, sym, ap, ◌∙◌}
@@ -8,7 +9,7 @@ use borrow.Author.Tests.{eqb-true, eqb-false, ne_eqb, eq-eqb, leb-true, not-fals
 use lib.Dec.{eqb, leb}
 use lib.IntN.{ℤ, pos, negsuc, nat_abs}
 use lib.ListN.{length, take, drop, take-append-drop, length-reverse}
-use Rattle.laws.specs.Choice.{if◌then◌else◌, how_many, some}
+use Rattle.laws.specs.Choice.{how_many, some}
 use Rattle.laws.specs.Cards.{side_of, partner_of}
 use Rattle.laws.specs.Auction as Auction
 use Rattle.laws.specs.Law2.{dealer}

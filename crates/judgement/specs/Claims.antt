@@ -1,7 +1,6 @@
 -- The claim: what the code's struct says of its reading, a refusal by its number or 0 and what was read, and the Laws' section by what it takes of calls and
 -- cards. Assumes nothing.
-use Rattle.std.specs.Prelude.{ℕ, ◌-◌, ◌/◌, Bool, true, false, not, ◌&&◌, ◌||◌, eqb, leb}
-use Rattle.laws.specs.Choice.{if◌then◌else◌}
+use Rattle.std.specs.Prelude.{ℕ, ◌-◌, ◌/◌, Bool, true, false, not, ◌&&◌, ◌||◌, eqb, leb, if◌then◌else◌}
 use Rattle.laws.specs.Refusals.{refusal_number, play_unfinished, no_claim_point, claim_too_many}
 use Rattle.laws.specs.Law68.{Claim, none, agreed}
 use Rattle.laws.specs.Reading.{Reading, Reading.refused, Reading.found, Reader, ◌>>=◌, ◌>>◌, give, read, refuse}

@@ -1,7 +1,6 @@
 -- The whole record: what follows the cards, what the code's answer says of a reading, and what the positions stand for.
 -- Assumes nothing.
-use Rattle.std.specs.Prelude.{ℕ, ◌≡◌, Bool, true, false, List, map, length, replicate}
-use Rattle.laws.specs.Choice.{if◌then◌else◌}
+use Rattle.std.specs.Prelude.{ℕ, ◌≡◌, Bool, true, false, List, map, length, replicate, if◌then◌else◌}
 use Rattle.laws.specs.Padded.{padded}
 use Rattle.laws.specs.Refusals.{refusal_number}
 use Rattle.laws.specs.Law2.{dealer}

@@ -1,7 +1,6 @@
 -- What the structs of the code say of a section's reading: a refusal by its number, or 0 and what was read, with positions for histories.
 -- Assumes nothing.
-use Rattle.std.specs.Prelude.{ℕ, zero, suc, ◌+◌, ◌-◌, ◌/◌, Bool, ◌&&◌, ◌||◌, List, [], ◌∷◌, ◌++◌, eqb, ltb, get_or, replicate}
-use Rattle.laws.specs.Choice.{if◌then◌else◌}
+use Rattle.std.specs.Prelude.{ℕ, zero, suc, ◌+◌, ◌-◌, ◌/◌, Bool, ◌&&◌, ◌||◌, List, [], ◌∷◌, ◌++◌, eqb, ltb, get_or, replicate, if◌then◌else◌}
 use Rattle.laws.specs.Refusals.{refusal_number, too_many_cards, too_many_codes}
 use Rattle.laws.specs.Events.{Event, codes_of}
 use Rattle.laws.specs.CodeRefusal.{most_codes, codes_full}

@@ -1,6 +1,5 @@
 // The cards, read in order and judged each on those before it, as the Laws' section of that name is; from the first code on, with the codes among them.
-ghost use Rattle.std.specs.Prelude.{◌≡◌, [], ◌<◌, ◌≤◌};
-ghost use Rattle.laws.specs.Choice.{if◌then◌else◌};
+ghost use Rattle.std.specs.Prelude.{◌≡◌, [], ◌<◌, ◌≤◌, if◌then◌else◌};
 ghost use Rattle.laws.specs.CodeRefusal.{most_codes};
 ghost use Rattle.laws.specs.Plays.{read_plays};
 ghost use Rattle.deal.specs.Hands.{words_of};

@@ -1,4 +1,5 @@
 -- The points of Law 77: bounds for every stake whose level fits a byte, and the score made or down. Assumes nothing.
+use Rattle.std.specs.Prelude.{if◌then◌else◌}
 use Prim.Native.Nat.{ℕ, zero, suc, ◌≤◌, ◌<◌, ◌+◌, ◌-◌, ◌*◌}
 use native.Mathlib.Nat.{mul-le-mul}
 use native.Mathlib.Omega.{arith}
@@ -7,7 +8,6 @@ use mathlib.Core.Bool.{Bool, true, false}
 use borrow.Author.Tests.{le-leb, lt-leb}
 use lib.Dec.{eqb, ltb, leb}
 use lib.IntN.{pos, neg_ℤ}
-use Rattle.laws.specs.Choice.{if◌then◌else◌}
 use Rattle.laws.specs.Law77.{Stake, by_vulnerability, by_doubling, trick_value, first_trick_value, trick_points, overtrick_value, doubled_undertrick, undertrick_value}
 use Rattle.laws.specs.Law77.{undertricks, is_game, part_score_points, game_points, slam_points, doubling_points, is_made, overtrick_points, undertrick_points}
 use Rattle.laws.specs.Law77.{declarer_score}

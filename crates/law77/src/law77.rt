@@ -1,6 +1,5 @@
 // Law 77, item by item: the score of a contract.
-ghost use Rattle.std.specs.Prelude.{◌≡◌, ◌+◌, ◌-◌, ◌*◌, ◌<◌, nat_abs};
-ghost use Rattle.laws.specs.Choice.{if◌then◌else◌};
+ghost use Rattle.std.specs.Prelude.{◌≡◌, ◌+◌, ◌-◌, ◌*◌, ◌<◌, nat_abs, if◌then◌else◌};
 ghost use Rattle.laws.specs.Law77;
 ghost use Rattle.law77.specs.Scoring.{stake_of, made_points};
 

@@ -1,4 +1,5 @@
 -- By best play each side holds the other to the value: the card that attains it is a plan and a defence at once. Assumes nothing.
+use Rattle.std.specs.Prelude.{if◌then◌else◌}
 use Prim.Native.Nat.{ℕ, zero, suc, ◌+◌, ◌-◌, ◌/◌, ◌≤◌, ◌<◌, max, min}
 use native.Mathlib.Omega.{arith}
 use mathlib.Core.Path.{◌≡◌, refl, ap, ◌∙◌}
@@ -7,7 +8,7 @@ use mathlib.Core.List.{List, [], ◌∷◌, ◌++◌}
 use borrow.Author.Tests.{leb-true, leb-false, eqb-true, eqb-false, eq-eqb}
 use lib.Dec.{eqb, leb}
 use lib.ListN.{length}
-use Rattle.laws.specs.Choice.{if◌then◌else◌, how_many, some_below}
+use Rattle.laws.specs.Choice.{how_many, some_below}
 use Rattle.laws.specs.Cards.{side_of}
 use Rattle.laws.specs.Law44.{cards_played, cards_in_trick, trick_under_way, leader, winner, winners, tricks_won, playable}
 use Rattle.laws.specs.BestPlay.{greatest, smallest, may_play, our_turn, gain, most, least, best_play}

@@ -1,4 +1,5 @@
 -- Law 64's total is the greatest number of tricks that can be allotted to the revokes of one side. Assumes nothing.
+use Rattle.std.specs.Prelude.{if◌then◌else◌}
 use Prim.Native.Nat.{ℕ, zero, suc, ◌+◌, ◌-◌, ◌≤◌, ◌<◌}
 use native.Mathlib.Nat.{zero-add}
 use native.Mathlib.Omega.{arith}
@@ -10,7 +11,7 @@ use borrow.Author.Tests.{eqb-false, le-leb, not-true}
 use lib.Dec.{eqb, leb}
 use lib.ListN.{length, get_or, take, drop}
 use lib.Seq.{drop-drop}
-use Rattle.laws.specs.Choice.{if◌then◌else◌, how_many, some}
+use Rattle.laws.specs.Choice.{how_many, some}
 use Rattle.laws.specs.Cards.{side_of}
 use Rattle.laws.specs.Law44.{cards_played, tricks_complete, tricks_won}
 use Rattle.laws.specs.Events.{Event, played, exposed, choice, cards_of, list_plays}

@@ -1,4 +1,5 @@
 -- A card is refused with no number exactly when it may be played; a number is one of a record's. Assumes nothing.
+use Rattle.std.specs.Prelude.{if◌then◌else◌}
 use Prim.Native.Nat.{ℕ, ◌<◌}
 use native.Mathlib.Omega.{arith}
 use mathlib.Core.Path.{◌≡◌, refl}
@@ -9,7 +10,6 @@ use borrow.Author.Tests.{leb-true, leb-false, lt-leb, eqb-true, eq-eqb, ne_eqb}
 use lib.Dec.{leb, eqb}
 use lib.ListN.{length, get_or-eq_default}
 use Rattle.laws.specs.Refusals.{accepted, no_card, card_not_held, card_already_played, refuses_record}
-use Rattle.laws.specs.Choice.{if◌then◌else◌}
 use Rattle.laws.specs.Cards.{no_seat, clockwise, dealt_to}
 use Rattle.laws.specs.Law44.{to_play, is_played, holds, has_played, playable}
 use Rattle.laws.specs.CardRefusal.{card_refusal}

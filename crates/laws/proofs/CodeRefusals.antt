@@ -1,4 +1,5 @@
 -- What an event that is not refused tells: an exposed card can be exposed, a choice is open; and the numbers of those that are refused. Assumes nothing.
+use Rattle.std.specs.Prelude.{if◌then◌else◌}
 use Prim.Native.Nat.{ℕ, ◌≤◌, ◌<◌}
 use native.Mathlib.Omega.{arith}
 use mathlib.Core.Path.{◌≡◌, refl}
@@ -6,7 +7,6 @@ use mathlib.Core.Bool.{Bool, true, false, not}
 use mathlib.Core.List.{List, [], ◌∷◌}
 use borrow.Author.Tests.{leb-false}
 use lib.Dec.{eqb}
-use Rattle.laws.specs.Choice.{if◌then◌else◌}
 use Rattle.laws.specs.Refusals.{accepted, not_exposable, choice_not_open, too_many_codes}
 use Rattle.laws.specs.Events.{Event, played, exposed, choice, codes_of}
 use Rattle.laws.specs.Law50.{is_exposable}

@@ -1,4 +1,5 @@
 -- What follows a code among the plays of a record is read exactly: an exposed card with its bit, a choice with its suit. Assumes nothing.
+use Rattle.std.specs.Prelude.{if◌then◌else◌}
 use Prim.Native.Nat.{ℕ, zero, suc, ◌+◌, ◌*◌, ◌≤◌}
 use native.Mathlib.Omega.{arith}
 use mathlib.Core.Path.{◌≡◌, refl, sym, ap}
@@ -7,7 +8,6 @@ use mathlib.Core.List.{List, ◌∷◌}
 use borrow.Author.Tests.{eqb-true, eq-eqb, not-false}
 use lib.Dec.{eqb}
 use lib.ListN.{length}
-use Rattle.laws.specs.Choice.{if◌then◌else◌}
 use Rattle.laws.specs.Refusals.{accepted}
 use Rattle.laws.specs.Law50.{is_exposable}
 use Rattle.laws.specs.Law51.{is_open}

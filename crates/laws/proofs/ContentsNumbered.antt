@@ -1,4 +1,5 @@
 -- A refusal of contents has a number from 3 to 15, 22 to 27 or 33, and a place below 1024. Assumes nothing.
+use Rattle.std.specs.Prelude.{if◌then◌else◌}
 use Prim.Native.Nat.{ℕ, ◌+◌, ◌≤◌, ◌<◌, min}
 use native.Mathlib.Omega.{arith}
 use mathlib.Core.Path.{◌≡◌, refl}
@@ -15,7 +16,7 @@ use Rattle.laws.specs.Law2.{dealer}
 use Rattle.laws.specs.Auction.{is_over, passed_out, trump_after, opening_after}
 use Rattle.laws.specs.CallRefusal.{call_refusal, call_place}
 use Rattle.laws.specs.Law44.{cards_played, all_played}
-use Rattle.laws.specs.Choice.{if◌then◌else◌, how_many}
+use Rattle.laws.specs.Choice.{how_many}
 use Rattle.laws.specs.Events.{Event, played, exposed, choice, cards_of}
 use Rattle.laws.specs.CodeRefusal.{codes_full, event_refusal}
 use Rattle.laws.specs.FlatPlay.{Item, event, broken, items_of, is_card, cards_in, is_misplaced, item_refusal, after_item}

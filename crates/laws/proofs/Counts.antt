@@ -1,4 +1,5 @@
 -- Laws of `how_many` and `some_below`, over any test; and a test over a whole table. Assumes nothing.
+use Rattle.std.specs.Prelude.{if◌then◌else◌}
 use Prim.Native.Nat.{ℕ, zero, suc, ◌≤◌, ◌<◌, ◌+◌}
 use native.Mathlib.Nat.{zero-add}
 use native.Mathlib.Omega.{arith}
@@ -9,7 +10,7 @@ use borrow.Author.Tests.{eqb-true, eqb-false}
 use lib.Dec.{eqb}
 use lib.ListN.{length, get_or, drop}
 use lib.Seq.{drop-cons}
-use Rattle.laws.specs.Choice.{if◌then◌else◌, how_many, some, some_below}
+use Rattle.laws.specs.Choice.{how_many, some, some_below}
 use Rattle.laws.proofs.Tests.{by_test, not_both, and_left, and_right}
 
 module _ {A : Type 0} (test : A → Bool) where

@@ -1,5 +1,6 @@
 -- What the judge says of any bytes it says of their first 506: no section reads behind them, and a byte more than an accepted record can have is one too
 -- many however many follow. Up to its last card a record is read within the first 505. Assumes nothing.
+use Rattle.std.specs.Prelude.{if◌then◌else◌}
 use Prim.Native.Nat.{ℕ, zero, suc, ◌+◌, ◌-◌, ◌*◌, ◌/◌, ◌^◌, ◌≤◌, ◌<◌}
 use native.Mathlib.Nat.{mul-suc}
 use native.Mathlib.Omega.{arith}
@@ -10,7 +11,6 @@ use borrow.Author.Tests.{le-leb, ltb-true, ltb-false, eqb-true, not-false}
 use lib.Dec.{ltb, eqb}
 use lib.ListN.{length, take, length-reverse}
 use lib.Seq.{length-take-le, get_or-take, take_all}
-use Rattle.laws.specs.Choice.{if◌then◌else◌}
 use Rattle.laws.specs.Refusals.{accepted, no_board_or_table, not_thirteen, auction_unfinished, short_buffer}
 use Rattle.laws.specs.Refusals.{too_many_cards, play_unfinished, no_claim_point, claim_too_many, too_many_codes}
 use Rattle.laws.specs.Cards.{no_seat, seat_without_thirteen}

@@ -1,4 +1,5 @@
 -- A flat list of events whose codes are whole reads back to those events, and a flat list without a broken code is that of its events. Assumes nothing.
+use Rattle.std.specs.Prelude.{if◌then◌else◌}
 use Prim.Native.Nat.{ℕ, ◌≤◌}
 use native.Mathlib.Omega.{arith}
 use mathlib.Core.Path.{◌≡◌, refl, sym, ap, ◌∙◌}
@@ -7,7 +8,7 @@ use mathlib.Core.List.{List, [], ◌∷◌, ◌++◌, map, append-nil}
 use borrow.Author.Tests.{eqb-true, eqb-false, ltb-false}
 use lib.Dec.{eqb, ltb}
 use lib.ListN.{length}
-use Rattle.laws.specs.Choice.{if◌then◌else◌, some, how_many}
+use Rattle.laws.specs.Choice.{some, how_many}
 use Rattle.laws.specs.Events.{Event, played, exposed, choice, exposure_code, choice_code, begins_code, cards_of, cards_among}
 use Rattle.laws.specs.CodeRefusal.{event_refusal}
 use Rattle.laws.specs.FlatPlay.{Item, event, broken, code_item, last_item, items_of, is_card, cards_in, is_broken}

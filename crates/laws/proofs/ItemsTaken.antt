@@ -1,5 +1,6 @@
 -- What is taken of the items of a flat list: none is broken, each code has a card after it, and the numbers fit their fields. Items that may stand pass.
 -- Assumes nothing.
+use Rattle.std.specs.Prelude.{if◌then◌else◌}
 use Prim.Native.Nat.{ℕ, ◌+◌, ◌≤◌, ◌<◌, min}
 use native.Mathlib.Omega.{arith}
 use mathlib.Core.Path.{◌≡◌, refl, sym, ap, ◌∙◌}
@@ -9,7 +10,7 @@ use mathlib.Core.List.{List, [], ◌∷◌, ◌++◌, map, reverse, reverse_aux}
 use borrow.Author.Tests.{eqb-true, eq-eqb, lt-leb, ltb-false, not-false}
 use lib.Dec.{eqb, ltb}
 use lib.ListN.{length}
-use Rattle.laws.specs.Choice.{if◌then◌else◌, some, how_many}
+use Rattle.laws.specs.Choice.{some, how_many}
 use Rattle.laws.specs.Refusals.{accepted, too_many_cards, too_many_codes, choice_not_open}
 use Rattle.laws.specs.Auction.{passed_out, trump_after, opening_after}
 use Rattle.laws.specs.Law44.{cards_played, playable}

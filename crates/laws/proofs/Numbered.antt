@@ -1,4 +1,5 @@
 -- A refusal of the judge has a number from 1 to 16 or 23 to 27, and a place below 1024, for every list of numbers and buffers of any lengths. Assumes nothing.
+use Rattle.std.specs.Prelude.{if◌then◌else◌}
 use Prim.Native.Nat.{ℕ, zero, suc, ◌+◌, ◌*◌, ◌^◌, ◌≤◌, ◌<◌}
 use native.Mathlib.Omega.{arith}
 use mathlib.Core.Path.{◌≡◌, refl}
@@ -6,7 +7,6 @@ use mathlib.Core.Bool.{Bool, true, false, not, ◌&&◌, ◌||◌}
 use mathlib.Core.List.{List, [], ◌∷◌}
 use lib.Dec.{leb, ltb, eqb, lit≤}
 use lib.ListN.{length}
-use Rattle.laws.specs.Choice.{if◌then◌else◌}
 use Rattle.laws.specs.Refusals.{refusal_number, refuses_record, refuses_to_last_card, refuses_behind}
 use Rattle.laws.specs.Refusals.{accepted, short_buffer, record_ends, no_board_or_table, not_thirteen, auction_unfinished}
 use Rattle.laws.specs.Refusals.{too_many_cards, play_unfinished, no_claim_point, claim_too_many, not_padding, too_many_codes}

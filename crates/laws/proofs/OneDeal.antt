@@ -1,4 +1,5 @@
 -- Lists of results that are all of one deal, and the rules of tally calls on them. Assumes nothing.
+use Rattle.std.specs.Prelude.{if◌then◌else◌}
 use Prim.Native.Nat.{ℕ, zero, suc, ◌+◌, ◌≤◌}
 use native.Mathlib.Omega.{arith}
 use mathlib.Core.Path.{◌≡◌, refl, sym, ap, ◌∙◌, subst}
@@ -8,7 +9,7 @@ use borrow.Author.Tests.{eqb-true, eqb-false, eq-eqb, ne_eqb}
 use lib.Dec.{ltb, eqb}
 use lib.IntN.{ℤ}
 use lib.ListN.{length}
-use Rattle.laws.specs.Choice.{if◌then◌else◌, how_many}
+use Rattle.laws.specs.Choice.{how_many}
 use Rattle.laws.specs.Refusals.{Answer, refused, placed, accepted, two_boards, too_many_results, invalid_score}
 use Rattle.laws.specs.Law77.{valid_score}
 use Rattle.laws.specs.Law78.{same_score, occurrences}

@@ -1,4 +1,5 @@
 -- The Deal line of Portable Bridge Notation says the seat and the holders that it is the line of. Assumes nothing.
+use Rattle.std.specs.Prelude.{if◌then◌else◌}
 use Prim.Native.Nat.{ℕ, zero, suc, ◌+◌, ◌-◌, ◌*◌, ◌/◌, ◌%◌, ◌≤◌, ◌<◌}
 use native.Mathlib.Omega.{arith}
 use mathlib.Core.Path.{◌≡◌, refl, sym, ap, ap₂, ◌∙◌}
@@ -8,7 +9,7 @@ use borrow.Author.Tests.{eqb-true, eq-eqb, eqb-false, ltb-true, ltb-false, lt-lt
 use lib.Dec.{eqb, ltb, lit<, lit≤}
 use lib.ListN.{length, get_or, take, drop, set, replicate, length-set, length-append}
 use lib.Seq.{get_or-set_same, get_or-set_other, ext_get_or, take_at}
-use Rattle.laws.specs.Choice.{if◌then◌else◌, some}
+use Rattle.laws.specs.Choice.{some}
 use Rattle.laws.specs.Cards.{no_seat, clockwise, dealt_to, clubs, diamonds, hearts, spades}
 use Rattle.laws.specs.Contents.{are_seats}
 use Rattle.laws.specs.PbnText.{EachBelow, letter_of, seat_letters, rank_letters, space, dot, deal_tag, tag_end, ranks_held, hand_and, hands_and, deal_line}

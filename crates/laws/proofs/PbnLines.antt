@@ -1,5 +1,6 @@
 -- The lines of Portable Bridge Notation, each read as what it says: words and tags tell their numbers apart, and no line has a newline in it.
 -- Assumes nothing.
+use Rattle.std.specs.Prelude.{if◌then◌else◌}
 use Prim.Native.Nat.{ℕ, zero, suc, ◌+◌, ◌-◌, ◌*◌, ◌/◌, ◌%◌, ◌≤◌, ◌<◌}
 use native.Mathlib.Omega.{arith}
 use mathlib.Core.Path.{◌≡◌, refl, sym, ap, ap₂, ◌∙◌}
@@ -8,7 +9,7 @@ use mathlib.Core.List.{List, [], ◌∷◌, ◌++◌, map, append_assoc}
 use borrow.Author.Tests.{not-true, ne_eqb, ltb-false}
 use lib.Dec.{ltb, eqb, lit≤}
 use lib.ListN.{drop}
-use Rattle.laws.specs.Choice.{if◌then◌else◌, some}
+use Rattle.laws.specs.Choice.{some}
 use Rattle.laws.specs.Cards.{clockwise, dealt_to, clubs, diamonds, hearts, spades}
 use Rattle.laws.specs.Auction.{level_of, strain_of}
 use Rattle.laws.specs.Decimal.{zero_digit, digit, last_digits, decimal, value_after}

@@ -1,5 +1,6 @@
 -- A text of the subset of Portable Bridge Notation is refused with 3, 4, 6 to 9, 12, 23, 32 or 33 before it is written, and a place below 1024: it has no
 -- mark, no code and no claim, and where Play stands it lists 52 cards. Assumes nothing.
+use Rattle.std.specs.Prelude.{if◌then◌else◌}
 use Prim.Native.Nat.{ℕ, ◌+◌, ◌≤◌, ◌<◌, min}
 use native.Mathlib.Omega.{arith}
 use mathlib.Core.Path.{◌≡◌, refl, sym, ap, ◌∙◌}
@@ -8,7 +9,7 @@ use mathlib.Core.List.{List, [], ◌∷◌, map, reverse}
 use borrow.Author.Tests.{eq-eqb, ne_eqb, le-leb, lt-leb, ltb-false, not-true, not-false}
 use lib.Dec.{eqb, ltb, leb}
 use lib.ListN.{length}
-use Rattle.laws.specs.Choice.{if◌then◌else◌, some}
+use Rattle.laws.specs.Choice.{some}
 use Rattle.laws.specs.Refusals.{accepted, no_board_or_table, not_thirteen, auction_unfinished, play_unfinished, too_many_calls, too_many_cards, outside_subset}
 use Rattle.laws.specs.Refusals.{refuses_game}
 use Rattle.laws.specs.Cards.{no_seat, seat_without_thirteen}

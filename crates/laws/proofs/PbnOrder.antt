@@ -1,4 +1,5 @@
 -- Columns of a Play section and the order of play: each gives back the other, on any cards. Assumes nothing.
+use Rattle.std.specs.Prelude.{if◌then◌else◌}
 use Prim.Native.Nat.{ℕ, zero, suc, ◌+◌, ◌%◌, ◌<◌}
 use native.Mathlib.Nat.{mod-lt}
 use native.Mathlib.Omega.{arith}
@@ -6,7 +7,6 @@ use mathlib.Core.Path.{◌≡◌, refl, ap, ap₂, ◌∙◌}
 use mathlib.Core.Bool.{Bool, true, false}
 use mathlib.Core.List.{List, [], ◌∷◌, ◌++◌, reverse}
 use lib.Dec.{eqb, lit<}
-use Rattle.laws.specs.Choice.{if◌then◌else◌}
 use Rattle.laws.specs.Cards.{clockwise}
 use Rattle.laws.specs.Law44.{cards_played, player_of, winning_card, winner}
 use Rattle.laws.proofs.Tests.{by_test}

@@ -1,5 +1,6 @@
 -- Reading a whole text of Portable Bridge Notation: the lines that are read, what was read where the reading ends, and that only the text of what was read is
 -- read so. Assumes nothing.
+use Rattle.std.specs.Prelude.{if◌then◌else◌}
 use Prim.Native.Nat.{ℕ, zero, suc, ◌+◌, ◌-◌, ◌*◌, ◌%◌, ◌≤◌, ◌<◌}
 use native.Mathlib.Omega.{arith}
 use mathlib.Core.Path.{◌≡◌, refl, sym, ap, ap₂, ◌∙◌}
@@ -8,7 +9,6 @@ use mathlib.Core.Bool.{Bool, true, false}
 use mathlib.Core.List.{List, [], ◌∷◌, ◌++◌, append_assoc, append-nil}
 use lib.Dec.{lit≤, lit<}
 use lib.ListN.{length, take, replicate, length-append}
-use Rattle.laws.specs.Choice.{if◌then◌else◌}
 use Rattle.laws.specs.Sheet.{newline}
 use Rattle.laws.specs.PbnText.{Listed, absent, columns, Game, EachBelow, Listable, Sayable, game_lines, joined_by, ended, text}
 use Rattle.laws.specs.PbnReading.{Read, misses, reads, parted_by, Stage, board, deal, auction, first_calls, calls, calls_over, cards, may_end, State, start}

@@ -1,4 +1,5 @@
 -- The texts of Portable Bridge Notation that give a record are those of a record's lawful parts, and each gives the record of its parts. Assumes nothing.
+use Rattle.std.specs.Prelude.{if◌then◌else◌}
 use Prim.Native.Nat.{ℕ, zero, suc, ◌+◌, ◌-◌, ◌%◌, ◌≤◌, ◌<◌}
 use native.Mathlib.Nat.{mod-lt}
 use native.Mathlib.Omega.{arith}
@@ -8,7 +9,6 @@ use mathlib.Core.List.{List, [], ◌∷◌, ◌++◌, reverse}
 use borrow.Author.Tests.{eq-eqb, eqb-true, not-true, leb-true, leb-false}
 use lib.Dec.{eqb, leb, lit<}
 use lib.ListN.{length, get_or, get_or-eq_default}
-use Rattle.laws.specs.Choice.{if◌then◌else◌}
 use Rattle.laws.specs.Cards.{no_seat, clockwise, dealt_to}
 use Rattle.laws.specs.Law2.{dealer}
 use Rattle.laws.specs.Auction.{is_over, has_bid, last_bid, passes_in_a_row, passed_out, trump_after, opening_after}

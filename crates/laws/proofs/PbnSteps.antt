@@ -1,4 +1,5 @@
 -- Reading a text of Portable Bridge Notation line by line: each line that is read is one more of those that what was read says. Assumes nothing.
+use Rattle.std.specs.Prelude.{if◌then◌else◌}
 use Prim.Native.Nat.{ℕ, zero, suc, ◌+◌, ◌-◌, ◌*◌, ◌%◌, ◌≤◌, ◌<◌}
 use native.Mathlib.Omega.{arith}
 use mathlib.Core.Path.{◌≡◌, refl, sym, ap, ap₂, ◌∙◌}
@@ -7,7 +8,6 @@ use mathlib.Core.List.{List, [], ◌∷◌, ◌++◌, map, append_assoc, append-
 use borrow.Author.Tests.{eqb-true, ltb-false}
 use lib.Dec.{eqb, ltb, lit≤, lit<}
 use lib.ListN.{length, replicate, length-append}
-use Rattle.laws.specs.Choice.{if◌then◌else◌}
 use Rattle.laws.specs.Decimal.{starts_with}
 use Rattle.laws.specs.PbnText.{Listed, absent, columns, Game, EachBelow, Sayable, call_word, card_word, auction_tag, play_tag}
 use Rattle.laws.specs.PbnText.{board_line, seat_line, deal_line, row_line, fours, call_lines, card_lines, play_lines, game_lines}

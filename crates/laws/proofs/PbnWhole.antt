@@ -1,4 +1,5 @@
 -- Every text of Portable Bridge Notation of the subset is read, as what it is the text of. Assumes nothing.
+use Rattle.std.specs.Prelude.{if◌then◌else◌}
 use Prim.Native.Nat.{ℕ, zero, suc, ◌+◌, ◌-◌, ◌*◌, ◌≤◌, ◌<◌}
 use native.Mathlib.Omega.{arith}
 use mathlib.Core.Path.{◌≡◌, refl, sym, ap, ap₂, ◌∙◌}
@@ -7,7 +8,6 @@ use mathlib.Core.List.{List, [], ◌∷◌, ◌++◌, map, append_assoc, append-
 use borrow.Author.Tests.{eq-eqb, le-ltb, not-true}
 use lib.Dec.{eqb, ltb, lit≤}
 use lib.ListN.{length, length-append}
-use Rattle.laws.specs.Choice.{if◌then◌else◌}
 use Rattle.laws.specs.Auction.{level_of, strain_of}
 use Rattle.laws.specs.Decimal.{starts_with}
 use Rattle.laws.specs.Sheet.{newline}

@@ -1,5 +1,6 @@
 -- Words of Portable Bridge Notation: a word is read as the number that it is the word of, and a line of words as their numbers, and only so.
 -- Assumes nothing.
+use Rattle.std.specs.Prelude.{if◌then◌else◌}
 use Prim.Native.Nat.{ℕ, zero, suc, ◌+◌, ◌≤◌, ◌<◌}
 use native.Mathlib.Omega.{arith}
 use mathlib.Core.Path.{◌≡◌, refl, sym, ap, ap₂, ◌∙◌}
@@ -8,7 +9,7 @@ use mathlib.Core.List.{List, [], ◌∷◌, ◌++◌, map}
 use borrow.Author.Tests.{eqb-true, eq-eqb}
 use lib.Dec.{eqb}
 use lib.ListN.{length, length-map}
-use Rattle.laws.specs.Choice.{if◌then◌else◌, some}
+use Rattle.laws.specs.Choice.{some}
 use Rattle.laws.specs.Sheet.{before}
 use Rattle.laws.specs.PbnText.{EachBelow, space, joined_by, row_line}
 use Rattle.laws.specs.PbnReading.{Read, misses, reads, on_read, same_bytes, number_of, parted_by, numbers_of, row_in}

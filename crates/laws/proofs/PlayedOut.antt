@@ -1,10 +1,10 @@
 -- A plan and a defence make one line, legal and done, that keeps both. Assumes nothing.
+use Rattle.std.specs.Prelude.{if◌then◌else◌}
 use Prim.Native.Nat.{ℕ, zero, suc, ◌+◌, ◌-◌, ◌≤◌, ◌<◌}
 use native.Mathlib.Omega.{arith}
 use mathlib.Core.Path.{◌≡◌}
 use mathlib.Core.Bool.{Bool, true, false}
 use mathlib.Core.List.{List, [], ◌∷◌, ◌++◌}
-use Rattle.laws.specs.Choice.{if◌then◌else◌}
 use Rattle.laws.specs.Law44.{cards_played}
 use Rattle.laws.specs.BestPlay.{may_play, our_turn}
 use Rattle.laws.specs.Lines.{Legal, Done, Keeps, Plays, played_on, played_by}

@@ -1,4 +1,5 @@
 -- The plays of a record are read exactly: what is read stands there and may stand by the Laws, and what may stand and stands there is read. Assumes nothing.
+use Rattle.std.specs.Prelude.{if◌then◌else◌}
 use Prim.Native.Nat.{ℕ, zero, suc, ◌+◌, ◌*◌, ◌≤◌, ◌<◌}
 use native.Mathlib.Omega.{arith}
 use mathlib.Core.Path.{◌≡◌, refl, sym, ap, ◌∙◌}
@@ -7,7 +8,6 @@ use mathlib.Core.List.{List, [], ◌∷◌, reverse, reverse_aux}
 use borrow.Author.Tests.{eqb-true, eqb-false, eq-eqb, ne_eqb, not-false, lt-leb}
 use lib.Dec.{eqb}
 use lib.ListN.{length}
-use Rattle.laws.specs.Choice.{if◌then◌else◌}
 use Rattle.laws.specs.Refusals.{accepted, too_many_codes}
 use Rattle.laws.specs.CardRefusal.{card_refusal}
 use Rattle.laws.specs.CodeRefusal.{most_codes, codes_full, event_refusal}

@@ -1,4 +1,5 @@
 -- Plays that may stand have numbers that their fields can hold, and such numbers fit the fields. Assumes nothing.
+use Rattle.std.specs.Prelude.{if◌then◌else◌}
 use Prim.Native.Nat.{ℕ, ◌≤◌, ◌<◌}
 use native.Mathlib.Omega.{arith}
 use mathlib.Core.Path.{◌≡◌}
@@ -6,7 +7,6 @@ use mathlib.Core.Bool.{Bool, true, false}
 use mathlib.Core.List.{List, [], ◌∷◌}
 use borrow.Author.Tests.{leb-true}
 use lib.ListN.{length}
-use Rattle.laws.specs.Choice.{if◌then◌else◌}
 use Rattle.laws.specs.Events.{Event, played, exposed, choice, forbid, cards_of}
 use Rattle.laws.specs.Plays.{MayStand, EachStands}
 use Rattle.laws.specs.Record.{event_fields, play_fields}

@@ -1,5 +1,6 @@
 -- Where a flat list of plays is refused: at the first item that its rule refuses, behind plays that may stand, and which items those are that no field can
 -- hold. Assumes nothing.
+use Rattle.std.specs.Prelude.{if◌then◌else◌}
 use Prim.Native.Nat.{ℕ, suc, ◌+◌, ◌≤◌, ◌<◌, min}
 use native.Mathlib.Omega.{arith}
 use mathlib.Core.Path.{◌≡◌, refl, sym, ap, ◌∙◌}
@@ -9,7 +10,7 @@ use mathlib.Core.List.{List, [], ◌∷◌, ◌++◌, reverse, reverse_aux}
 use borrow.Author.Tests.{ne_eqb, le-leb, lt-leb, leb-true, lt-ltb}
 use lib.Dec.{eqb, leb, ltb}
 use lib.ListN.{length}
-use Rattle.laws.specs.Choice.{if◌then◌else◌, some, how_many}
+use Rattle.laws.specs.Choice.{some, how_many}
 use Rattle.laws.specs.Refusals.{accepted, no_card, too_many_cards, not_exposable, choice_not_open, too_many_codes}
 use Rattle.laws.specs.Law44.{cards_played}
 use Rattle.laws.specs.Auction.{passed_out, trump_after, opening_after}

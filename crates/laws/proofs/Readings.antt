@@ -1,4 +1,5 @@
 -- What follows from a reading that came to its end, step by step, and when a step does. Assumes nothing.
+use Rattle.std.specs.Prelude.{if◌then◌else◌}
 use Prim.Native.Nat.{ℕ, ◌+◌, ◌-◌, ◌*◌, ◌≤◌, ◌<◌}
 use native.Mathlib.Omega.{arith}
 use mathlib.Core.Path.{◌≡◌, refl}
@@ -7,7 +8,6 @@ use mathlib.Core.List.{List}
 use borrow.Author.Tests.{leb-true, leb-false, le-leb, lt-leb, eqb-true, not-false}
 use lib.Dec.{leb}
 use lib.ListN.{length}
-use Rattle.laws.specs.Choice.{if◌then◌else◌}
 use Rattle.laws.specs.Refusals.{record_ends, not_padding}
 use Rattle.laws.specs.Reading.{number_at, Reading, Reading.refused, Reading.found, onward, read, refuse, overfull, ending}
 use Rattle.laws.proofs.Tests.{or_left, or_right}

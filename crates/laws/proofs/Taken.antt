@@ -1,5 +1,6 @@
 -- Contents that stand in a list of bytes are judged there as they are taken: section by section, the reader and the checks of contents say the same.
 -- Assumes nothing.
+use Rattle.std.specs.Prelude.{if◌then◌else◌}
 use Prim.Native.Nat.{ℕ, zero, suc, ◌+◌, ◌≤◌, min}
 use native.Mathlib.Omega.{arith}
 use mathlib.Core.Path.{◌≡◌, refl, sym, ap, ◌∙◌}
@@ -14,7 +15,6 @@ use Rattle.laws.specs.Cards.{no_seat, seat_without_thirteen}
 use Rattle.laws.specs.Auction.{is_over, passed_out, trump_after, opening_after}
 use Rattle.laws.specs.CallRefusal.{call_refusal, call_place}
 use Rattle.laws.specs.Law44.{cards_played, all_played}
-use Rattle.laws.specs.Choice.{if◌then◌else◌}
 use Rattle.laws.specs.CardRefusal.{card_refusal}
 use Rattle.laws.specs.Events.{Event, played, exposed, choice, exposure_code, choice_code, begins_code, cards_of, cards_among, codes_of}
 use Rattle.laws.specs.CodeRefusal.{most_codes, codes_full, exposure_refusal, choice_refusal, event_refusal}

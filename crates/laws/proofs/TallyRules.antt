@@ -1,4 +1,5 @@
 -- The rules of tally calls: refusals one after the other, deals compared, and results of one deal. Assumes nothing.
+use Rattle.std.specs.Prelude.{if◌then◌else◌}
 use Prim.Native.Nat.{ℕ, zero, suc, ◌+◌, ◌≤◌, ◌<◌}
 use native.Mathlib.Omega.{arith}
 use mathlib.Core.Path.{◌≡◌, refl, sym, ap, ap₂, ◌∙◌}
@@ -8,7 +9,7 @@ use borrow.Author.Tests.{eqb-true, eqb-false, eq-eqb, ne_eqb, lt-ltb, le-ltb, lt
 use lib.Dec.{ltb, eqb}
 use lib.IntN.{ℤ}
 use lib.ListN.{length, get_or}
-use Rattle.laws.specs.Choice.{if◌then◌else◌, how_many, some}
+use Rattle.laws.specs.Choice.{how_many, some}
 use Rattle.laws.specs.Cards.{no_seat, cards_dealt, seat_without_thirteen}
 use Rattle.laws.specs.Law77.{valid_score}
 use Rattle.laws.specs.Reading.{Reading, Reading.refused, Reading.found, refuse}

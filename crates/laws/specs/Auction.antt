@@ -3,8 +3,8 @@
 -- 3 to 37 the bids, 3 + 5 × (level - 1) + strain. Among them may stand marks, 38: the next call is an insufficient bid that was accepted. A mark is
 -- no call and takes no turn. A number from 39 on is neither: no Law allows it.
 -- Assumes nothing.
-use Rattle.std.specs.Prelude.{ℕ, suc, ◌+◌, ◌-◌, ◌/◌, ◌%◌, Bool, true, false, not, ◌&&◌, ◌||◌, List, [], ◌∷◌, eqb, ltb, leb, length}
-use Rattle.laws.specs.Choice.{if◌then◌else◌, how_many}
+use Rattle.std.specs.Prelude.{ℕ, suc, ◌+◌, ◌-◌, ◌/◌, ◌%◌, Bool, true, false, not, ◌&&◌, ◌||◌, List, [], ◌∷◌, eqb, ltb, leb, length, if◌then◌else◌}
+use Rattle.laws.specs.Choice.{how_many}
 use Rattle.laws.specs.Cards.{no_seat, clockwise, side_of, same_side}
 
 abbrev pub pass : ℕ

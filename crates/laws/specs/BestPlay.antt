@@ -2,8 +2,7 @@
 -- the hand of the seat at turn, of the suit led where that seat holds it, and nothing else binds. A history has the latest card first.
 -- `trump` is the contract's strain, `opening` the seat that led first, `side` declarer's side.
 -- Assumes nothing.
-use Rattle.std.specs.Prelude.{ℕ, zero, suc, ◌+◌, ◌-◌, max, min, Bool, not, ◌&&◌, List, ◌∷◌, eqb}
-use Rattle.laws.specs.Choice.{if◌then◌else◌}
+use Rattle.std.specs.Prelude.{ℕ, zero, suc, ◌+◌, ◌-◌, max, min, Bool, not, ◌&&◌, List, ◌∷◌, eqb, if◌then◌else◌}
 use Rattle.laws.specs.Cards.{side_of}
 use Rattle.laws.specs.Law44.{cards_played, cards_in_trick, leader, to_play, playable}
 use Rattle.laws.specs.Law61.{is_revoke}

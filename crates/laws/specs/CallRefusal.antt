@@ -1,8 +1,7 @@
 -- The number that a code is refused with after a history of calls, and its place: the code first, then the end of the auction, then what may follow a
 -- mark, then Laws 18 and 19.
 -- Assumes nothing.
-use Rattle.std.specs.Prelude.{ℕ, ◌-◌, Bool, not, List, leb, eqb}
-use Rattle.laws.specs.Choice.{if◌then◌else◌}
+use Rattle.std.specs.Prelude.{ℕ, ◌-◌, Bool, not, List, leb, eqb, if◌then◌else◌}
 use Rattle.laws.specs.Refusals.{accepted, no_call, insufficient_bid, inadmissible_double, call_after_end, wrong_mark}
 use Rattle.laws.specs.Auction.{mark, is_bid, codes_before, is_marked, is_over, allowed}
 

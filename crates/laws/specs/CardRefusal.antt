@@ -1,8 +1,7 @@
 -- Why a card is refused after the cards before it: 11 for a code that is no card; then, for a card that the seat at turn does not hold, 23 where that seat
 -- has played it already and 12 where it was dealt to another seat, played or not.
 -- Assumes nothing.
-use Rattle.std.specs.Prelude.{ℕ, List, leb}
-use Rattle.laws.specs.Choice.{if◌then◌else◌}
+use Rattle.std.specs.Prelude.{ℕ, List, leb, if◌then◌else◌}
 use Rattle.laws.specs.Refusals.{accepted, no_card, card_not_held, card_already_played}
 use Rattle.laws.specs.Law44.{cards_played, to_play, has_played, playable}
 

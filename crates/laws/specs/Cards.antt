@@ -3,8 +3,8 @@
 -- cards of one suit the higher has the greater number. Seats: North 0, East 1, South 2, West 3. Sides: North-South 0, East-West 1.
 -- Numbers from 52 on are no cards, and from 4 on no seats; a definition that meets one says what it makes of it.
 -- Assumes nothing.
-use Rattle.std.specs.Prelude.{ℕ, ◌+◌, ◌/◌, ◌%◌, Bool, List, [], ◌∷◌, eqb, get_or}
-use Rattle.laws.specs.Choice.{if◌then◌else◌, how_many}
+use Rattle.std.specs.Prelude.{ℕ, ◌+◌, ◌/◌, ◌%◌, Bool, List, [], ◌∷◌, eqb, get_or, if◌then◌else◌}
+use Rattle.laws.specs.Choice.{how_many}
 
 abbrev pub clubs : ℕ
 clubs = 0

@@ -1,8 +1,7 @@
 -- The sheet with percentages: a text of scores, read as the sheet's, gives a table with percentages to two decimals in place of matchpoints.
 -- Bytes are ASCII codes.
 -- Assumes nothing.
-use Rattle.std.specs.Prelude.{ℕ, ◌+◌, ◌*◌, ◌/◌, ◌%◌, List, [], ◌∷◌, ◌++◌, eqb, ℤ, length}
-use Rattle.laws.specs.Choice.{if◌then◌else◌}
+use Rattle.std.specs.Prelude.{ℕ, ◌+◌, ◌*◌, ◌/◌, ◌%◌, List, [], ◌∷◌, ◌++◌, eqb, ℤ, length, if◌then◌else◌}
 use Rattle.laws.specs.Decimal.{digit, decimal, signed_decimal}
 use Rattle.laws.specs.Law78.{occurrences, ns_matchpoints, ew_matchpoints}
 use Rattle.laws.specs.Percentages.{most_matchpoints}

@@ -1,12 +1,6 @@
--- How the definitions choose between two values, and count: by tests that are true or false.
+-- How the definitions count: by tests that are true or false.
 -- Assumes nothing.
-use Rattle.std.specs.Prelude.{ℕ, zero, suc, ◌+◌, Bool, true, false, ◌||◌, List, [], ◌∷◌}
-
-infixr 20 if◌then◌else◌
--- the first value where the test holds, else the second
-abbrev pub if◌then◌else◌ : {A : Type 0} → Bool → A → A → A
-if true then a else b = a
-if false then a else b = b
+use Rattle.std.specs.Prelude.{ℕ, zero, suc, ◌+◌, Bool, true, false, ◌||◌, List, [], ◌∷◌, if◌then◌else◌}
 
 -- how many members of a list pass a test
 unfoldable pub how_many : {A : Type 0} → (A → Bool) → List A → ℕ

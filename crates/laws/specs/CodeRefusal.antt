@@ -1,8 +1,7 @@
 -- Why an event of the play is refused after those before it. A code is 27 where forty codes went before it; then an exposure is 25 where the card cannot be
 -- exposed, and a choice 26 where it is not open. A card is refused as the cards before it say.
 -- Assumes nothing.
-use Rattle.std.specs.Prelude.{ℕ, Bool, List, leb}
-use Rattle.laws.specs.Choice.{if◌then◌else◌}
+use Rattle.std.specs.Prelude.{ℕ, Bool, List, leb, if◌then◌else◌}
 use Rattle.laws.specs.Refusals.{accepted, not_exposable, choice_not_open, too_many_codes}
 use Rattle.laws.specs.CardRefusal.{card_refusal}
 use Rattle.laws.specs.Events.{Event, played, exposed, choice, cards_of, codes_of}

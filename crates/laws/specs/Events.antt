@@ -1,8 +1,7 @@
 -- The play as events: the cards, and among them a defender's card that is exposed and declarer's choice before a lead. A history has the latest event first:
 -- in `v ∷ e`, v came after the events of e. What Laws 44 and 61 say of the play is asked of the cards of a history, `cards_of e`.
 -- Assumes nothing.
-use Rattle.std.specs.Prelude.{ℕ, suc, Bool, ◌||◌, List, [], ◌∷◌, ◌++◌, eqb, length}
-use Rattle.laws.specs.Choice.{if◌then◌else◌}
+use Rattle.std.specs.Prelude.{ℕ, suc, Bool, ◌||◌, List, [], ◌∷◌, ◌++◌, eqb, length, if◌then◌else◌}
 
 -- declarer's choice before a lead: a suit is required, or a suit is forbidden
 abbrev pub require : ℕ

@@ -1,7 +1,6 @@
 -- A value where it fits what is to hold it: a sum in its type, a text in lent bytes.
 -- Assumes nothing.
-use Rattle.std.specs.Prelude.{Bool}
-use Rattle.laws.specs.Choice.{if◌then◌else◌}
+use Rattle.std.specs.Prelude.{Bool, if◌then◌else◌}
 
 pub data Fitting (A : Type 0) : Type 0 where
   fits : A → Fitting A

@@ -1,8 +1,8 @@
 -- The events of the play as a flat list of numbers in order of play, as a writer is given them: a card is its number; an exposure is 52, the card and 0 or 1; a
 -- choice is 53, its kind and its suit.
 -- Assumes nothing.
-use Rattle.std.specs.Prelude.{ℕ, Bool, true, false, not, List, [], ◌∷◌, eqb, ltb}
-use Rattle.laws.specs.Choice.{if◌then◌else◌, some, how_many}
+use Rattle.std.specs.Prelude.{ℕ, Bool, true, false, not, List, [], ◌∷◌, eqb, ltb, if◌then◌else◌}
+use Rattle.laws.specs.Choice.{some, how_many}
 use Rattle.laws.specs.Refusals.{too_many_codes, choice_not_open}
 use Rattle.laws.specs.Events.{Event, played, exposed, choice, exposure_code, choice_code, begins_code}
 use Rattle.laws.specs.CodeRefusal.{codes_full, event_refusal}

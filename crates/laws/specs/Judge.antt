@@ -1,7 +1,6 @@
 -- The judge: the order of checks, section by section as docs/RULES.md has them, on the fields read and the histories of calls and events of the play.
 -- Assumes nothing.
-use Rattle.std.specs.Prelude.{ℕ, ◌≤◌, List, [], reverse, ltb, eqb}
-use Rattle.laws.specs.Choice.{if◌then◌else◌}
+use Rattle.std.specs.Prelude.{ℕ, ◌≤◌, List, [], reverse, ltb, eqb, if◌then◌else◌}
 use Rattle.laws.specs.Refusals.{refusal_number, short_buffer}
 use Rattle.laws.specs.Law2.{dealer}
 use Rattle.laws.specs.Auction.{trump_after, opening_after}

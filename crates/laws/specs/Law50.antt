@@ -1,8 +1,8 @@
 -- Laws 48 to 50: penalty cards, on the events of the play, latest first. A defender's card that is exposed is faced: it stays on the table, a penalty card,
 -- until it is played or picked up. `trump` is the contract's strain, `opening` the seat that leads to the first trick.
 -- Assumes nothing.
-use Rattle.std.specs.Prelude.{ℕ, ◌%◌, Bool, false, not, ◌&&◌, ◌||◌, List, [], ◌∷◌, eqb, leb, ltb}
-use Rattle.laws.specs.Choice.{if◌then◌else◌, some_below}
+use Rattle.std.specs.Prelude.{ℕ, ◌%◌, Bool, false, not, ◌&&◌, ◌||◌, List, [], ◌∷◌, eqb, leb, ltb, if◌then◌else◌}
+use Rattle.laws.specs.Choice.{some_below}
 use Rattle.laws.specs.Cards.{partner_of, same_side, dealt_to}
 use Rattle.laws.specs.Law44.{is_of, leader, is_played}
 use Rattle.laws.specs.Events.{Event, played, exposed, choice, cards_of}

@@ -1,7 +1,7 @@
 -- Laws 50D2 and 51B: declarer's choices before a defender leads whose partner has a major penalty card, on the events of the play, latest first.
 -- Assumes nothing.
-use Rattle.std.specs.Prelude.{ℕ, Bool, false, not, ◌&&◌, ◌||◌, List, [], ◌∷◌, eqb, leb}
-use Rattle.laws.specs.Choice.{if◌then◌else◌, some_below}
+use Rattle.std.specs.Prelude.{ℕ, Bool, false, not, ◌&&◌, ◌||◌, List, [], ◌∷◌, eqb, leb, if◌then◌else◌}
+use Rattle.laws.specs.Choice.{some_below}
 use Rattle.laws.specs.Cards.{partner_of}
 use Rattle.laws.specs.Law44.{cards_in_trick, is_of, leader}
 use Rattle.laws.specs.Events.{Event, played, exposed, choice, require, forbid, cards_of}

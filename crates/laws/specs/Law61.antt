@@ -1,8 +1,8 @@
 -- Law 61: a revoke is the play of a card of another suit by a seat that held, just before, a card of the suit led.
 -- Histories and tricks have the latest card first, as in Law 44.
 -- Assumes nothing.
-use Rattle.std.specs.Prelude.{ℕ, ◌+◌, ◌<◌, ◌≡◌, Bool, true, not, ◌&&◌, List, [], ◌∷◌, ◌++◌, eqb}
-use Rattle.laws.specs.Choice.{if◌then◌else◌, some_below}
+use Rattle.std.specs.Prelude.{ℕ, ◌+◌, ◌<◌, ◌≡◌, Bool, true, not, ◌&&◌, List, [], ◌∷◌, ◌++◌, eqb, if◌then◌else◌}
+use Rattle.laws.specs.Choice.{some_below}
 use Rattle.laws.specs.Cards.{suit_of}
 use Rattle.laws.specs.Law44.{tricks_complete, cards_in_trick, trick_under_way, suit_led, is_of, to_play, holds}
 

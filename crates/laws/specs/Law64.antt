@@ -1,8 +1,8 @@
 -- Law 64: the rectification of revokes, each taken as established, counted from the last trick back to the first.
 -- `ws` are the winners of the complete tricks in order; `claimed` gives the tricks that a side gets by the claim, 0 without one.
 -- Assumes nothing.
-use Rattle.std.specs.Prelude.{ℕ, ◌+◌, ◌-◌, min, Bool, ◌&&◌, ◌||◌, List, [], ◌∷◌, eqb, drop, get_or}
-use Rattle.laws.specs.Choice.{if◌then◌else◌, some}
+use Rattle.std.specs.Prelude.{ℕ, ◌+◌, ◌-◌, min, Bool, ◌&&◌, ◌||◌, List, [], ◌∷◌, eqb, drop, get_or, if◌then◌else◌}
+use Rattle.laws.specs.Choice.{some}
 use Rattle.laws.specs.Cards.{no_seat, partner_of, side_of, same_side}
 use Rattle.laws.specs.Law44.{tricks_won}
 use Rattle.laws.specs.LeadRevoke.{Counted}

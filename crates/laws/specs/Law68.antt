@@ -1,8 +1,7 @@
 -- Law 68: an agreed claim. It stands at any point of the play, in the middle of a trick too, and says how many of the tricks left go to declarer's side: those
 -- that are not complete.
 -- Assumes nothing.
-use Rattle.std.specs.Prelude.{ℕ, ◌-◌, Bool, ◌&&◌, List, leb}
-use Rattle.laws.specs.Choice.{if◌then◌else◌}
+use Rattle.std.specs.Prelude.{ℕ, ◌-◌, Bool, ◌&&◌, List, leb, if◌then◌else◌}
 use Rattle.laws.specs.Law44.{cards_played, tricks_left}
 
 -- the tricks that go to declarer's side by agreement, or no claim

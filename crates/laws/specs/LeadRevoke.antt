@@ -1,8 +1,8 @@
 -- Law 61 with lead choices: a revoke is a play that does not do what is asked, by a seat that could, just before (Laws 44C, 51B, 59 and 61A). What is
 -- asked is the suit led; of a lead, the suit required, or a suit that is not forbidden. On the events of the play, latest first.
 -- Assumes nothing.
-use Rattle.std.specs.Prelude.{ℕ, ◌+◌, ◌<◌, ◌≡◌, ◌⊎◌, Bool, true, false, not, ◌&&◌, ◌||◌, List, eqb}
-use Rattle.laws.specs.Choice.{if◌then◌else◌, some_below}
+use Rattle.std.specs.Prelude.{ℕ, ◌+◌, ◌<◌, ◌≡◌, ◌⊎◌, Bool, true, false, not, ◌&&◌, ◌||◌, List, eqb, if◌then◌else◌}
+use Rattle.laws.specs.Choice.{some_below}
 use Rattle.laws.specs.Cards.{suit_of}
 use Rattle.laws.specs.Law44.{tricks_complete, cards_in_trick, trick_under_way, suit_led, is_of, to_play, holds}
 use Rattle.laws.specs.Law61.{RevokedAt, Revoke}

@@ -2,8 +2,7 @@
 -- cards g; a line is the cards played after them, and like every history it has the latest card first.
 -- `trump` is the contract's strain, `opening` the seat that led first, `side` declarer's side.
 -- Assumes nothing.
-use Rattle.std.specs.Prelude.{ℕ, zero, suc, ◌-◌, ◌<◌, ◌≡◌, Bool, true, false, List, [], ◌∷◌, ◌++◌}
-use Rattle.laws.specs.Choice.{if◌then◌else◌}
+use Rattle.std.specs.Prelude.{ℕ, zero, suc, ◌-◌, ◌<◌, ◌≡◌, Bool, true, false, List, [], ◌∷◌, ◌++◌, if◌then◌else◌}
 use Rattle.laws.specs.Law44.{cards_played, winners, tricks_won}
 use Rattle.laws.specs.BestPlay.{may_play, our_turn}
 

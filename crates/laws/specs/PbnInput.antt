@@ -1,8 +1,7 @@
 -- The program that reads Portable Bridge Notation: what it prints of its input, which has the table's number on its first line and then a text. Bytes are ASCII
 -- codes.
 -- Assumes nothing.
-use Rattle.std.specs.Prelude.{ℕ, suc, Bool, not, ◌&&◌, List, [], ◌∷◌, ◌++◌, ltb, leb, eqb, length, drop}
-use Rattle.laws.specs.Choice.{if◌then◌else◌}
+use Rattle.std.specs.Prelude.{ℕ, suc, Bool, not, ◌&&◌, List, [], ◌∷◌, ◌++◌, ltb, leb, eqb, length, drop, if◌then◌else◌}
 use Rattle.laws.specs.Refusals.{outside_subset}
 use Rattle.laws.specs.Decimal.{zero_digit, starts_with, decimal, is_number, value}
 use Rattle.laws.specs.Record.{encode}

@@ -1,8 +1,7 @@
 -- Portable Bridge Notation, read: what stands in a text of the subset, or the line where no text of the subset goes on as the text does.
 -- The text is cut at its newlines. A line is read as the number whose word or line it is, so that reading is the inverse of printing.
 -- Assumes nothing.
-use Rattle.std.specs.Prelude.{ℕ, zero, suc, ◌+◌, ◌-◌, ◌*◌, ◌≤◌, ◌<◌, min, ◌≡◌, Bool, true, false, ◌&&◌, List, [], ◌∷◌, ◌++◌, eqb, ltb, leb, length, get_or, take, drop, replicate, set}
-use Rattle.laws.specs.Choice.{if◌then◌else◌}
+use Rattle.std.specs.Prelude.{ℕ, zero, suc, ◌+◌, ◌-◌, ◌*◌, ◌≤◌, ◌<◌, min, ◌≡◌, Bool, true, false, ◌&&◌, List, [], ◌∷◌, ◌++◌, eqb, ltb, leb, length, get_or, take, drop, replicate, set, if◌then◌else◌}
 use Rattle.laws.specs.Cards.{no_seat, clockwise, spades}
 use Rattle.laws.specs.Contents.{are_seats}
 use Rattle.laws.specs.Decimal.{starts_with}

@@ -1,10 +1,9 @@
 -- The cells of a page of results, with percentages as 64-bit floats: of a played result by Law 78A's matchpoints, of an awarded one by Law 12C2.
 -- Floats are IEEE 754's binary64. A cell is the page's term for what stands there for one result.
 -- Assumes nothing.
-use Rattle.std.specs.Prelude.{ℕ, ◌-◌, ◌*◌, Bool, not, ◌||◌, List, eqb, Float, ℤ, pos, length}
+use Rattle.std.specs.Prelude.{ℕ, ◌-◌, ◌*◌, Bool, not, ◌||◌, List, eqb, Float, ℤ, pos, length, if◌then◌else◌}
 use Rattle.std.specs.Float.{binary64}
 use Rattle.std.specs.Float.Ieee.{of_int, div}
-use Rattle.laws.specs.Choice.{if◌then◌else◌}
 use Rattle.laws.specs.Refusals.{Answer, refused, answered, invalid_score, score_not_in_tally}
 use Rattle.laws.specs.Law77.{valid_score}
 use Rattle.laws.specs.Law78.{occurrences, ns_matchpoints, ew_matchpoints}

@@ -1,8 +1,7 @@
 -- The table record: its parts, their layout as fields of so many bits, and the bytes that they make.
 -- Fields follow one another, the most significant bit first, with no gaps.
 -- Assumes nothing.
-use Rattle.std.specs.Prelude.{ℕ, zero, suc, ◌+◌, ◌-◌, ◌*◌, ◌/◌, ◌%◌, ◌^◌, List, [], ◌∷◌, ◌++◌, length}
-use Rattle.laws.specs.Choice.{if◌then◌else◌}
+use Rattle.std.specs.Prelude.{ℕ, zero, suc, ◌+◌, ◌-◌, ◌*◌, ◌/◌, ◌%◌, ◌^◌, List, [], ◌∷◌, ◌++◌, length, if◌then◌else◌}
 use Rattle.laws.specs.Events.{Event, played, exposed, choice, exposure_code, choice_code, cards_among}
 use Rattle.laws.specs.Law68.{Claim, none, agreed}
 

@@ -1,8 +1,7 @@
 -- The slip (docs/RULES.md, 14): the items of Law 77 that make a board's score, with their points from North-South, and the text that says them.
 -- Bytes are ASCII codes.
 -- Assumes nothing.
-use Rattle.std.specs.Prelude.{ℕ, Bool, List, [], ◌∷◌, ◌++◌, eqb, ℤ, pos, neg_ℤ, nat_abs, ◌+ℤ◌}
-use Rattle.laws.specs.Choice.{if◌then◌else◌}
+use Rattle.std.specs.Prelude.{ℕ, Bool, List, [], ◌∷◌, ◌++◌, eqb, ℤ, pos, neg_ℤ, nat_abs, ◌+ℤ◌, if◌then◌else◌}
 use Rattle.laws.specs.Auction.{passed_out}
 use Rattle.laws.specs.Law77.{Items, items, ns_score}
 use Rattle.laws.specs.Record.{Parts}

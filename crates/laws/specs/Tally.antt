@@ -2,8 +2,8 @@
 -- A tree is a fresh tally of a board from 1 to 127, a tree with one result added, valid or not, or two trees merged. (The project's own term.)
 -- A result is a score with the deal that it was played on.
 -- Assumes nothing.
-use Rattle.std.specs.Prelude.{ℕ, zero, suc, ◌+◌, ◌≤◌, ◌<◌, ◌≡◌, Bool, true, false, not, ◌&&◌, List, [], ◌∷◌, ◌++◌, map, ltb, eqb, ℤ, length, get_or, replicate}
-use Rattle.laws.specs.Choice.{if◌then◌else◌, some}
+use Rattle.std.specs.Prelude.{ℕ, zero, suc, ◌+◌, ◌≤◌, ◌<◌, ◌≡◌, Bool, true, false, not, ◌&&◌, List, [], ◌∷◌, ◌++◌, map, ltb, eqb, ℤ, length, get_or, replicate, if◌then◌else◌}
+use Rattle.laws.specs.Choice.{some}
 use Rattle.laws.specs.Refusals.{Answer, Placed, refused_at, placed}
 use Rattle.laws.specs.Refusals.{accepted, no_board_or_table, two_boards, too_many_results, invalid_score, fouled_board}
 use Rattle.laws.specs.Cards.{cards_dealt}

@@ -2,8 +2,8 @@
 -- added to the first team's total; the other team's total is its negation. A run of calls is written latest first: in `c ∷ run`, c came after run.
 -- It knows no state of a match: what a call answers goes by the boards that were accepted before it.
 -- Assumes nothing.
-use Rattle.std.specs.Prelude.{ℕ, ◌≤◌, ◌≡◌, Bool, true, false, not, ◌&&◌, List, [], ◌∷◌, leb, eqb, ℤ, pos, neg_ℤ, ◌+ℤ◌, ◌-ℤ◌, length}
-use Rattle.laws.specs.Choice.{if◌then◌else◌, how_many, some}
+use Rattle.std.specs.Prelude.{ℕ, ◌≤◌, ◌≡◌, Bool, true, false, not, ◌&&◌, List, [], ◌∷◌, leb, eqb, ℤ, pos, neg_ℤ, ◌+ℤ◌, ◌-ℤ◌, length, if◌then◌else◌}
+use Rattle.laws.specs.Choice.{how_many, some}
 use Rattle.laws.specs.Refusals.{Answer, refused, answered, invalid_score, board_not_free, too_many_boards}
 use Rattle.laws.specs.Law77.{valid_score}
 use Rattle.laws.specs.Law78.{same_score, imps_of, imps}

@@ -1,7 +1,6 @@
 -- Writing a record from its contents into a lent buffer: what the writer says, the number that it returns, and what it leaves in the buffer.
 -- Assumes nothing.
-use Rattle.std.specs.Prelude.{ℕ, List, ltb, length}
-use Rattle.laws.specs.Choice.{if◌then◌else◌}
+use Rattle.std.specs.Prelude.{ℕ, List, ltb, length, if◌then◌else◌}
 use Rattle.laws.specs.Refusals.{refusal_number, short_record_buffer}
 use Rattle.laws.specs.Record.{encode}
 use Rattle.laws.specs.Judge.{Outcome, Outcome.refused as declined, Outcome.accepted}

@@ -1,8 +1,8 @@
 -- What the answer of matchpoints stands for, and how a tally's results stand to a score.
 -- Assumes nothing.
-use Rattle.std.specs.Prelude.{ℕ, ℤ, length}
+use Rattle.std.specs.Prelude.{ℕ, ℤ, length, if◌then◌else◌}
 use Rattle.std.specs.Int.Signed.{lt_z}
-use Rattle.laws.specs.Choice.{if◌then◌else◌, how_many}
+use Rattle.laws.specs.Choice.{how_many}
 use Rattle.laws.specs.Refusals.{Placed, refused_at, given}
 use Rattle.laws.specs.Law78.{same_score, occurrences, Points as BothSides}
 use Rattle.tally.specs.declared.Tally.{Tally}

@@ -1,4 +1,5 @@
 -- Two lists of ordered entries joined entry by entry, and the places written so far. Assumes nothing.
+use Rattle.std.specs.Prelude.{if◌then◌else◌}
 use Prim.Native.Nat.{ℕ, zero, suc, ◌≤◌, ◌<◌, ◌+◌}
 use native.Mathlib.Omega.{arith}
 use mathlib.Core.Path.{◌≡◌, refl, sym, ap, ◌∙◌}
@@ -10,7 +11,6 @@ use lib.IntN.{ℤ, pos}
 use lib.ListN.{length, get_or, take, drop, set}
 use lib.Seq.{drop-nil}
 use lib.Signed.{lt_z}
-use Rattle.laws.specs.Choice.{if◌then◌else◌}
 use Rattle.laws.specs.Law78.{same_score}
 use Rattle.laws.specs.Padded.{padded}
 use Rattle.laws.proofs.Tests.{by_test}

@@ -1,4 +1,5 @@
 -- The Deal line: it is read as the seat and the holders that it says, where it is their line. Assumes nothing.
+use Rattle.std.specs.Prelude.{if◌then◌else◌}
 use Prim.Native.Nat.{ℕ, zero, suc, ◌+◌, ◌-◌, ◌≤◌, ◌<◌}
 use native.Mathlib.Numerals.{add-one}
 use native.Mathlib.Omega.{arith}
@@ -9,7 +10,7 @@ use borrow.Author.Tests.{eq-eqb, lt-ltb, le-ltb}
 use lib.Dec.{eqb, ltb}
 use lib.ListN.{length, get_or, take, drop, replicate, drop_of_length-le, length-append}
 use lib.Seq.{drop-cons}
-use Rattle.laws.specs.Choice.{if◌then◌else◌, some}
+use Rattle.laws.specs.Choice.{some}
 use Rattle.laws.specs.Cards.{no_seat, clockwise, clubs, diamonds, hearts, spades}
 use Rattle.laws.specs.Contents.{are_seats}
 use Rattle.laws.specs.PbnText.{letter_of, seat_letters, space, dot, deal_tag, tag_end, ranks_held, hand_and, hands_and, deal_line}

@@ -1,6 +1,5 @@
 -- What the function that reads a Deal line answers. Assumes nothing.
-use Rattle.std.specs.Prelude.{ℕ, List, replicate}
-use Rattle.laws.specs.Choice.{if◌then◌else◌}
+use Rattle.std.specs.Prelude.{ℕ, List, replicate, if◌then◌else◌}
 use Rattle.laws.specs.Cards.{no_seat}
 use Rattle.laws.specs.PbnReading.{first_in, holders_in, is_deal_line}
 use Rattle.pbn_deal.specs.declared.deal_line.Deal.{Deal}

@@ -1,6 +1,5 @@
 -- The Deal line. Who holds each card, byte by byte; and a line followed from its front: whether it was the same so far, and up to where. Assumes nothing.
-use Rattle.std.specs.Prelude.{ℕ, ◌+◌, ◌-◌, ◌*◌, Bool, ◌&&◌, List, eqb, set, drop}
-use Rattle.laws.specs.Choice.{if◌then◌else◌}
+use Rattle.std.specs.Prelude.{ℕ, ◌+◌, ◌-◌, ◌*◌, Bool, ◌&&◌, List, eqb, set, drop, if◌then◌else◌}
 use Rattle.laws.specs.Cards.{clockwise, spades}
 use Rattle.laws.specs.PbnText.{rank_letters, space, dot}
 use Rattle.laws.specs.PbnReading.{same_bytes, place_among}

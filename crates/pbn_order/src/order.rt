@@ -1,6 +1,5 @@
 // The order of play of cards that are listed in columns: each trick's winner by Law 44 leads to the next.
-ghost use Rattle.std.specs.Prelude.{◌≡◌, [], ◌∷◌, ◌<◌, ◌/◌, ◌%◌, max, eqb};
-ghost use Rattle.laws.specs.Choice.{if◌then◌else◌};
+ghost use Rattle.std.specs.Prelude.{◌≡◌, [], ◌∷◌, ◌<◌, ◌/◌, ◌%◌, max, eqb, if◌then◌else◌};
 ghost use Rattle.laws.specs.Law44.{is_of, highest, winning_card, winner};
 ghost use Rattle.laws.specs.PbnOrder.{places_to, order_of_play};
 

@@ -1,7 +1,6 @@
 -- The checks of what stands in a text up to Play's tag, and what the code says of them.
 -- Assumes nothing.
-use Rattle.std.specs.Prelude.{ℕ, not, List, eqb}
-use Rattle.laws.specs.Choice.{if◌then◌else◌}
+use Rattle.std.specs.Prelude.{ℕ, not, List, eqb, if◌then◌else◌}
 use Rattle.laws.specs.Refusals.{refusal_number, outside_subset}
 use Rattle.laws.specs.Cards.{no_seat}
 use Rattle.laws.specs.Law2.{dealer}

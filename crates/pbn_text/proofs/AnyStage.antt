@@ -1,4 +1,5 @@
 -- A line at any stage: which of the lines of a text it is. Assumes nothing.
+use Rattle.std.specs.Prelude.{if◌then◌else◌}
 use Prim.Native.Nat.{ℕ, zero, suc, ◌≤◌}
 use native.Mathlib.Omega.{arith}
 use mathlib.Core.Path.{◌≡◌, refl, sym, ap, ◌∙◌}
@@ -6,7 +7,6 @@ use mathlib.Core.Bool.{Bool, true, false}
 use mathlib.Core.List.{List, [], ◌∷◌}
 use lib.Dec.{eqb}
 use lib.ListN.{length, get_or}
-use Rattle.laws.specs.Choice.{if◌then◌else◌}
 use Rattle.laws.specs.Decimal.{starts_with}
 use Rattle.laws.specs.PbnText.{columns, Game}
 use Rattle.laws.specs.PbnReading.{Read, Stage, board, deal, auction, first_calls, calls, calls_over, cards, State, calls_in, play_in, line_in}

@@ -1,4 +1,5 @@
 -- A line of calls or of cards taken into what was read. Assumes nothing.
+use Rattle.std.specs.Prelude.{if◌then◌else◌}
 use Prim.Native.Nat.{ℕ, zero, suc, ◌+◌, ◌-◌, ◌≤◌, ◌<◌}
 use native.Mathlib.Omega.{arith}
 use mathlib.Core.Path.{◌≡◌, refl, sym, ap, ap₂, ◌∙◌}
@@ -8,7 +9,6 @@ use borrow.Author.Tests.{eq-eqb, ne_eqb, lt-ltb, le-ltb, ltb-true, ltb-false}
 use lib.Dec.{ltb, eqb}
 use lib.ListN.{length, take, replicate}
 use lib.Seq.{take_at}
-use Rattle.laws.specs.Choice.{if◌then◌else◌}
 use Rattle.laws.specs.PbnText.{Listed, absent, columns, Game, call_word, card_word}
 use Rattle.laws.specs.PbnReading.{Read, misses, reads, on_read, row_in, Stage, calls, calls_over, cards, State}
 use Rattle.laws.specs.PbnReading.{with_calls, with_play, with_row, goes, calls_in, cards_in, line_in}

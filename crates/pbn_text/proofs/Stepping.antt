@@ -1,11 +1,11 @@
 -- One line more of a text: what the code keeps is what was read. Assumes nothing.
+use Rattle.std.specs.Prelude.{if◌then◌else◌}
 use Prim.Native.Nat.{ℕ, zero, suc, ◌≤◌, ◌<◌}
 use native.Mathlib.Omega.{arith}
 use mathlib.Core.Path.{◌≡◌, refl, sym, ap, ◌∙◌}
 use mathlib.Core.Bool.{Bool, true, false}
 use mathlib.Core.List.{List, []}
 use lib.Dec.{lit<}
-use Rattle.laws.specs.Choice.{if◌then◌else◌}
 use Rattle.laws.specs.Cards.{no_seat}
 use Rattle.laws.specs.PbnText.{absent, columns, Game, auction_tag, play_tag, seat_line}
 use Rattle.laws.specs.PbnReading.{Read, misses, reads, on_read, number_of, first_in, holders_in, is_deal_line}

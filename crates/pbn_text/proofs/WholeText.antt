@@ -1,4 +1,5 @@
 -- A whole text read line by line: what the rest of it gives from here on is what the whole gives. Assumes nothing.
+use Rattle.std.specs.Prelude.{if◌then◌else◌}
 use Prim.Native.Nat.{ℕ, zero, suc, ◌+◌, ◌-◌, ◌≤◌, ◌<◌, min}
 use native.Mathlib.Omega.{arith}
 use mathlib.Core.Path.{◌≡◌, refl, sym, ap, ◌∙◌}
@@ -8,7 +9,6 @@ use borrow.Author.Tests.{eq-eqb, ne_eqb}
 use lib.Dec.{eqb, lit≤}
 use lib.ListN.{length, take, drop, replicate, length-drop}
 use lib.Seq.{drop-drop, take_all}
-use Rattle.laws.specs.Choice.{if◌then◌else◌}
 use Rattle.laws.specs.Sheet.{newline}
 use Rattle.laws.specs.PbnText.{columns, Game}
 use Rattle.laws.specs.PbnReading.{Read, misses, reads, parted_by, Stage, board, deal, auction, first_calls, calls, calls_over, cards, may_end, State, start}

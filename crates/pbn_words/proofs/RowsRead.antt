@@ -1,4 +1,5 @@
 -- A line of words read word by word: what was read so far with what the rest of the line gives is what the whole line gives. Assumes nothing.
+use Rattle.std.specs.Prelude.{if◌then◌else◌}
 use Prim.Native.Nat.{ℕ, zero, suc, ◌+◌, ◌-◌, ◌≤◌, ◌<◌}
 use native.Mathlib.Omega.{arith}
 use mathlib.Core.Path.{◌≡◌, refl, sym, ap, ap₂, ◌∙◌}
@@ -8,7 +9,6 @@ use borrow.Author.Tests.{le-ltb, lt-ltb, eqb-true, eqb-false}
 use lib.Dec.{ltb, eqb, lit<}
 use lib.ListN.{length, take, drop, set, replicate, length-append, length-drop}
 use lib.Seq.{set_at, drop-drop, take_all}
-use Rattle.laws.specs.Choice.{if◌then◌else◌}
 use Rattle.laws.specs.PbnText.{space}
 use Rattle.laws.specs.PbnReading.{Read, misses, reads, on_read, number_of, numbers_of, parted_by}
 use Rattle.laws.proofs.Tests.{by_test}

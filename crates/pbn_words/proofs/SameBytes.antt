@@ -1,4 +1,5 @@
 -- The same bytes, read from the front; a word of two or three bytes; and a number looked for from above. Assumes nothing.
+use Rattle.std.specs.Prelude.{if◌then◌else◌}
 use Prim.Native.Nat.{ℕ, zero, suc, ◌+◌, ◌-◌, ◌≤◌, ◌<◌}
 use native.Mathlib.Numerals.{add-one}
 use native.Mathlib.Omega.{arith}
@@ -9,7 +10,6 @@ use borrow.Author.Tests.{eqb-true, eq-eqb, ne_eqb}
 use lib.Dec.{eqb}
 use lib.ListN.{length, get_or, drop, drop_of_length-le}
 use lib.Seq.{drop-cons}
-use Rattle.laws.specs.Choice.{if◌then◌else◌}
 use Rattle.laws.specs.PbnReading.{Read, misses, reads, same_bytes, number_of}
 use Rattle.laws.proofs.Tests.{by_test, not_both, same_test}
 use Rattle.laws.proofs.PbnWords.{same_true}

@@ -1,6 +1,5 @@
 -- What the function that reads a line of words answers. Assumes nothing.
-use Rattle.std.specs.Prelude.{ℕ, ◌-◌, Bool, List, ◌++◌, ltb, length, replicate}
-use Rattle.laws.specs.Choice.{if◌then◌else◌}
+use Rattle.std.specs.Prelude.{ℕ, ◌-◌, Bool, List, ◌++◌, ltb, length, replicate, if◌then◌else◌}
 use Rattle.laws.specs.PbnReading.{Read, misses, reads, row_in}
 use Rattle.pbn_words.specs.WordNumbers.{word_of, words}
 use Rattle.pbn_words.specs.declared.rows.Row.{Row}

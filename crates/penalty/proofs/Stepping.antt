@@ -1,5 +1,6 @@
 -- A step keeps the penalty cards as the Laws have them: after a card, with a card exposed, with a choice made; and whether a code is refused.
 -- Assumes nothing.
+use Rattle.std.specs.Prelude.{if◌then◌else◌}
 use Prim.Native.Nat.{ℕ, ◌<◌, ◌*◌, ◌%◌}
 use mathlib.Core.Path.{◌≡◌, refl, sym, ap, ◌∙◌}
 use mathlib.Core.Bool.{Bool, true, false, not, ◌&&◌, ◌||◌}
@@ -9,7 +10,7 @@ use borrow.Author.Tests.{eqb-true, eqb-false, eq-eqb, ne_eqb, lt-ltb, ltb-true, 
 use lib.Bits.{bit_and, bit_or}
 use lib.Dec.{eqb, leb, ltb}
 use lib.ListN.{length}
-use Rattle.laws.specs.Choice.{if◌then◌else◌, some_below}
+use Rattle.laws.specs.Choice.{some_below}
 use Rattle.laws.specs.Cards.{suit_of, partner_of, same_side, dealt_to}
 use Rattle.laws.specs.Law44.{is_of, leader, is_played, holds}
 use Rattle.laws.specs.Events.{Event, played, exposed, choice, require, forbid, cards_of, codes_of}

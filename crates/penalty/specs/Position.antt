@@ -1,8 +1,7 @@
 -- The penalty cards and what binds the next lead, on the structs that the code keeps, and one step of each kind.
 -- Assumes nothing.
-use Rattle.std.specs.Prelude.{ℕ, ◌+◌, ◌-◌, ◌%◌, ◌^◌, Bool, not, ◌&&◌, ◌||◌, eqb, leb}
+use Rattle.std.specs.Prelude.{ℕ, ◌+◌, ◌-◌, ◌%◌, ◌^◌, Bool, not, ◌&&◌, ◌||◌, eqb, leb, if◌then◌else◌}
 use Rattle.std.specs.Int.Bits.{bit_and, bit_or}
-use Rattle.laws.specs.Choice.{if◌then◌else◌}
 use Rattle.laws.specs.Cards.{suit_of}
 use Rattle.laws.specs.Law50.{is_honour}
 use Rattle.laws.specs.Law51.{no_suit}

@@ -1,9 +1,8 @@
 -- Sets of cards as words, a bit for each of the 52 cards.
 -- Assumes nothing.
-use Rattle.std.specs.Prelude.{ℕ, ◌-◌, ◌*◌, ◌^◌, Bool, not, eqb, leb}
+use Rattle.std.specs.Prelude.{ℕ, ◌-◌, ◌*◌, ◌^◌, Bool, not, eqb, leb, if◌then◌else◌}
 use Rattle.std.specs.Int.Bits.{bit_and, bit_xor}
 use Rattle.std.specs.Int.Count.{ones}
-use Rattle.laws.specs.Choice.{if◌then◌else◌}
 
 -- the set of one card; none for a number from 52 on
 unfoldable pub card_word : ℕ → ℕ

@@ -1,7 +1,6 @@
 -- The cell that a tally gives for a result, and what an answer stands for. Assumes nothing.
-use Rattle.std.specs.Prelude.{ℕ, ◌-◌, ◌*◌, not, T, eqb}
+use Rattle.std.specs.Prelude.{ℕ, ◌-◌, ◌*◌, not, T, eqb, if◌then◌else◌}
 use Rattle.std.specs.Float.Ieee.{is_nan}
-use Rattle.laws.specs.Choice.{if◌then◌else◌}
 use Rattle.laws.specs.Refusals.{Placed, refused_at, given, malformed_tally}
 use Rattle.laws.specs.Tally.{Result, asked}
 use Rattle.laws.specs.Percentages.{percentage, played, awarded, alone, cell_asked, Cell as Entered}

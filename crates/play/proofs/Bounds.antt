@@ -1,4 +1,5 @@
 -- Words that grow by four bits with each complete trick do not run over. Assumes nothing.
+use Rattle.std.specs.Prelude.{if◌then◌else◌}
 use Prim.Native.Nat.{ℕ, suc, ◌<◌, ◌+◌, ◌*◌, ◌%◌, ◌^◌}
 use mathlib.Core.Path.{◌≡◌, refl}
 use mathlib.Core.Bool.{true, false}
@@ -7,7 +8,6 @@ use native.Mathlib.Nat.{pow-suc}
 use native.Mathlib.Omega.{arith}
 use borrow.Author.Tests.{ne_eqb, leb-true, leb-false}
 use lib.Dec.{eqb, leb}
-use Rattle.laws.specs.Choice.{if◌then◌else◌}
 use Rattle.laws.specs.Law44.{cards_played, tricks_complete, cards_in_trick, trick_under_way, suit_led, leader}
 use Rattle.laws.proofs.Tests.{by_test}
 use Rattle.play.specs.History.{entries_of, fours_of}

@@ -1,5 +1,6 @@
 -- The loops that read a position's words from the lowest entry on: the tricks' answers filled in from the last trick, the revokes from the last card.
 -- What is still to be filled in, and what is filled in, are together the whole. Assumes nothing.
+use Rattle.std.specs.Prelude.{if◌then◌else◌}
 use Prim.Native.Nat.{ℕ, zero, suc, ◌≤◌, ◌<◌, ◌+◌, ◌-◌, ◌*◌, ◌/◌, ◌%◌, ◌^◌}
 use mathlib.Core.Path.{◌≡◌, refl, sym, ap, ◌∙◌}
 use mathlib.Core.Bool.{true, false}
@@ -12,7 +13,7 @@ use lib.Dec.{eqb}
 use lib.ListN.{length, set, drop, replicate, length-append, length-map, length-replicate, length-set}
 use lib.Pow.{shr-shr}
 use lib.Seq.{get_or-set_same, drop-set-lt, drop-cons}
-use Rattle.laws.specs.Choice.{if◌then◌else◌, how_many}
+use Rattle.laws.specs.Choice.{how_many}
 use Rattle.laws.specs.Padded.{padded}
 use Rattle.laws.specs.Cards.{side_of}
 use Rattle.laws.specs.Law44.{tricks_won}

@@ -1,5 +1,6 @@
 -- Each seat holds what it was dealt less the cards it has played, so no more than 52 cards are played, and a seat that has played to twelve tricks
 -- does not hold two. Assumes nothing.
+use Rattle.std.specs.Prelude.{if◌then◌else◌}
 use Prim.Native.Nat.{ℕ, suc, ◌≤◌, ◌<◌, ◌+◌, ◌-◌, ◌%◌}
 use mathlib.Core.Path.{◌≡◌, ◌∙◌}
 use mathlib.Core.Bool.{Bool, true, false}
@@ -8,7 +9,7 @@ use native.Mathlib.Omega.{arith}
 use borrow.Author.Tests.{eqb-true, eqb-false, ne_eqb, ltb-true, ltb-false, lt-ltb, le-ltb}
 use lib.Dec.{eqb, ltb}
 use lib.ListN.{length}
-use Rattle.laws.specs.Choice.{if◌then◌else◌, how_many}
+use Rattle.laws.specs.Choice.{how_many}
 use Rattle.laws.specs.Cards.{no_seat, clockwise, cards_dealt}
 use Rattle.laws.specs.Law44.{cards_played, tricks_complete, cards_in_trick, leader, to_play, holds}
 use Rattle.laws.proofs.Tests.{by_test}

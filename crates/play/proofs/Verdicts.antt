@@ -1,4 +1,5 @@
 -- The verdict on a card, after every history that the verdicts allow, is the Law's. Assumes nothing.
+use Rattle.std.specs.Prelude.{if◌then◌else◌}
 use Prim.Native.Nat.{ℕ, ◌<◌}
 use mathlib.Core.Path.{◌≡◌, refl}
 use mathlib.Core.Bool.{Bool, true, false, not, ◌&&◌}
@@ -7,7 +8,6 @@ use native.Mathlib.Omega.{arith}
 use borrow.Author.Tests.{leb-false}
 use lib.Dec.{eqb, leb}
 use lib.ListN.{length}
-use Rattle.laws.specs.Choice.{if◌then◌else◌}
 use Rattle.laws.specs.Refusals.{accepted, card_not_held, card_already_played}
 use Rattle.laws.specs.Cards.{no_seat, dealt_to}
 use Rattle.laws.specs.Law44.{to_play, is_played, holds, has_played, playable}

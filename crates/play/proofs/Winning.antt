@@ -1,5 +1,6 @@
 -- Law 44's winning card and winner of a trick, one card at a time: the card that wins so far, and one more card.
 -- A trick is written latest card first. Assumes nothing.
+use Rattle.std.specs.Prelude.{if◌then◌else◌}
 use Prim.Native.Nat.{ℕ, max}
 use mathlib.Core.Path.{◌≡◌, refl, sym, ap, ◌∙◌, subst}
 use mathlib.Core.Bool.{Bool, true, false}
@@ -8,7 +9,7 @@ use mathlib.Core.List.{List, [], ◌∷◌}
 use native.Mathlib.Nat.{max-eq_left, max-eq_right, max-zero, le_of_lt}
 use borrow.Author.Tests.{leb-true, leb-false, eqb-true, eqb-false, eq-eqb, ne_eqb, ltb-true, ltb-false}
 use lib.Dec.{eqb, ltb, leb}
-use Rattle.laws.specs.Choice.{if◌then◌else◌, some}
+use Rattle.laws.specs.Choice.{some}
 use Rattle.laws.specs.Cards.{suit_of, clockwise}
 use Rattle.laws.specs.Law44.{cards_played, suit_led, is_of, highest, winning_card, player_of, winner, is_played}
 use Rattle.laws.proofs.Tests.{by_test, not_both, or_left, or_right}

@@ -1,4 +1,5 @@
 -- The greatest worth of a trick's cards is that of Law 44's winning card and its player. A trick is written latest card first. Assumes nothing.
+use Rattle.std.specs.Prelude.{if◌then◌else◌}
 use Prim.Native.Nat.{ℕ, ◌≤◌, ◌<◌, max}
 use mathlib.Core.Path.{◌≡◌, refl, sym, ◌∙◌}
 use mathlib.Core.Logic.{◌⊎◌, ⊎_elim}
@@ -8,7 +9,7 @@ use native.Mathlib.Nat.{max-eq_left, max-eq_right, le_of_lt, zero-max}
 use native.Mathlib.Omega.{arith}
 use borrow.Author.Tests.{eqb-true, eqb-false, eq-eqb, ne_eqb, ltb-true, ltb-false}
 use lib.Dec.{eqb}
-use Rattle.laws.specs.Choice.{if◌then◌else◌, some}
+use Rattle.laws.specs.Choice.{some}
 use Rattle.laws.specs.Cards.{suit_of, clockwise}
 use Rattle.laws.specs.Law44.{cards_played, suit_led, winning_card, player_of, winner, is_played}
 use Rattle.laws.proofs.Tests.{by_test, not_both}

@@ -1,8 +1,7 @@
 -- The position after a history of cards, latest first, and which histories the verdicts allow.
 -- `deal` has the holder of each card, `trump` is the contract's strain, `opening` leads to the first trick.
 -- Assumes nothing.
-use Rattle.std.specs.Prelude.{ℕ, ◌+◌, ◌*◌, ◌/◌, ◌%◌, ◌≡◌, List, [], ◌∷◌, map, eqb, set}
-use Rattle.laws.specs.Choice.{if◌then◌else◌}
+use Rattle.std.specs.Prelude.{ℕ, ◌+◌, ◌*◌, ◌/◌, ◌%◌, ◌≡◌, List, [], ◌∷◌, map, eqb, set, if◌then◌else◌}
 use Rattle.laws.specs.Refusals.{accepted}
 use Rattle.laws.specs.Law44 as Law
 use Rattle.laws.specs.Law44.{cards_in_trick, trick_under_way, suit_led, winning_card, leader, winner, to_play}

@@ -1,8 +1,7 @@
 -- The position of the play, on the struct that the code keeps, and one step: the lead, the card on the table, the trick's end.
 -- Assumes nothing.
-use Rattle.std.specs.Prelude.{ℕ, ◌+◌, ◌-◌, ◌*◌, ◌/◌, ◌%◌, ◌^◌, max, Bool, not, ◌&&◌, List, eqb, leb, get_or, set}
+use Rattle.std.specs.Prelude.{ℕ, ◌+◌, ◌-◌, ◌*◌, ◌/◌, ◌%◌, ◌^◌, max, Bool, not, ◌&&◌, List, eqb, leb, get_or, set, if◌then◌else◌}
 use Rattle.std.specs.Int.Bits.{bit_and, bit_or, bit_xor}
-use Rattle.laws.specs.Choice.{if◌then◌else◌}
 use Rattle.laws.specs.Cards.{suit_of, clockwise, dealt_to}
 use Rattle.laws.specs.Refusals.{accepted, no_card, card_not_held, card_already_played}
 use Rattle.deal.specs.Hands.{has_suit}

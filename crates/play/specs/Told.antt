@@ -1,7 +1,6 @@
 -- What a position tells at the end: the complete tricks, and the bytes of cards whose bit is set.
 -- Assumes nothing.
-use Rattle.std.specs.Prelude.{ℕ, zero, suc, ◌+◌, ◌-◌, ◌*◌, ◌/◌, ◌%◌, ◌^◌, List, [], ◌∷◌, ◌++◌, map, eqb, ltb, length}
-use Rattle.laws.specs.Choice.{if◌then◌else◌}
+use Rattle.std.specs.Prelude.{ℕ, zero, suc, ◌+◌, ◌-◌, ◌*◌, ◌/◌, ◌%◌, ◌^◌, List, [], ◌∷◌, ◌++◌, map, eqb, ltb, length, if◌then◌else◌}
 use Rattle.laws.specs.Padded.{padded}
 use Rattle.laws.specs.Law44.{tricks_won}
 use Rattle.play.specs.declared.Play.{Play}

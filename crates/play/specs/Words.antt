@@ -1,7 +1,6 @@
 -- Words that grow at the low end: a bit more, or four.
 -- Assumes nothing.
-use Rattle.std.specs.Prelude.{ℕ, ◌+◌, ◌*◌, ◌%◌, ◌^◌, Bool, eqb}
-use Rattle.laws.specs.Choice.{if◌then◌else◌}
+use Rattle.std.specs.Prelude.{ℕ, ◌+◌, ◌*◌, ◌%◌, ◌^◌, Bool, eqb, if◌then◌else◌}
 use Rattle.laws.specs.Cards.{suit_of}
 
 -- a test as a bit

@@ -1,6 +1,5 @@
 // Words of the play: bits, entries of a few bits each with the last one lowest, and the card of each place.
-ghost use Rattle.std.specs.Prelude.{◌≡◌, ◌+◌, ◌*◌, ◌%◌, ◌^◌, ◌<◌, max};
-ghost use Rattle.laws.specs.Choice.{if◌then◌else◌};
+ghost use Rattle.std.specs.Prelude.{◌≡◌, ◌+◌, ◌*◌, ◌%◌, ◌^◌, ◌<◌, max, if◌then◌else◌};
 ghost use Rattle.play.specs.Words.{bit_of, with_bit, with_four, with_entry};
 
 // The card of each place.

@@ -1,4 +1,5 @@
 -- At most 48 revokes are listed and at most 24 plays against Law 50: on the thirteenth trick a seat has one card. Assumes nothing.
+use Rattle.std.specs.Prelude.{if◌then◌else◌}
 use Prim.Native.Nat.{ℕ, ◌≤◌, ◌<◌, ◌+◌, ◌-◌, ◌%◌}
 use mathlib.Core.Path.{◌≡◌, ◌∙◌}
 use mathlib.Core.Logic.{◌⊎◌, inl, inr, ⊎_elim}
@@ -8,7 +9,6 @@ use native.Mathlib.Omega.{arith}
 use borrow.Author.Tests.{eqb-true, eqb-false, eq-eqb, ltb-true, ltb-false}
 use lib.Dec.{eqb, ltb}
 use lib.ListN.{length, length-append}
-use Rattle.laws.specs.Choice.{if◌then◌else◌}
 use Rattle.laws.specs.Cards.{same_side, dealt_to, cards_dealt}
 use Rattle.laws.specs.Law44.{cards_played, tricks_complete, cards_in_trick, leader, holds}
 use Rattle.laws.specs.Law61.{Revoke}

@@ -1,5 +1,6 @@
 -- What the code finds of the cards is what the Laws say of them after every history of which no event is refused: each word, a card at a time.
 -- Assumes nothing.
+use Rattle.std.specs.Prelude.{if◌then◌else◌}
 use Prim.Native.Nat.{ℕ, suc, ◌≤◌, ◌<◌, ◌+◌, ◌*◌, ◌/◌, ◌%◌, ◌^◌}
 use mathlib.Core.Path.{◌≡◌, refl, sym, ◌∙◌}
 use mathlib.Core.Bool.{Bool, true, false, ◌&&◌}
@@ -10,7 +11,6 @@ use borrow.Author.Tests.{eqb-true, eqb-false, ltb-true}
 use lib.Dec.{eqb, ltb}
 use lib.ListN.{length}
 use lib.Pow.{pow_mono}
-use Rattle.laws.specs.Choice.{if◌then◌else◌}
 use Rattle.laws.specs.Law44.{cards_played, cards_in_trick}
 use Rattle.laws.specs.Law61.{is_revoke}
 use Rattle.laws.specs.Events.{Event, played, exposed, choice, cards_of, list_plays, as_events}

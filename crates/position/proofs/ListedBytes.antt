@@ -1,4 +1,5 @@
 -- The revokes that a position lists are the Laws', in order of play, each with whether it is excused. Assumes nothing.
+use Rattle.std.specs.Prelude.{if◌then◌else◌}
 use Prim.Native.Nat.{ℕ, zero, suc, ◌≤◌, ◌<◌, ◌+◌, ◌-◌, ◌*◌, ◌/◌, ◌%◌, ◌^◌}
 use mathlib.Core.Path.{◌≡◌, refl, sym, ◌∙◌}
 use mathlib.Core.Bool.{Bool, true, false, ◌&&◌, ◌||◌}
@@ -10,7 +11,6 @@ use lib.Bits.{bit_or, or_step}
 use lib.Dec.{eqb, leb}
 use lib.ListN.{length, drop, length-map}
 use lib.Pow.{pow-add}
-use Rattle.laws.specs.Choice.{if◌then◌else◌}
 use Rattle.laws.specs.Cards.{suit_of, cards_dealt}
 use Rattle.laws.specs.Law44.{cards_played, tricks_complete, cards_in_trick, to_play}
 use Rattle.laws.specs.Law61.{is_revoke, revoke_at}

@@ -1,8 +1,7 @@
 -- The position after a history of events, latest first, and what its words of entries are by the Laws.
 -- `deal` has the holder of each card, `trump` is the contract's strain, `opening` leads to the first trick.
 -- Assumes nothing.
-use Rattle.std.specs.Prelude.{ℕ, zero, suc, ◌+◌, ◌*◌, ◌/◌, ◌%◌, ◌^◌, ◌<◌, ◌≡◌, ◌&&◌, List, [], ◌∷◌, length}
-use Rattle.laws.specs.Choice.{if◌then◌else◌}
+use Rattle.std.specs.Prelude.{ℕ, zero, suc, ◌+◌, ◌*◌, ◌/◌, ◌%◌, ◌^◌, ◌<◌, ◌≡◌, ◌&&◌, List, [], ◌∷◌, length, if◌then◌else◌}
 use Rattle.laws.specs.Cards.{cards_dealt}
 use Rattle.laws.specs.Events.{Event, played, exposed, choice}
 use Rattle.laws.specs.Law51.{required}

@@ -1,8 +1,7 @@
 -- The revokes that a position lists, and which of them are excused.
 -- Assumes nothing.
-use Rattle.std.specs.Prelude.{ℕ, ◌+◌, ◌-◌, ◌*◌, ◌/◌, ◌%◌, ◌^◌, ◌&&◌, List, [], eqb, leb, ltb, length}
+use Rattle.std.specs.Prelude.{ℕ, ◌+◌, ◌-◌, ◌*◌, ◌/◌, ◌%◌, ◌^◌, ◌&&◌, List, [], eqb, leb, ltb, length, if◌then◌else◌}
 use Rattle.std.specs.Int.Bits.{bit_or}
-use Rattle.laws.specs.Choice.{if◌then◌else◌}
 use Rattle.laws.specs.Padded.{padded}
 use Rattle.play.specs.Told.{card_before, entries_in, byte_after, bytes_in}
 use Rattle.position.specs.declared.table.Table.{Table}

@@ -1,7 +1,6 @@
 -- The position of the play with its penalty cards, on the structs that the code keeps, and one step of each kind.
 -- Assumes nothing.
-use Rattle.std.specs.Prelude.{ℕ, ◌+◌, ◌*◌, ◌/◌, ◌%◌, Bool, not, ◌&&◌, List, eqb, leb, get_or}
-use Rattle.laws.specs.Choice.{if◌then◌else◌}
+use Rattle.std.specs.Prelude.{ℕ, ◌+◌, ◌*◌, ◌/◌, ◌%◌, Bool, not, ◌&&◌, List, eqb, leb, get_or, if◌then◌else◌}
 use Rattle.laws.specs.Cards.{partner_of}
 use Rattle.laws.specs.Refusals.{accepted, not_exposable, choice_not_open}
 use Rattle.laws.specs.CodeRefusal.{most_codes}

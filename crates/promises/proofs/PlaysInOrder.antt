@@ -1,5 +1,6 @@
 -- The plays that pass a test, listed in order of play, by their places among all plays, codes counted too: the places rise, and entries that tell the trick
 -- and the seat stand once. Assumes nothing.
+use Rattle.std.specs.Prelude.{if◌then◌else◌}
 use Prim.Native.Nat.{ℕ, zero, suc, ◌+◌, ◌-◌, ◌/◌, ◌%◌, ◌≤◌, ◌<◌}
 use native.Mathlib.Omega.{arith}
 use mathlib.Core.Path.{◌≡◌, refl, sym, ap, subst, ◌∙◌}
@@ -11,7 +12,6 @@ use lib.Dec.{eqb}
 use borrow.Author.Tests.{eqb-true, eqb-false, ne_eqb}
 use lib.ListN.{length, get_or, take, drop, length-append}
 use lib.Seq.{take-length}
-use Rattle.laws.specs.Choice.{if◌then◌else◌}
 use Rattle.laws.specs.Cards.{clockwise}
 use Rattle.laws.specs.Law44.{cards_played, tricks_complete, cards_in_trick, leader, to_play}
 use Rattle.laws.specs.Events.{Event, played, exposed, choice, cards_of, list_plays}

@@ -1,4 +1,5 @@
 -- A revoke in the trick that a claim leaves unfinished, proved. Assumes nothing.
+use Rattle.std.specs.Prelude.{if◌then◌else◌}
 use Prim.Native.Nat.{ℕ, ◌+◌, ◌-◌, ◌≤◌, ◌<◌}
 use native.Mathlib.Omega.{arith}
 use mathlib.Core.Path.{◌≡◌, refl, ap, ◌∙◌}
@@ -6,7 +7,7 @@ use mathlib.Core.List.{List, [], ◌∷◌, ◌++◌}
 use borrow.Author.Tests.{ne_eqb}
 use lib.Dec.{eqb}
 use lib.ListN.{length, get_or, drop, length-append, drop_of_length-le, get_or-eq_default}
-use Rattle.laws.specs.Choice.{if◌then◌else◌, how_many}
+use Rattle.laws.specs.Choice.{how_many}
 use Rattle.laws.specs.Cards.{no_seat, side_of, partner_of}
 use Rattle.laws.specs.Law44.{cards_played, tricks_complete, tricks_won}
 use Rattle.laws.specs.Events.{Event, played, exposed, choice, cards_of}

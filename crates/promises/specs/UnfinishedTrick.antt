@@ -1,8 +1,7 @@
 -- A revoke in the trick that a claim leaves unfinished: it is listed under that trick, Law 64 entitles to one trick for it, or to none, and never to two, and
 -- of the tricks of its side the claimed ones count from it on.
 -- Assumes nothing.
-use Rattle.std.specs.Prelude.{ℕ, ◌+◌, ◌*◌, ◌≤◌, ◌≡◌, List, ◌∷◌, ◌++◌, length}
-use Rattle.laws.specs.Choice.{if◌then◌else◌}
+use Rattle.std.specs.Prelude.{ℕ, ◌+◌, ◌*◌, ◌≤◌, ◌≡◌, List, ◌∷◌, ◌++◌, length, if◌then◌else◌}
 use Rattle.laws.specs.Cards.{partner_of, side_of}
 use Rattle.laws.specs.Law44.{tricks_complete}
 use Rattle.laws.specs.Events.{Event, played, cards_of}

@@ -1,11 +1,11 @@
 -- What is promised of tallies, proved: which are well formed, and what a refusal gives. Assumes nothing.
+use Rattle.std.specs.Prelude.{if◌then◌else◌}
 use Prim.Native.Nat.{ℕ, zero, suc, ◌≤◌, ◌+◌}
 use native.Mathlib.Omega.{arith}
 use mathlib.Core.Path.{◌≡◌, refl, sym, ap, ◌∙◌}
 use mathlib.Core.Bool.{true, false, ◌&&◌}
 use mathlib.Core.List.{List, [], ◌∷◌, ◌++◌}
 use lib.ListN.{length}
-use Rattle.laws.specs.Choice.{if◌then◌else◌}
 use Rattle.laws.specs.Refusals.{refused_at}
 use Rattle.laws.specs.Tally.{Result, scores_of, deal_of, Thirteen, Refusal, refusal, leaves, OneDeal}
 use Rattle.laws.specs.Tally.{fresh_refusal, add_refusal, merge_refusal}

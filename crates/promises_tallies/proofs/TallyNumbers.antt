@@ -1,5 +1,6 @@
 -- What the calls on tallies in bytes say, whatever they are given: one of their refusals with a place of at most 4, or as many bytes as they write.
 -- Assumes nothing.
+use Rattle.std.specs.Prelude.{if◌then◌else◌}
 use Prim.Native.Nat.{ℕ, zero, suc, ◌+◌, ◌≤◌, ◌<◌}
 use native.Mathlib.Omega.{arith}
 use mathlib.Core.Path.{◌≡◌, refl, sym, ap, ap₂, ◌∙◌, subst}
@@ -11,7 +12,6 @@ use lib.Ieee.{binary64, to_bits}
 use lib.IntN.{ℤ}
 use lib.ListN.{length, get_or, replicate, length-append}
 use Rattle.laws.specs.Bytes.{Bytes}
-use Rattle.laws.specs.Choice.{if◌then◌else◌}
 use Rattle.laws.specs.Cards.{no_seat, first_without_thirteen, seat_without_thirteen, has_thirteen}
 use Rattle.laws.specs.Contents.{are_seats}
 use Rattle.laws.specs.Law77.{valid_score}

@@ -1,4 +1,5 @@
 -- Lists with the same boards and the same scores, in whatever order, have the same total and use the same boards. Assumes nothing.
+use Rattle.std.specs.Prelude.{if◌then◌else◌}
 use Prim.Native.Nat.{ℕ, ◌<◌, ◌+◌}
 use native.Mathlib.Omega.{arith}
 use mathlib.Core.Path.{◌≡◌, refl, sym, ap, ◌∙◌}
@@ -8,7 +9,7 @@ use borrow.Author.Tests.{eqb-true, eq-eqb}
 use lib.Dec.{eqb}
 use lib.IntN.{ℤ, ◌+ℤ◌, +ℤ_assoc, +ℤ_comm}
 use lib.Seq.{ext_get_or}
-use Rattle.laws.specs.Choice.{if◌then◌else◌, how_many, some}
+use Rattle.laws.specs.Choice.{how_many, some}
 use Rattle.laws.specs.Law78.{same_score}
 use Rattle.laws.specs.TeamMatch.{Call, is_used, boards_of, accepted_in, imps_on, total_of, same_call, SameBoards}
 use Rattle.laws.proofs.Tests.{by_test, and_left, and_right}

@@ -1,8 +1,7 @@
 -- Demand 3: what is promised of every tree of tally calls, by the rules for trees (docs/RULES.md, 11) and the definitions that the calls' contracts cite.
 -- First for every tree, whatever deals its results are of; then, where all results are of one deal with thirteen cards a seat, in the words of the demand.
 -- Assumes nothing.
-use Rattle.std.specs.Prelude.{ℕ, ◌≤◌, ◌<◌, ◌+◌, ◌≡◌, true, not, List, ltb, eqb, ℤ, length}
-use Rattle.laws.specs.Choice.{if◌then◌else◌}
+use Rattle.std.specs.Prelude.{ℕ, ◌≤◌, ◌<◌, ◌+◌, ◌≡◌, true, not, List, ltb, eqb, ℤ, length, if◌then◌else◌}
 use Rattle.laws.specs.Refusals.{placed, accepted, two_boards, too_many_results, invalid_score}
 use Rattle.laws.specs.Law77.{valid_score}
 use Rattle.laws.specs.Law78.{occurrences, matchpoints}

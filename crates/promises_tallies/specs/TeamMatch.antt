@@ -1,8 +1,7 @@
 -- A team match: what is promised of every run of calls, refused ones included (docs/RULES.md, 13), by the definitions that the calls' contracts cite.
 -- A run is written latest first: in `c ∷ run`, c came after run.
 -- Assumes nothing.
-use Rattle.std.specs.Prelude.{ℕ, ◌-◌, min, ◌≡◌, true, false, List, [], ◌∷◌, eqb, ℤ, pos, negsuc, neg_ℤ, nat_abs, length, get_or}
-use Rattle.laws.specs.Choice.{if◌then◌else◌}
+use Rattle.std.specs.Prelude.{ℕ, ◌-◌, min, ◌≡◌, true, false, List, [], ◌∷◌, eqb, ℤ, pos, negsuc, neg_ℤ, nat_abs, length, get_or, if◌then◌else◌}
 use Rattle.laws.specs.Refusals.{refused, answered}
 use Rattle.laws.specs.Law78.{lower_end}
 use Rattle.laws.specs.TeamMatch.{Call, is_used, answer_to, boards_of, accepted_in, total_of, totals_of, Boards, SameBoards, swapped}

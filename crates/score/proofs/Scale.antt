@@ -1,10 +1,11 @@
 -- The scale of Law 78B, counted from an entry on. Assumes nothing.
+use Rattle.std.specs.Prelude.{if◌then◌else◌}
 use Prim.Native.Nat.{ℕ, ◌<◌, ◌+◌}
 use mathlib.Core.Path.{◌≡◌, refl}
 use native.Mathlib.Numerals.{add-one}
 use lib.Dec.{leb}
 use lib.ListN.{get_or, drop}
-use Rattle.laws.specs.Choice.{if◌then◌else◌, how_many}
+use Rattle.laws.specs.Choice.{how_many}
 use Rattle.laws.specs.Law78.{lower_ends, imps_for_size}
 use Rattle.laws.proofs.Counts.{many-drop}
 

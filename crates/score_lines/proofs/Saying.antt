@@ -1,4 +1,5 @@
 -- What a line says, by the tests that the code makes. Assumes nothing.
+use Rattle.std.specs.Prelude.{if◌then◌else◌}
 use Prim.Native.Nat.{ℕ, zero, suc, ◌≤◌, ◌<◌}
 use native.Mathlib.Omega.{arith}
 use mathlib.Core.Path.{◌≡◌, refl, sym, ap, ◌∙◌}
@@ -11,7 +12,6 @@ use lib.ListN.{length, get_or, drop}
 use mir.Syntax.{w16}
 use mir.Val.{SFits, to_z, of_z}
 use mir.Facts.{to_z-of_z, to_z_pos}
-use Rattle.laws.specs.Choice.{if◌then◌else◌}
 use Rattle.laws.specs.Decimal.{starts_with, is_number, value, value_after}
 use Rattle.laws.specs.Law77.{valid_score}
 use Rattle.laws.specs.Sheet.{is_zero, is_size, score_of, is_score}

@@ -1,6 +1,5 @@
 -- What the functions that read a line answer. Assumes nothing.
-use Rattle.std.specs.Prelude.{ℕ, suc, List, [], ◌∷◌, eqb, ℤ, pos, neg_ℤ}
-use Rattle.laws.specs.Choice.{if◌then◌else◌}
+use Rattle.std.specs.Prelude.{ℕ, suc, List, [], ◌∷◌, eqb, ℤ, pos, neg_ℤ, if◌then◌else◌}
 use Rattle.laws.specs.Decimal.{value}
 use Rattle.laws.specs.Law77.{valid_score}
 use Rattle.laws.specs.Sheet.{newline, is_size, score_of, is_score}

@@ -1,6 +1,5 @@
 -- A script's line as its bytes come. Assumes nothing.
-use Rattle.std.specs.Prelude.{ℕ, ◌+◌, Bool, List, ltb, set, take, replicate}
-use Rattle.laws.specs.Choice.{if◌then◌else◌}
+use Rattle.std.specs.Prelude.{ℕ, ◌+◌, Bool, List, ltb, set, take, replicate, if◌then◌else◌}
 use Rattle.script_line.specs.declared.Line.{Line}
 
 -- before the first byte

@@ -1,7 +1,6 @@
 -- The two sheets that a text of scores gives, by what stands for each side: matchpoints or percentages. Assumes nothing.
-use Rattle.std.specs.Prelude.{ℕ, ◌+◌, List, eqb, ℤ}
+use Rattle.std.specs.Prelude.{ℕ, ◌+◌, List, eqb, ℤ, if◌then◌else◌}
 use Rattle.laws.specs.CellSheet.{hundredths, two_decimals, alone_word, cell_header, cell_row, cell_table, cell_sheet}
-use Rattle.laws.specs.Choice.{if◌then◌else◌}
 use Rattle.laws.specs.Decimal.{decimal, signed_decimal}
 use Rattle.laws.specs.Sheet.{fields, header, row, table, sheet}
 use Rattle.sheet_text.specs.declared.columns.Columns.{Columns}

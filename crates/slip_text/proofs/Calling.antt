@@ -1,4 +1,5 @@
 -- What C is answered, by what is explained of a record and by whether its slip fits. Assumes nothing.
+use Rattle.std.specs.Prelude.{if◌then◌else◌}
 use Prim.Native.Nat.{ℕ, ◌≤◌, ◌<◌}
 use native.Mathlib.Omega.{arith}
 use mathlib.Core.Path.{◌≡◌, refl, sym, ap, ◌∙◌}
@@ -6,7 +7,6 @@ use mathlib.Core.Bool.{Bool, true, false}
 use mathlib.Core.List.{List, ◌++◌}
 use lib.Dec.{leb}
 use lib.ListN.{length, drop}
-use Rattle.laws.specs.Choice.{if◌then◌else◌}
 use Rattle.laws.specs.Fitting.{Fitting, fits, does_not_fit}
 use Rattle.laws.specs.Judge.{Outcome, Outcome.refused as declined, Outcome.accepted, least_rooms, judge_of}
 use Rattle.laws.specs.Lent.{◌over◌}

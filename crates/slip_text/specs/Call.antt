@@ -1,6 +1,5 @@
 -- The slip of a record as C asks for it: a refusal with its number and place, or the bytes of the slip. Assumes nothing.
-use Rattle.std.specs.Prelude.{ℕ, List, leb, length}
-use Rattle.laws.specs.Choice.{if◌then◌else◌}
+use Rattle.std.specs.Prelude.{ℕ, List, leb, length, if◌then◌else◌}
 use Rattle.laws.specs.Judge.{Outcome, Outcome.refused as declined, Outcome.accepted, least_rooms, judge_of}
 use Rattle.laws.specs.Refusals.{short_record_buffer}
 use Rattle.laws.specs.Slip.{slip_of}

@@ -1,6 +1,5 @@
 -- The text of the judge's items. Assumes nothing.
-use Rattle.std.specs.Prelude.{ℕ, List, [], ◌++◌, ℤ}
-use Rattle.laws.specs.Choice.{if◌then◌else◌}
+use Rattle.std.specs.Prelude.{ℕ, List, [], ◌++◌, ℤ, if◌then◌else◌}
 use Rattle.laws.specs.Slip.{TRICKS, OVERTRICKS, UNDERTRICKS, PARTSCORE, GAME, SLAM, DOUBLING, is_nothing, word_of, sum_word, line}
 use Rattle.explanation.specs.declared.slip.Items.{Items}
 

@@ -1,8 +1,7 @@
 -- Entries: scores with their counts, highest first, as a tally's places and as a list of scores give them.
 -- Assumes nothing.
-use Rattle.std.specs.Prelude.{ℕ, ◌+◌, List, [], ◌∷◌, ◌++◌, eqb, ℤ, negsuc, replicate}
+use Rattle.std.specs.Prelude.{ℕ, ◌+◌, List, [], ◌∷◌, ◌++◌, eqb, ℤ, negsuc, replicate, if◌then◌else◌}
 use Rattle.std.specs.Int.Signed.{lt_z}
-use Rattle.laws.specs.Choice.{if◌then◌else◌}
 use Rattle.laws.specs.Law78.{same_score}
 use Rattle.tally.specs.declared.Entry.{Entry}
 

@@ -1,11 +1,10 @@
 -- A tally in bytes, 398 of them, always: board 1; the deal 13, two bits a card from card 0 on, the most significant first, as in a record; 128 scores, two
 -- bytes each, two's complement, the most significant first; 128 counts. Both directions.
 -- Assumes nothing.
-use Rattle.std.specs.Prelude.{ℕ, ◌<◌, ◌≤◌, ◌+◌, ◌-◌, ◌*◌, ◌/◌, ◌%◌, ◌≡◌, List, [], ◌∷◌, ◌++◌, ltb, eqb, ℤ, pos, negsuc, length, get_or, drop}
+use Rattle.std.specs.Prelude.{ℕ, ◌<◌, ◌≤◌, ◌+◌, ◌-◌, ◌*◌, ◌/◌, ◌%◌, ◌≡◌, List, [], ◌∷◌, ◌++◌, ltb, eqb, ℤ, pos, negsuc, length, get_or, drop, if◌then◌else◌}
 use Rattle.std.proofs.Math.Seq.{slice}
 use Rattle.std.specs.Int.Signed.{mag}
 use Rattle.laws.specs.Bytes.{Bytes}
-use Rattle.laws.specs.Choice.{if◌then◌else◌}
 use Rattle.laws.specs.Judgement.{twos_complement}
 use Rattle.laws.specs.Record.{bytes_of}
 use Rattle.tally.specs.declared.Tally.{Tally}

@@ -1,5 +1,5 @@
 -- The matchpoints that a tally gives for a result. Assumes nothing.
-use Rattle.laws.specs.Choice.{if◌then◌else◌}
+use Rattle.std.specs.Prelude.{if◌then◌else◌}
 use Rattle.laws.specs.Refusals.{Placed, refused_at, malformed_tally}
 use Rattle.laws.specs.Law78.{Points as BothSides, matchpoints}
 use Rattle.laws.specs.Tally.{Result, asked}

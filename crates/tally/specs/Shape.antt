@@ -1,8 +1,7 @@
 -- A tally by its places: how many results of a score stand in them, and their shape.
 -- Assumes nothing.
-use Rattle.std.specs.Prelude.{ℕ, ◌≤◌, ◌<◌, ◌+◌, ◌≡◌, true, List, [], ◌∷◌, ℤ, pos, length, get_or}
+use Rattle.std.specs.Prelude.{ℕ, ◌≤◌, ◌<◌, ◌+◌, ◌≡◌, true, List, [], ◌∷◌, ℤ, pos, length, get_or, if◌then◌else◌}
 use Rattle.std.specs.Int.Signed.{lt_z}
-use Rattle.laws.specs.Choice.{if◌then◌else◌}
 use Rattle.laws.specs.Law77.{valid_score}
 use Rattle.laws.specs.Law78.{same_score}
 use Rattle.tally.specs.declared.Tally.{Tally}

@@ -1,7 +1,6 @@
 -- What a check of a tally answers, and refusals one by one.
 -- Assumes nothing.
-use Rattle.std.specs.Prelude.{ℕ, ◌≡◌, Bool, true, false, not, ◌&&◌, List, eqb, ℤ, length}
-use Rattle.laws.specs.Choice.{if◌then◌else◌}
+use Rattle.std.specs.Prelude.{ℕ, ◌≡◌, Bool, true, false, not, ◌&&◌, List, eqb, ℤ, length, if◌then◌else◌}
 use Rattle.laws.specs.Refusals.{fouled_board}
 use Rattle.laws.specs.Tally.{same_deal, Refusal, refusal_if, score_refusal}
 use Rattle.deal.specs.declared.given.Dealt.{Dealt}

@@ -3,8 +3,7 @@
 
 mod refusals;
 
-ghost use Rattle.std.specs.Prelude.{◌≡◌, true, false, [], ◌≤◌, eqb, pos, length, drop};
-ghost use Rattle.laws.specs.Choice.{if◌then◌else◌};
+ghost use Rattle.std.specs.Prelude.{◌≡◌, true, false, [], ◌≤◌, eqb, pos, length, drop, if◌then◌else◌};
 ghost use Rattle.laws.specs.Law78.{same_score};
 ghost use Rattle.tally.specs.Tallies.{tally_for, all_zero, in_places, carries, well_formed, refused_with, accepting, fresh_of};
 ghost use Rattle.tally.specs.Steps.{Checks, check_of};

@@ -1,6 +1,5 @@
 // The refusals of tally calls, one by one and in their order.
-ghost use Rattle.std.specs.Prelude.{◌≡◌, eqb};
-ghost use Rattle.laws.specs.Choice.{if◌then◌else◌};
+ghost use Rattle.std.specs.Prelude.{◌≡◌, eqb, if◌then◌else◌};
 ghost use Rattle.laws.specs.Refusals.{fouled_board};
 ghost use Rattle.laws.specs.Tally.{same_deal, refusal, refusal_if, score_refusal, boards_refusal, room_refusal};
 ghost use Rattle.tally.specs.Steps.{apart, kept_deal, held, first_held, given_by};

@@ -1,6 +1,5 @@
 -- What writing a tally leaves in a buffer. Assumes nothing.
-use Rattle.std.specs.Prelude.{ℕ, List, ltb, length}
-use Rattle.laws.specs.Choice.{if◌then◌else◌}
+use Rattle.std.specs.Prelude.{ℕ, List, ltb, length, if◌then◌else◌}
 use Rattle.laws.specs.Lent.{◌over◌}
 use Rattle.tally.specs.declared.Tally.{Tally}
 use Rattle.tally.specs.InBytes.{tally_length, tally_bytes}

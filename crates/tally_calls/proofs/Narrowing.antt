@@ -1,4 +1,5 @@
 -- A narrowed board or score gets the answers of the one that was given. Assumes nothing.
+use Rattle.std.specs.Prelude.{if◌then◌else◌}
 use Prim.Native.Nat.{ℕ}
 use native.Mathlib.Omega.{arith}
 use mathlib.Core.Path.{◌≡◌, sym, ap, ◌∙◌}
@@ -11,7 +12,6 @@ use lib.IntN.{ℤ, pos, negsuc}
 use lib.Signed.{lt_z}
 use mir.Syntax.{w16}
 use mir.Val.{SFits}
-use Rattle.laws.specs.Choice.{if◌then◌else◌}
 use Rattle.laws.specs.Law77.{valid_score}
 use Rattle.laws.specs.Law78.{matchpoints}
 use Rattle.laws.specs.Percentages.{cell_asked}

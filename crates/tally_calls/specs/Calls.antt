@@ -1,10 +1,9 @@
 -- The calls on tallies in bytes, as C makes them: what each says for every argument, the number that it returns, and what it leaves in the buffer that it is
 -- lent. A call says a refusal with its number and place, or the bytes that it writes.
 -- Assumes nothing.
-use Rattle.std.specs.Prelude.{ℕ, List, ◌∷◌, ◌++◌, ltb, eqb, ℤ, replicate}
+use Rattle.std.specs.Prelude.{ℕ, List, ◌∷◌, ◌++◌, ltb, eqb, ℤ, replicate, if◌then◌else◌}
 use Rattle.std.specs.Float.{binary64}
 use Rattle.std.specs.Float.Ieee.{to_bits}
-use Rattle.laws.specs.Choice.{if◌then◌else◌}
 use Rattle.laws.specs.Law78.{Points}
 use Rattle.laws.specs.Lent.{◌over◌}
 use Rattle.laws.specs.Percentages.{Cell, played, awarded, alone, award}

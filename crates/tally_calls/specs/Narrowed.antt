@@ -1,7 +1,6 @@
 -- Arguments of 32 bits as the library's own functions take them: what no board or score can be becomes one number that is refused too. Assumes nothing.
-use Rattle.std.specs.Prelude.{ℕ, ◌||◌, ltb, ℤ, pos, negsuc}
+use Rattle.std.specs.Prelude.{ℕ, ◌||◌, ltb, ℤ, pos, negsuc, if◌then◌else◌}
 use Rattle.std.specs.Int.Signed.{lt_z}
-use Rattle.laws.specs.Choice.{if◌then◌else◌}
 
 -- a board; 0 for one over 127
 unfoldable pub narrow_board : ℕ → ℕ

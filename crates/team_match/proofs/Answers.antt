@@ -1,4 +1,5 @@
 -- What a call answers and leaves, by the tests that it makes. Assumes nothing.
+use Rattle.std.specs.Prelude.{if◌then◌else◌}
 use Prim.Native.Nat.{ℕ, ◌≤◌, ◌<◌}
 use native.Mathlib.Omega.{arith}
 use mathlib.Core.Path.{◌≡◌, refl, sym, ◌∙◌}
@@ -10,7 +11,6 @@ use lib.IntN.{ℤ, ◌-ℤ◌}
 use lib.ListN.{length}
 use Rattle.score.specs.declared.ImpAnswer.TheVariants.{Refused}
 use Rattle.score.specs.Units.{imp_answer}
-use Rattle.laws.specs.Choice.{if◌then◌else◌}
 use Rattle.laws.specs.Refusals.{refused, answered, malformed_tally, invalid_score, board_not_free, too_many_boards}
 use Rattle.laws.specs.Law77.{valid_score}
 use Rattle.laws.specs.Law78.{imps_of, imps}

@@ -1,7 +1,6 @@
 -- States of a team match: which boards a state has used, which states there are, and what each call answers and leaves.
 -- Assumes nothing.
-use Rattle.std.specs.Prelude.{ℕ, suc, ◌*◌, Bool, true, false, not, ◌&&◌, List, [], ◌∷◌, leb, eqb, ℤ, pos, nat_abs, ◌+ℤ◌, length, get_or, set, replicate}
-use Rattle.laws.specs.Choice.{if◌then◌else◌}
+use Rattle.std.specs.Prelude.{ℕ, suc, ◌*◌, Bool, true, false, not, ◌&&◌, List, [], ◌∷◌, leb, eqb, ℤ, pos, nat_abs, ◌+ℤ◌, length, get_or, set, replicate, if◌then◌else◌}
 use Rattle.laws.specs.Refusals.{Answer, refused, answered, malformed_tally}
 use Rattle.laws.specs.TeamMatch.{most_boards, Call, answer_to, leaving, imps_on, Totals as BothTotals, totals_of}
 use Rattle.score.specs.declared.ImpAnswer.TheVariants.{Scored}

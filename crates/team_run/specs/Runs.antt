@@ -1,6 +1,5 @@
 -- A run of a team match, byte by byte: what it leaves, and what each byte brings. Assumes nothing.
-use Rattle.std.specs.Prelude.{ℕ, true, false, eqb, ℤ}
-use Rattle.laws.specs.Choice.{if◌then◌else◌}
+use Rattle.std.specs.Prelude.{ℕ, true, false, eqb, ℤ, if◌then◌else◌}
 use Rattle.laws.specs.Refusals.{Answer, refused, answered}
 use Rattle.laws.specs.Sheet.{newline}
 use Rattle.laws.specs.TeamMatch.{Call}

@@ -1,4 +1,5 @@
 -- What the play tells is what Law 64 counts on: the revokes and the winners of the history. Assumes nothing.
+use Rattle.std.specs.Prelude.{if◌then◌else◌}
 use Prim.Native.Nat.{ℕ, ◌≤◌, ◌<◌, ◌+◌, ◌*◌, ◌/◌, ◌%◌}
 use mathlib.Core.Path.{◌≡◌, refl, sym, ap, ap₂, ◌∙◌}
 use mathlib.Core.Bool.{Bool, true, false}
@@ -7,7 +8,6 @@ use native.Mathlib.Omega.{arith}
 use borrow.Author.Tests.{eqb-false}
 use lib.Dec.{eqb}
 use lib.ListN.{length, take, length-map}
-use Rattle.laws.specs.Choice.{if◌then◌else◌}
 use Rattle.laws.specs.Padded.{padded}
 use Rattle.laws.specs.Cards.{partner_of, suit_of, cards_dealt}
 use Rattle.laws.specs.Law44.{cards_played, tricks_complete, won_tricks, winners}

@@ -1,4 +1,5 @@
 -- Theorems on the count of Law 64: its bound, and when it is nothing. Assumes nothing.
+use Rattle.std.specs.Prelude.{if◌then◌else◌}
 use Prim.Native.Nat.{ℕ, ◌≤◌, ◌+◌, min}
 use mathlib.Core.Path.{◌≡◌, refl}
 use mathlib.Core.Bool.{true, false}
@@ -6,7 +7,6 @@ use mathlib.Core.List.{List, [], ◌∷◌}
 use native.Mathlib.Omega.{arith}
 use borrow.Author.Tests.{eqb-true}
 use lib.Dec.{eqb}
-use Rattle.laws.specs.Choice.{if◌then◌else◌}
 use Rattle.laws.specs.LeadRevoke.{Counted}
 use Rattle.laws.specs.Law64.{Due, entitlement, dues, total, both_revoked, transferred_tricks}
 use Rattle.laws.proofs.Tests.{by_test}

@@ -1,4 +1,5 @@
 -- The listed revokes and the winners, a place at a time. Assumes nothing.
+use Rattle.std.specs.Prelude.{if◌then◌else◌}
 use Prim.Native.Nat.{ℕ, zero, suc, ◌≤◌, ◌<◌, ◌+◌, ◌-◌, ◌/◌, ◌%◌, min}
 use mathlib.Core.Path.{◌≡◌, refl, sym, ap, ◌∙◌}
 use mathlib.Core.Bool.{Bool, true, false, ◌&&◌, ◌||◌}
@@ -9,7 +10,7 @@ use borrow.Author.Tests.{eqb-true, eq-eqb}
 use lib.Dec.{eqb}
 use lib.ListN.{length, get_or, take, drop, length-take, length-map, get_or-map, get_or-eq_default}
 use lib.Seq.{drop-cons, get_or-take}
-use Rattle.laws.specs.Choice.{if◌then◌else◌, some, how_many}
+use Rattle.laws.specs.Choice.{some, how_many}
 use Rattle.laws.specs.Cards.{no_seat}
 use Rattle.laws.specs.Law44.{tricks_won}
 use Rattle.laws.specs.LeadRevoke.{Counted}

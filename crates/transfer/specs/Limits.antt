@@ -1,7 +1,6 @@
 -- What bounds the count of Law 64: the first revoke that is rectified, and revokes that are not.
 -- Assumes nothing.
-use Rattle.std.specs.Prelude.{ℕ, ◌≡◌, true, List, [], ◌∷◌, eqb}
-use Rattle.laws.specs.Choice.{if◌then◌else◌}
+use Rattle.std.specs.Prelude.{ℕ, ◌≡◌, true, List, [], ◌∷◌, eqb, if◌then◌else◌}
 use Rattle.laws.specs.LeadRevoke.{Counted}
 use Rattle.laws.specs.Law64.{Due, is_exempt}
 

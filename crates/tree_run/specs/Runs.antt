@@ -1,6 +1,5 @@
 -- A run of a script, byte by byte: what it leaves, and what each byte brings. Assumes nothing.
-use Rattle.std.specs.Prelude.{ℕ, ◌-◌, Bool, true, false, eqb, replicate}
-use Rattle.laws.specs.Choice.{if◌then◌else◌}
+use Rattle.std.specs.Prelude.{ℕ, ◌-◌, Bool, true, false, eqb, replicate, if◌then◌else◌}
 use Rattle.laws.specs.Sheet.{newline}
 use Rattle.script_line.specs.declared.Line.{Line}
 use Rattle.script_line.specs.Lines.{first_line, with_byte, next_line, too_long, text_of}

@@ -1,7 +1,6 @@
 -- The call that a line of a script asks for. Bytes are ASCII codes.
 -- Assumes nothing.
-use Rattle.std.specs.Prelude.{ℕ, ◌-◌, Bool, true, false, not, ◌&&◌, List, [], ◌∷◌, leb, eqb, ℤ, length, get_or, take, drop}
-use Rattle.laws.specs.Choice.{if◌then◌else◌}
+use Rattle.std.specs.Prelude.{ℕ, ◌-◌, Bool, true, false, not, ◌&&◌, List, [], ◌∷◌, leb, eqb, ℤ, length, get_or, take, drop, if◌then◌else◌}
 use Rattle.laws.specs.Decimal.{is_number, value}
 use Rattle.decimal.specs.declared.Score.{Score}
 use Rattle.decimal.specs.declared.Score.TheVariants as Score

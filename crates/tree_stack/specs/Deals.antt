@@ -1,6 +1,5 @@
 -- The deals that a script can name by a number. Assumes nothing.
-use Rattle.std.specs.Prelude.{ℕ, List, ◌++◌, eqb, get_or, set, replicate}
-use Rattle.laws.specs.Choice.{if◌then◌else◌}
+use Rattle.std.specs.Prelude.{ℕ, List, ◌++◌, eqb, get_or, set, replicate, if◌then◌else◌}
 use Rattle.laws.specs.Cards.{north, east, south, west}
 
 -- North has the clubs, East the diamonds, South the hearts and West the spades

@@ -1,8 +1,7 @@
 -- What a call does to a stack of tallies, and what it answers. Assumes nothing.
-use Rattle.std.specs.Prelude.{ℕ, ◌+◌, ◌-◌, Bool, ◌||◌, [], ltb, eqb, ℤ, set, get_or}
+use Rattle.std.specs.Prelude.{ℕ, ◌+◌, ◌-◌, Bool, ◌||◌, [], ltb, eqb, ℤ, set, get_or, if◌then◌else◌}
 use Rattle.std.specs.Float.{binary64}
 use Rattle.std.specs.Float.Ieee.{to_bits}
-use Rattle.laws.specs.Choice.{if◌then◌else◌}
 use Rattle.laws.specs.Law78.{Points as BothSides}
 use Rattle.laws.specs.Percentages.{played, awarded, alone, award, Cell as Entered}
 use Rattle.laws.specs.Refusals.{Placed, refused_at, given, placed}

@@ -1,4 +1,5 @@
 -- The fields of a flat list of plays from a place on, and the loop that counts their bits. Assumes nothing.
+use Rattle.std.specs.Prelude.{if◌then◌else◌}
 use Prim.Native.Nat.{ℕ, ◌≤◌, ◌<◌, ◌+◌, ◌*◌}
 use native.Mathlib.Omega.{arith}
 use mathlib.Core.Path.{◌≡◌, refl, sym, ap}
@@ -7,7 +8,7 @@ use mathlib.Core.List.{List, ◌∷◌, ◌++◌}
 use borrow.Author.Tests.{eqb-true, eqb-false, ltb-false}
 use lib.Dec.{eqb, ltb}
 use lib.ListN.{length, get_or}
-use Rattle.laws.specs.Choice.{if◌then◌else◌, some}
+use Rattle.laws.specs.Choice.{some}
 use Rattle.laws.specs.Events.{exposure_code, choice_code, begins_code}
 use Rattle.laws.specs.FlatPlay.{Item, code_item, items_of, is_broken, events_among}
 use Rattle.laws.specs.Record.{field, bits, event_fields, play_fields}

@@ -1,7 +1,6 @@
 -- The parts of a record from the numbers that are given to be written, their fields, and the bytes that they take.
 -- Assumes nothing.
-use Rattle.std.specs.Prelude.{ℕ, ◌+◌, ◌*◌, ◌/◌, min, List, [], ◌∷◌, eqb}
-use Rattle.laws.specs.Choice.{if◌then◌else◌}
+use Rattle.std.specs.Prelude.{ℕ, ◌+◌, ◌*◌, ◌/◌, min, List, [], ◌∷◌, eqb, if◌then◌else◌}
 use Rattle.laws.specs.Events.{Event, exposure_code}
 use Rattle.laws.specs.FlatPlay.{items_of, events_among}
 use Rattle.laws.specs.Record.{Parts, Field, field, play_fields}

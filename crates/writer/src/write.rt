@@ -1,6 +1,6 @@
 // The contents of a record written over the front of a lent buffer, whatever they are, and how many bytes they take.
-ghost use Rattle.std.specs.Prelude.{◌≡◌, false, ◌∷◌, ◌≤◌, ◌<◌, min, eqb, length};
-ghost use Rattle.laws.specs.Choice.{if◌then◌else◌, some};
+ghost use Rattle.std.specs.Prelude.{◌≡◌, false, ◌∷◌, ◌≤◌, ◌<◌, min, eqb, length, if◌then◌else◌};
+ghost use Rattle.laws.specs.Choice.{some};
 ghost use Rattle.laws.specs.FlatPlay.{items_of, is_broken};
 ghost use Rattle.laws.specs.Record.{field, row, bits, claim_fields, layout};
 ghost use Rattle.packing.specs.Packed.{packer_after_all, bytes_after_all, bytes_packed};

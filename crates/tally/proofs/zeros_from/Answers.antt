@@ -1,10 +1,10 @@
 -- `tally::zeros_from` meets its contract. The loop's invariant: the places from `at` on are zero exactly where none was counted and those from `i` on
 -- are zero. Assumes nothing.
+use Rattle.std.specs.Prelude.{if◌then◌else◌}
 use Prim.Native.Nat.{◌≤◌}
 use native.Mathlib.Omega.{arith}
 use mathlib.Core.Path.{◌≡◌, refl, sym, ◌∙◌}
 use borrow.Author.Rules.{rules}
-use Rattle.laws.specs.Choice.{if◌then◌else◌}
 use Rattle.laws.specs.Law78.{same_score}
 use lib.IntN.{pos}
 use lib.ListN.{get_or}
