@@ -602,6 +602,7 @@ def turn(folder, info):
     given = f"use {module}.Given as goal"
     out = "\n\n".join(a.rstrip() for a in answers)
     out = raws(out)
+    fn.named = {n for n in fn.named if re.search(rf"(?<![\w'.-]){re.escape(n)}(?![\w'-])", out)}
     if fn.named:
         uses_places = f"use {module}.Goals.{{{', '.join(sorted(fn.named))}}}\n"
     else:

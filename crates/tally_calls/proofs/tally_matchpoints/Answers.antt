@@ -8,7 +8,6 @@ use Rattle.tally_calls.specs.Calls.{spelled, points_bytes, matchpoints_call}
 use Rattle.tally_calls.proofs.Saying.{says-short, says-within}
 use Rattle.tally_calls.proofs.Narrowing.{points_narrowed}
 use borrow.Author.Rules.{rules}
-use Rattle.tally_calls.proofs.tally_matchpoints.Goals.{After-matchpoints-answer, Start}
 use Rattle.tally_calls.proofs.tally_matchpoints.Goals as goal
 
 pub returns-then-points-lt4 : goal.returns-then-points-lt4
@@ -19,10 +18,10 @@ pub returns : goal.returns
 unfolding matchpoints_call
 returns c =
     record {
-      number = (says-within 4 _ c.args.points.now (search rules) _ (ap (spelled points_bytes) ((let fits : SFits w16 c.narrow_score.result = search rules in
+      number = (says-within 4 _ c.args.points.now (search rules) _ (ap (spelled points_bytes) (let fits : SFits w16 c.narrow_score.result = search rules in
           rw (to_z-of_z fits, c.narrow_score.ensures, to_z-of_z c.ranges.score, c.read-t.ensures) at c.matchpoints-answer.ensures
-          ∙ points_narrowed (tally_in c.args.tally.now) c.args.holders.now c.args.score))) (c.put_points.ensures.number, c.put_points.ensures.left)).0;
-      left = (says-within 4 _ c.args.points.now (search rules) _ (ap (spelled points_bytes) ((let fits : SFits w16 c.narrow_score.result = search rules in
+          ∙ points_narrowed (tally_in c.args.tally.now) c.args.holders.now c.args.score)) (c.put_points.ensures.number, c.put_points.ensures.left)).0;
+      left = (says-within 4 _ c.args.points.now (search rules) _ (ap (spelled points_bytes) (let fits : SFits w16 c.narrow_score.result = search rules in
           rw (to_z-of_z fits, c.narrow_score.ensures, to_z-of_z c.ranges.score, c.read-t.ensures) at c.matchpoints-answer.ensures
-          ∙ points_narrowed (tally_in c.args.tally.now) c.args.holders.now c.args.score))) (c.put_points.ensures.number, c.put_points.ensures.left)).1;
+          ∙ points_narrowed (tally_in c.args.tally.now) c.args.holders.now c.args.score)) (c.put_points.ensures.number, c.put_points.ensures.left)).1;
     }
