@@ -76,9 +76,12 @@ def as_record(text, fields):
         got = [got[0], *inner]
     if got and len(got) == len(fields):
         return head + "record { " + "; ".join(f"{f} = {p}" for f, p in zip(fields, got)) + " }"
-    paths = [".0"] if len(fields) == 2 else []
+    if len(rest) > 25:
+        # named once
+        head, rest = f"{head}let s = {rest} in\n    ", "s"
     paths = [".1" * k + ".0" for k in range(len(fields) - 1)] + [".1" * (len(fields) - 1)]
-    return head + "record { " + "; ".join(f"{f} = ({rest}){p}" for f, p in zip(fields, paths)) + " }"
+    whole = rest if re.fullmatch(r"[\w.'-]+", rest) else f"({rest})"
+    return head + "record { " + "; ".join(f"{f} = {whole}{p}" for f, p in zip(fields, paths)) + " }"
 
 
 class Tuple:
@@ -602,6 +605,7 @@ def turn(folder, info):
     given = f"use {module}.Given as goal"
     out = "\n\n".join(a.rstrip() for a in answers)
     out = raws(out)
+    fn.named = {n for n in fn.named if re.search(rf"(?<![\w'.-]){re.escape(n)}(?![\w'-])", out)}
     if fn.named:
         uses_places = f"use {module}.Goals.{{{', '.join(sorted(fn.named))}}}\n"
     else:

@@ -12,7 +12,6 @@ use Rattle.team_script.specs.declared.Asked.{Asked}
 use Rattle.team_script.specs.declared.Asked.TheVariants.{Board, Unreadable}
 use Rattle.team_script.specs.Boards.{asked_on}
 use Rattle.team_run.specs.declared.Run.{Run}
-use Rattle.team_run.specs.declared.Reply.{Reply}
 use Rattle.team_run.specs.declared.Reply.TheVariants.{Nothing, Answer as Answered, Stopped}
 use Rattle.team_run.specs.declared.Fed.{Fed}
 

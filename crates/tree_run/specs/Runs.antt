@@ -10,7 +10,6 @@ use Rattle.tree_script.specs.declared.Call.TheVariants.{Unreadable}
 use Rattle.tree_stack.specs.declared.Said.{Said}
 use Rattle.tree_stack.specs.declared.Said.TheVariants.{Done, Refused, Points, Played, Awarded, Alone, Stopped}
 use Rattle.tree_run.specs.declared.Run.{Run}
-use Rattle.tree_run.specs.declared.Reply.{Reply}
 use Rattle.tree_run.specs.declared.Reply.TheVariants.{Nothing, Answer}
 use Rattle.tree_run.specs.declared.Fed.{Fed}
 use Rattle.tree_script.specs.Calls.{call_on}

@@ -3,10 +3,8 @@
 use Rattle.std.specs.Prelude.{ℕ, ◌-◌, Bool, true, false, not, ◌&&◌, List, [], ◌∷◌, leb, eqb, ℤ, length, get_or, take, drop, if◌then◌else◌}
 use Rattle.laws.specs.Decimal.{is_number, value}
 use Rattle.decimal.specs.declared.Score.{Score}
-use Rattle.decimal.specs.declared.Score.TheVariants as Score
 use Rattle.decimal.specs.Scores.{board_in, score_on}
 use Rattle.tree_script.specs.declared.Given.{Given}
-use Rattle.tree_script.specs.declared.Given.TheVariants as Given
 use Rattle.tree_script.specs.declared.Call.{Call}
 use Rattle.tree_script.specs.declared.Call.TheVariants.{Fresh, Add, Merge, Matchpoints, Cell, Award, Unreadable}
 

@@ -4,7 +4,6 @@ use native.Mathlib.Omega.{arith}
 use mathlib.Core.Path.{◌∙◌}
 use mir.Facts.{to_z-of_z}
 use Rattle.merging.proofs.Reached.{begins, first_end, second_end, fits, ends, goes, full, one_each, next-entry}
-use Rattle.merging.proofs.joined.Goals.{After-higher-e, After-struct_told-1, At-loop-k}
 use Rattle.merging.proofs.joined.Goals as goal
 
 pub entry_at-x-requires : goal.entry_at-x-requires
@@ -51,8 +50,8 @@ overflow_add-i-in-loop-k c =
     let l = c.loop-k in
     omega (
       arith,
-      ((let l = c.loop-k in
-          one_each _ _ _ _ _ _ _ _ _ l.invariant.0 _ _ l.invariant.1 l.invariant.2 _ c.higher-e.ensures)).0,
+      (let l = c.loop-k in
+          one_each _ _ _ _ _ _ _ _ _ l.invariant.0 _ _ l.invariant.1 l.invariant.2 _ c.higher-e.ensures).0,
       l.invariant.0.of-first,
       l.invariant.0.places,
     )
@@ -62,8 +61,8 @@ overflow_add-j-in-loop-k c =
     let l = c.loop-k in
     omega (
       arith,
-      ((let l = c.loop-k in
-          one_each _ _ _ _ _ _ _ _ _ l.invariant.0 _ _ l.invariant.1 l.invariant.2 _ c.higher-e.ensures)).1,
+      (let l = c.loop-k in
+          one_each _ _ _ _ _ _ _ _ _ l.invariant.0 _ _ l.invariant.1 l.invariant.2 _ c.higher-e.ensures).1,
       l.invariant.0.of-second,
       l.invariant.0.places,
     )
@@ -79,11 +78,11 @@ loop-k-preserved c =
     let l = c.loop-k in
     let turn = goes _ _ _ _ _ _ _ _ _ l.invariant.0 _ _ l.invariant.1 l.invariant.2 _ c.higher-e.ensures c.if-c-eq0.false
     c.loop-k-test.true in (
-      rw (to_z-of_z ((record { sfits = c.struct_told-1.given.0.1 }))) turn,
-      c.next_of-x.ensures ∙ next-entry _ _ _ _ _ _ _ ((let l = c.loop-k in
-          one_each _ _ _ _ _ _ _ _ _ l.invariant.0 _ _ l.invariant.1 l.invariant.2 _ c.higher-e.ensures)).0 l.invariant.1 c.entry_at-p.ensures,
-      c.next_of-y.ensures ∙ next-entry _ _ _ _ _ _ _ ((let l = c.loop-k in
-          one_each _ _ _ _ _ _ _ _ _ l.invariant.0 _ _ l.invariant.1 l.invariant.2 _ c.higher-e.ensures)).1 l.invariant.2 c.entry_at-q.ensures,
+      rw (to_z-of_z (record { sfits = c.struct_told-1.given.0.1 })) turn,
+      c.next_of-x.ensures ∙ next-entry _ _ _ _ _ _ _ (let l = c.loop-k in
+          one_each _ _ _ _ _ _ _ _ _ l.invariant.0 _ _ l.invariant.1 l.invariant.2 _ c.higher-e.ensures).0 l.invariant.1 c.entry_at-p.ensures,
+      c.next_of-y.ensures ∙ next-entry _ _ _ _ _ _ _ (let l = c.loop-k in
+          one_each _ _ _ _ _ _ _ _ _ l.invariant.0 _ _ l.invariant.1 l.invariant.2 _ c.higher-e.ensures).1 l.invariant.2 c.entry_at-q.ensures,
     )
 
 pub returns : goal.returns

@@ -6,7 +6,6 @@ use borrow.Author.Tests.{lt-ltb}
 use lib.ListN.{length}
 use Rattle.tally_bytes.specs.Written.{tally_left}
 use Rattle.tally_bytes.proofs.Stores.{length_first, length-second, length_third, stores}
-use Rattle.tally_bytes.proofs.write.Goals.{Start}
 use Rattle.tally_bytes.proofs.write.Goals as goal
 
 pub returns-then-out-lt-TALLY_LENGTH : goal.returns-then-out-lt-TALLY_LENGTH

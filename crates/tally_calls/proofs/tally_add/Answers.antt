@@ -8,21 +8,18 @@ use Rattle.tally_calls.specs.Calls.{tallied, add_call}
 use Rattle.tally_calls.proofs.Saying.{says-short, says-within}
 use Rattle.tally_calls.proofs.Narrowing.{add_narrowed}
 use borrow.Author.Rules.{rules}
-use Rattle.tally_calls.proofs.tally_add.Goals.{After-add-answer, Start}
 use Rattle.tally_calls.proofs.tally_add.Goals as goal
 
 pub returns-then-out-lt-TALLY_LENGTH : goal.returns-then-out-lt-TALLY_LENGTH
 unfolding add_call
-returns-then-out-lt-TALLY_LENGTH c = record { number = (says-short 398 _ c.args.out.now c.if-out-lt-TALLY_LENGTH.true c.refusal_number.ensures).0; left = (says-short 398 _ c.args.out.now c.if-out-lt-TALLY_LENGTH.true c.refusal_number.ensures).1 }
+returns-then-out-lt-TALLY_LENGTH c =
+    let s = says-short 398 _ c.args.out.now c.if-out-lt-TALLY_LENGTH.true c.refusal_number.ensures in
+    record { number = s.0; left = s.1 }
 
 pub returns : goal.returns
 unfolding add_call
 returns c =
-    record {
-      number = (says-within 398 _ c.args.out.now (search rules) _ (ap (tallied) ((let fits : SFits w16 c.narrow_score.result = search rules in
-          rw (to_z-of_z fits, c.narrow_score.ensures, to_z-of_z c.ranges.score, c.read-t.ensures) at c.add-answer.ensures
-          ∙ add_narrowed (tally_in c.args.tally.now) c.args.holders.now c.args.score))) (c.put_tally.ensures.number, c.put_tally.ensures.left)).0;
-      left = (says-within 398 _ c.args.out.now (search rules) _ (ap (tallied) ((let fits : SFits w16 c.narrow_score.result = search rules in
-          rw (to_z-of_z fits, c.narrow_score.ensures, to_z-of_z c.ranges.score, c.read-t.ensures) at c.add-answer.ensures
-          ∙ add_narrowed (tally_in c.args.tally.now) c.args.holders.now c.args.score))) (c.put_tally.ensures.number, c.put_tally.ensures.left)).1;
-    }
+    let s = says-within 398 _ c.args.out.now (search rules) _ (ap (tallied) (let fits : SFits w16 c.narrow_score.result = search rules in
+    rw (to_z-of_z fits, c.narrow_score.ensures, to_z-of_z c.ranges.score, c.read-t.ensures) at c.add-answer.ensures
+    ∙ add_narrowed (tally_in c.args.tally.now) c.args.holders.now c.args.score)) (c.put_tally.ensures.number, c.put_tally.ensures.left) in
+    record { number = s.0; left = s.1 }

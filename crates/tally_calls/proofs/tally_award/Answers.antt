@@ -9,11 +9,15 @@ use Rattle.tally_calls.proofs.tally_award.Goals as goal
 
 pub returns-then-cell-lt9 : goal.returns-then-cell-lt9
 unfolding award_call
-returns-then-cell-lt9 c = record { number = (says-short 9 _ c.args.cell.now c.if-cell-lt9.true c.refusal_number.ensures).0; left = (says-short 9 _ c.args.cell.now c.if-cell-lt9.true c.refusal_number.ensures).1 }
+returns-then-cell-lt9 c =
+    let s = says-short 9 _ c.args.cell.now c.if-cell-lt9.true c.refusal_number.ensures in
+    record { number = s.0; left = s.1 }
 
 pub put_cell-requires : goal.put_cell-requires
 put_cell-requires c = (search rules, subst Numbered (sym c.award-answer.ensures) (award-numbered _))
 
 pub returns : goal.returns
 unfolding award_call
-returns c = record { number = (says-within 9 _ c.args.cell.now (search rules) _ (ap (spelled cell_bytes) c.award-answer.ensures) (c.put_cell.ensures.number, c.put_cell.ensures.left)).0; left = (says-within 9 _ c.args.cell.now (search rules) _ (ap (spelled cell_bytes) c.award-answer.ensures) (c.put_cell.ensures.number, c.put_cell.ensures.left)).1 }
+returns c =
+    let s = says-within 9 _ c.args.cell.now (search rules) _ (ap (spelled cell_bytes) c.award-answer.ensures) (c.put_cell.ensures.number, c.put_cell.ensures.left) in
+    record { number = s.0; left = s.1 }

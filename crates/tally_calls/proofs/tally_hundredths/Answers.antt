@@ -8,21 +8,18 @@ use Rattle.tally_calls.specs.Calls.{spelled, shares_bytes, hundredths_call}
 use Rattle.tally_calls.proofs.Saying.{says-short, says-within}
 use Rattle.tally_calls.proofs.Narrowing.{shares_narrowed}
 use borrow.Author.Rules.{rules}
-use Rattle.tally_calls.proofs.tally_hundredths.Goals.{After-shares_of-answer, Start}
 use Rattle.tally_calls.proofs.tally_hundredths.Goals as goal
 
 pub returns-then-shares-lt4 : goal.returns-then-shares-lt4
 unfolding hundredths_call
-returns-then-shares-lt4 c = record { number = (says-short 4 _ c.args.shares.now c.if-shares-lt4.true c.refusal_number.ensures).0; left = (says-short 4 _ c.args.shares.now c.if-shares-lt4.true c.refusal_number.ensures).1 }
+returns-then-shares-lt4 c =
+    let s = says-short 4 _ c.args.shares.now c.if-shares-lt4.true c.refusal_number.ensures in
+    record { number = s.0; left = s.1 }
 
 pub returns : goal.returns
 unfolding hundredths_call
 returns c =
-    record {
-      number = (says-within 4 _ c.args.shares.now (search rules) _ (ap (spelled shares_bytes) ((let fits : SFits w16 c.narrow_score.result = search rules in
-          rw (to_z-of_z fits, c.narrow_score.ensures, to_z-of_z c.ranges.score, c.read-t.ensures) at c.shares_of-answer.ensures
-          ∙ shares_narrowed (tally_in c.args.tally.now) c.args.holders.now c.args.score))) (c.put_shares.ensures.number, c.put_shares.ensures.left)).0;
-      left = (says-within 4 _ c.args.shares.now (search rules) _ (ap (spelled shares_bytes) ((let fits : SFits w16 c.narrow_score.result = search rules in
-          rw (to_z-of_z fits, c.narrow_score.ensures, to_z-of_z c.ranges.score, c.read-t.ensures) at c.shares_of-answer.ensures
-          ∙ shares_narrowed (tally_in c.args.tally.now) c.args.holders.now c.args.score))) (c.put_shares.ensures.number, c.put_shares.ensures.left)).1;
-    }
+    let s = says-within 4 _ c.args.shares.now (search rules) _ (ap (spelled shares_bytes) (let fits : SFits w16 c.narrow_score.result = search rules in
+    rw (to_z-of_z fits, c.narrow_score.ensures, to_z-of_z c.ranges.score, c.read-t.ensures) at c.shares_of-answer.ensures
+    ∙ shares_narrowed (tally_in c.args.tally.now) c.args.holders.now c.args.score)) (c.put_shares.ensures.number, c.put_shares.ensures.left) in
+    record { number = s.0; left = s.1 }

@@ -8,21 +8,18 @@ use Rattle.tally_calls.specs.Calls.{spelled, points_bytes, matchpoints_call}
 use Rattle.tally_calls.proofs.Saying.{says-short, says-within}
 use Rattle.tally_calls.proofs.Narrowing.{points_narrowed}
 use borrow.Author.Rules.{rules}
-use Rattle.tally_calls.proofs.tally_matchpoints.Goals.{After-matchpoints-answer, Start}
 use Rattle.tally_calls.proofs.tally_matchpoints.Goals as goal
 
 pub returns-then-points-lt4 : goal.returns-then-points-lt4
 unfolding matchpoints_call
-returns-then-points-lt4 c = record { number = (says-short 4 _ c.args.points.now c.if-points-lt4.true c.refusal_number.ensures).0; left = (says-short 4 _ c.args.points.now c.if-points-lt4.true c.refusal_number.ensures).1 }
+returns-then-points-lt4 c =
+    let s = says-short 4 _ c.args.points.now c.if-points-lt4.true c.refusal_number.ensures in
+    record { number = s.0; left = s.1 }
 
 pub returns : goal.returns
 unfolding matchpoints_call
 returns c =
-    record {
-      number = (says-within 4 _ c.args.points.now (search rules) _ (ap (spelled points_bytes) ((let fits : SFits w16 c.narrow_score.result = search rules in
-          rw (to_z-of_z fits, c.narrow_score.ensures, to_z-of_z c.ranges.score, c.read-t.ensures) at c.matchpoints-answer.ensures
-          ∙ points_narrowed (tally_in c.args.tally.now) c.args.holders.now c.args.score))) (c.put_points.ensures.number, c.put_points.ensures.left)).0;
-      left = (says-within 4 _ c.args.points.now (search rules) _ (ap (spelled points_bytes) ((let fits : SFits w16 c.narrow_score.result = search rules in
-          rw (to_z-of_z fits, c.narrow_score.ensures, to_z-of_z c.ranges.score, c.read-t.ensures) at c.matchpoints-answer.ensures
-          ∙ points_narrowed (tally_in c.args.tally.now) c.args.holders.now c.args.score))) (c.put_points.ensures.number, c.put_points.ensures.left)).1;
-    }
+    let s = says-within 4 _ c.args.points.now (search rules) _ (ap (spelled points_bytes) (let fits : SFits w16 c.narrow_score.result = search rules in
+    rw (to_z-of_z fits, c.narrow_score.ensures, to_z-of_z c.ranges.score, c.read-t.ensures) at c.matchpoints-answer.ensures
+    ∙ points_narrowed (tally_in c.args.tally.now) c.args.holders.now c.args.score)) (c.put_points.ensures.number, c.put_points.ensures.left) in
+    record { number = s.0; left = s.1 }

@@ -8,10 +8,13 @@ use Rattle.tally_calls.proofs.tally_merge.Goals as goal
 
 pub returns-then-out-lt-TALLY_LENGTH : goal.returns-then-out-lt-TALLY_LENGTH
 unfolding merge_call
-returns-then-out-lt-TALLY_LENGTH c = record { number = (says-short 398 _ c.args.out.now c.if-out-lt-TALLY_LENGTH.true c.refusal_number.ensures).0; left = (says-short 398 _ c.args.out.now c.if-out-lt-TALLY_LENGTH.true c.refusal_number.ensures).1 }
+returns-then-out-lt-TALLY_LENGTH c =
+    let s = says-short 398 _ c.args.out.now c.if-out-lt-TALLY_LENGTH.true c.refusal_number.ensures in
+    record { number = s.0; left = s.1 }
 
 pub returns : goal.returns
 unfolding merge_call
 returns c =
     let said = ap tallied (c.merge-answer.ensures ∙ ap₂ merge_of c.read-first.ensures c.read-second.ensures) in
-    record { number = (says-within 398 _ c.args.out.now (search rules) _ said (c.put_tally.ensures.number, c.put_tally.ensures.left)).0; left = (says-within 398 _ c.args.out.now (search rules) _ said (c.put_tally.ensures.number, c.put_tally.ensures.left)).1 }
+    let s = says-within 398 _ c.args.out.now (search rules) _ said (c.put_tally.ensures.number, c.put_tally.ensures.left) in
+    record { number = s.0; left = s.1 }

@@ -18,14 +18,10 @@ made c = record { board = c.args.board; first = c.args.first; second = c.args.se
 
 pub returns-then-not-is_match : goal.returns-then-not-is_match
 returns-then-not-is_match c =
-    record {
-      state = (gives_refusal c.args.m (made c.before.before.before) _
-          (no_match _ _ (sym c.is_match.ensures ∙ c.if-not-is_match.true))
-          c.refuse.ensures).0;
-      answer = (gives_refusal c.args.m (made c.before.before.before) _
-          (no_match _ _ (sym c.is_match.ensures ∙ c.if-not-is_match.true))
-          c.refuse.ensures).1;
-    }
+    let s = gives_refusal c.args.m (made c.before.before.before) _
+    (no_match _ _ (sym c.is_match.ensures ∙ c.if-not-is_match.true))
+    c.refuse.ensures in
+    record { state = s.0; answer = s.1 }
 
 -- the state is one
 state : (c : Else-not-is_match) → is_match c.args.m ≡ true
@@ -37,7 +33,9 @@ told c =
     rw (to_z-of_z c.ranges.first, to_z-of_z c.ranges.second) at c.both_valid.ensures
 
 pub returns-then-not-both_valid : goal.returns-then-not-both_valid
-returns-then-not-both_valid c = record { state = (gives_refusal c.args.m (made c.before.before.before.before.before) _ (no_score _ _ (state c.before.before.before) (sym (told c.before.before) ∙ c.if-not-both_valid.true)) c.refuse-then-not-both_valid.ensures).0; answer = (gives_refusal c.args.m (made c.before.before.before.before.before) _ (no_score _ _ (state c.before.before.before) (sym (told c.before.before) ∙ c.if-not-both_valid.true)) c.refuse-then-not-both_valid.ensures).1 }
+returns-then-not-both_valid c =
+    let s = gives_refusal c.args.m (made c.before.before.before.before.before) _ (no_score _ _ (state c.before.before.before) (sym (told c.before.before) ∙ c.if-not-both_valid.true)) c.refuse-then-not-both_valid.ensures in
+    record { state = s.0; answer = s.1 }
 
 -- both scores are valid
 valid : (c : Else-not-both_valid) → both_valid (made c.before.before.before.before) ≡ true
@@ -45,14 +43,10 @@ valid c = sym (told c.before) ∙ c.if-not-both_valid.false
 
 pub returns-then-not-is_free : goal.returns-then-not-is_free
 returns-then-not-is_free c =
-    record {
-      state = (gives_refusal c.args.m (made c.before.before.before.before.before.before.before) _
-          (not_free _ _ (state c.before.before.before.before.before) (valid c.before.before.before) (sym c.is_free.ensures ∙ c.if-not-is_free.true))
-          c.refuse-then-not-is_free.ensures).0;
-      answer = (gives_refusal c.args.m (made c.before.before.before.before.before.before.before) _
-          (not_free _ _ (state c.before.before.before.before.before) (valid c.before.before.before) (sym c.is_free.ensures ∙ c.if-not-is_free.true))
-          c.refuse-then-not-is_free.ensures).1;
-    }
+    let s = gives_refusal c.args.m (made c.before.before.before.before.before.before.before) _
+    (not_free _ _ (state c.before.before.before.before.before) (valid c.before.before.before) (sym c.is_free.ensures ∙ c.if-not-is_free.true))
+    c.refuse-then-not-is_free.ensures in
+    record { state = s.0; answer = s.1 }
 
 -- the board is free
 free : (c : Else-not-is_free)
@@ -61,14 +55,10 @@ free c = sym c.is_free.ensures ∙ c.if-not-is_free.false
 
 pub returns-then-boards_used-ge32 : goal.returns-then-boards_used-ge32
 returns-then-boards_used-ge32 c =
-    record {
-      state = (gives_refusal c.args.m (made c.before.before.before.before.before.before.before.before.before) _
-          (full _ _ (state c.before.before.before.before.before.before.before) (valid c.before.before.before.before.before) (free c.before.before.before) (omega (arith, c.boards_used.ensures, c.if-boards_used-ge32.true)))
-          c.refuse-then-boards_used-ge32.ensures).0;
-      answer = (gives_refusal c.args.m (made c.before.before.before.before.before.before.before.before.before) _
-          (full _ _ (state c.before.before.before.before.before.before.before) (valid c.before.before.before.before.before) (free c.before.before.before) (omega (arith, c.boards_used.ensures, c.if-boards_used-ge32.true)))
-          c.refuse-then-boards_used-ge32.ensures).1;
-    }
+    let s = gives_refusal c.args.m (made c.before.before.before.before.before.before.before.before.before) _
+    (full _ _ (state c.before.before.before.before.before.before.before) (valid c.before.before.before.before.before) (free c.before.before.before) (omega (arith, c.boards_used.ensures, c.if-boards_used-ge32.true)))
+    c.refuse-then-boards_used-ge32.ensures in
+    record { state = s.0; answer = s.1 }
 
 pub accept-requires : goal.accept-requires
 accept-requires c =
@@ -81,11 +71,7 @@ accept-requires c =
 
 pub returns : goal.returns
 returns c =
-    record {
-      state = (gives_board c.args.m (made c.before.before.before.before.before.before.before.before.before)
-          (taken _ _ (state c.before.before.before.before.before.before.before) (valid c.before.before.before.before.before) (free c.before.before.before) (omega (arith, c.boards_used.ensures, c.if-boards_used-ge32.false)))
-          (rw (to_z-of_z c.ranges.first, to_z-of_z c.ranges.second) at c.accept.ensures)).0;
-      answer = (gives_board c.args.m (made c.before.before.before.before.before.before.before.before.before)
-          (taken _ _ (state c.before.before.before.before.before.before.before) (valid c.before.before.before.before.before) (free c.before.before.before) (omega (arith, c.boards_used.ensures, c.if-boards_used-ge32.false)))
-          (rw (to_z-of_z c.ranges.first, to_z-of_z c.ranges.second) at c.accept.ensures)).1;
-    }
+    let s = gives_board c.args.m (made c.before.before.before.before.before.before.before.before.before)
+    (taken _ _ (state c.before.before.before.before.before.before.before) (valid c.before.before.before.before.before) (free c.before.before.before) (omega (arith, c.boards_used.ensures, c.if-boards_used-ge32.false)))
+    (rw (to_z-of_z c.ranges.first, to_z-of_z c.ranges.second) at c.accept.ensures) in
+    record { state = s.0; answer = s.1 }

@@ -2,7 +2,6 @@
 use mathlib.Core.Path.{sym, ap, ◌∙◌}
 use Rattle.score.specs.Units.{imp_sum}
 use Rattle.team_match.proofs.States.{sum_fits, answered_sum, not_lost}
-use Rattle.team_match.proofs.with_imps.Goals.{After-add_imps}
 use Rattle.team_match.proofs.with_imps.Goals as goal
 
 pub returns-in_default : goal.returns-in_default

@@ -5,7 +5,6 @@ use Rattle.decimal.specs.Numbers.{number_on}
 use Rattle.decimal.proofs.Scores.{rest-is}
 use Rattle.team_script.specs.Boards.{asked, asked_on}
 use Rattle.team_script.proofs.Fields.{field_is}
-use Rattle.team_script.proofs.read_line.Goals.{After-read_number}
 use Rattle.team_script.proofs.read_line.Goals as goal
 
 pub slice_bounds-read_number-end : goal.slice_bounds-read_number-end

@@ -7,7 +7,6 @@ use mir.Facts.{to_z-of_z}
 use Rattle.decimal.specs.Scores.{score_on}
 use Rattle.decimal.proofs.Scores.{rest-is}
 use Rattle.team_script.specs.Boards.{scored}
-use Rattle.team_script.proofs.with_scores.Goals.{After-read_score}
 use Rattle.team_script.proofs.with_scores.Goals as goal
 
 pub returns-in_default : goal.returns-in_default

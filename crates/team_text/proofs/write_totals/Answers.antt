@@ -4,28 +4,27 @@ use mir.Syntax.{w32}
 use mir.Val.{SFits}
 use Rattle.team_text.proofs.Teams.{totals-short}
 use borrow.Author.Rules.{rules}
-use Rattle.team_text.proofs.write_totals.Goals.{After-text-1}
 use Rattle.team_text.proofs.write_totals.Goals as goal
 
 pub slice_bounds-text-end : goal.slice_bounds-text-end
 slice_bounds-text-end c =
-    local_length _ _ _ _ c.put_totals-n.ensures ((let f : SFits w32 c.args.first.0 = search rules in
+    local_length _ _ _ _ c.put_totals-n.ensures (let f : SFits w32 c.args.first.0 = search rules in
     let g : SFits w32 c.args.second.0 = search rules in
-    totals-short c.args.first.0 c.args.second.0 f g))
+    totals-short c.args.first.0 c.args.second.0 f g)
 
 pub slice_bounds-lend-end : goal.slice_bounds-lend-end
 slice_bounds-lend-end c =
-    taken-length _ _ _ _ c.put_totals-n.ensures ((let f : SFits w32 c.args.first.0 = search rules in
+    taken-length _ _ _ _ c.put_totals-n.ensures (let f : SFits w32 c.args.first.0 = search rules in
     let g : SFits w32 c.args.second.0 = search rules in
-    totals-short c.args.first.0 c.args.second.0 f g))
+    totals-short c.args.first.0 c.args.second.0 f g)
 
 pub returns : goal.returns
 returns c =
     record {
-      answer = rw (← taken _ _ _ _ c.put_totals-n.ensures ((let f : SFits w32 c.args.first.0 = search rules in
+      answer = rw (← taken _ _ _ _ c.put_totals-n.ensures (let f : SFits w32 c.args.first.0 = search rules in
           let g : SFits w32 c.args.second.0 = search rules in
-          totals-short c.args.first.0 c.args.second.0 f g))) c.lend.ensures.answer;
-      bytes = rw (← taken _ _ _ _ c.put_totals-n.ensures ((let f : SFits w32 c.args.first.0 = search rules in
+          totals-short c.args.first.0 c.args.second.0 f g)) c.lend.ensures.answer;
+      bytes = rw (← taken _ _ _ _ c.put_totals-n.ensures (let f : SFits w32 c.args.first.0 = search rules in
           let g : SFits w32 c.args.second.0 = search rules in
-          totals-short c.args.first.0 c.args.second.0 f g))) c.lend.ensures.bytes;
+          totals-short c.args.first.0 c.args.second.0 f g)) c.lend.ensures.bytes;
     }
