@@ -1,4 +1,6 @@
 // What best play would give from a table record, as text: the tricks, or the refusal's number, a space and its place; and a newline.
+#![tactic(auto)]
+
 ghost use Rattle.std.specs.Prelude.{◌≡◌, ◌<◌, length};
 ghost use Rattle.laws.specs.BestText.{tricks_line, best_text};
 ghost use Rattle.text.specs.Putting.{written, length_within, left_in};

@@ -1,5 +1,7 @@
 // What the program `pbn` prints of its input: the table's number on the first line, then a text of Portable Bridge Notation. It prints the record's bytes as
 // they are; or the refusal's number, a space, its place and a newline.
+#![tactic(auto)]
+
 ghost use Rattle.std.specs.Prelude.{◌≡◌, length};
 ghost use Rattle.laws.specs.PbnReading.{parse};
 ghost use Rattle.laws.specs.Pbn.{pbn_outcome};

@@ -1,4 +1,6 @@
 // The slip of a table record: the items of Law 77 that make its score, a line each, and their sum; or the judge's refusal. C calls it by `judge_slip`.
+#![tactic(auto)]
+
 ghost use Rattle.std.specs.Prelude.{◌≡◌, ◌+◌, ◌≤◌, length};
 ghost use Rattle.laws.specs.Slip.{line, slip};
 ghost use Rattle.laws.specs.Writing.{number_of, record_left};

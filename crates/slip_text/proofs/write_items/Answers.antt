@@ -1,0 +1,13 @@
+-- `write_items` meets its contract. Assumes nothing.
+use Rattle.text.proofs.Puts.{local_length, taken-length, taken}
+use borrow.Author.Rules.{rules}
+use Rattle.slip_text.proofs.write_items.Goals as goal
+
+pub slice_bounds-text-end : goal.slice_bounds-text-end
+slice_bounds-text-end c = local_length _ _ _ _ c.put_items-n.ensures c.requires
+
+pub slice_bounds-lend-end : goal.slice_bounds-lend-end
+slice_bounds-lend-end c = taken-length _ _ _ _ c.put_items-n.ensures c.requires
+
+pub returns : goal.returns
+returns c = record { answer = rw (← taken _ _ _ _ c.put_items-n.ensures c.requires) c.lend.ensures.answer; bytes = rw (← taken _ _ _ _ c.put_items-n.ensures c.requires) c.lend.ensures.bytes }
