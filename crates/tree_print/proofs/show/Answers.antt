@@ -5,5 +5,5 @@ use Rattle.tree_print.proofs.show.Goals as goal
 pub slice_bounds-text-end : goal.slice_bounds-text-end
 slice_bounds-text-end g c = written-prefix _ _ _ _ _ c.write_tally.ensures.answer c.write_tally.ensures.bytes c.in-Written.is
 
-pub slice_bounds-write_all-end-in-Written : goal.slice_bounds-write_all-end-in-Written
-slice_bounds-write_all-end-in-Written g c = written-length _ _ _ _ _ c.write_tally.ensures.answer c.write_tally.ensures.bytes c.in-Written.is
+pub slice_bounds-write_all-end : goal.slice_bounds-write_all-end
+slice_bounds-write_all-end g c = written-length _ _ _ _ _ c.write_tally.ensures.answer c.write_tally.ensures.bytes c.in-Written.is
