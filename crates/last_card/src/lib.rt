@@ -1,4 +1,6 @@
 // A table record read up to its last card: its sections in order, each as the Laws' section of that name.
+#![tactic(auto)]
+
 mod cards;
 mod codes;
 mod plays;

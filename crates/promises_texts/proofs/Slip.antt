@@ -142,9 +142,9 @@ module _ (p : Parts) where
     ),
   )
 
-  in_order : Rising (map (λ (i : Item). place i.name) (items_of p))
+  rising : Rising (map (λ (i : Item). place i.name) (items_of p))
   unfolding items_of
-  in_order = rise pts in_order ordered
+  rising = rise pts in_order ordered
 
 -- ---- the text
 accepted-slip : (p : Parts) → Lawful p → slip (encode p) ≡ lines (items_of p) ++ line sum_word (score_of p)
@@ -161,7 +161,7 @@ of_record p ok =
     record {
       text = accepted-slip p ok;
       exactly = exact p;
-      in_order = in_order p;
+      in_order = rising p;
       adds_up = adds_up p;
       passed_out_lem = λ e. accepted-slip p ok ∙ out_text p e;
     }

@@ -12,6 +12,9 @@ returns-then-bytes-eq1 c = record { value = (stored_one _ _ _ c.if-bytes-eq1.tru
 
 pub returns : goal.returns
 returns c =
-    record { value = (stored_two _ _ _ (omega arith) c.narrow-2.ensures c.narrow-3.ensures c.store-next.ensures.value c.store-next.ensures.out_after
-    c.store-2.ensures.value c.store-2.ensures.out_after).0; out_after = (stored_two _ _ _ (omega arith) c.narrow-2.ensures c.narrow-3.ensures c.store-next.ensures.value c.store-next.ensures.out_after
-    c.store-2.ensures.value c.store-2.ensures.out_after).1 }
+    record {
+      value = (stored_two _ _ _ (omega arith) c.narrow-2.ensures c.narrow-3.ensures c.store-next.ensures.value c.store-next.ensures.out_after
+          c.store-2.ensures.value c.store-2.ensures.out_after).0;
+      out_after = (stored_two _ _ _ (omega arith) c.narrow-2.ensures c.narrow-3.ensures c.store-next.ensures.value c.store-next.ensures.out_after
+          c.store-2.ensures.value c.store-2.ensures.out_after).1;
+    }

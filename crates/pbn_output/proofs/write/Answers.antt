@@ -32,6 +32,9 @@ slice_bounds-write_text-start c = omega (arith, (end_within c.args.input.now c.i
 pub returns : goal.returns
 returns c =
     let s = c.args.input.now in
-    record { answer = rw (of-text s c.if-input-gt65536.false _ c.line_end-end.ensures c.if-end-input.false _ _ refl (rest-is (c.line_end-end.result + 1) s) _ c.table_on-table.ensures)
-    c.write_text.ensures.answer; bytes = rw (of-text s c.if-input-gt65536.false _ c.line_end-end.ensures c.if-end-input.false _ _ refl (rest-is (c.line_end-end.result + 1) s) _ c.table_on-table.ensures)
-    c.write_text.ensures.bytes }
+    record {
+      answer = rw (of-text s c.if-input-gt65536.false _ c.line_end-end.ensures c.if-end-input.false _ _ refl (rest-is (c.line_end-end.result + 1) s) _ c.table_on-table.ensures)
+          c.write_text.ensures.answer;
+      bytes = rw (of-text s c.if-input-gt65536.false _ c.line_end-end.ensures c.if-end-input.false _ _ refl (rest-is (c.line_end-end.result + 1) s) _ c.table_on-table.ensures)
+          c.write_text.ensures.bytes;
+    }

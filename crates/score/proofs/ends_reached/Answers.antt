@@ -31,7 +31,7 @@ loop-i-preserved c =
     let next = from_next size l.i (omega arith) in
     let end = c.lower_end.ensures in
     elim c.if-lower_end-size.branch [
-      then-lower_end-size w ↦ (omega arith, omega arith, omega (arith, rw (← end, le-leb _ _ w.if-lower_end-size.true) at next))
+      | then-lower_end-size w ↦ (omega arith, omega arith, omega (arith, rw (← end, le-leb _ _ w.if-lower_end-size.true) at next))
       | else-lower_end-size w ↦ (omega arith, omega arith, omega (arith, rw (← end, lt-leb _ _ w.if-lower_end-size.false) at next))
     ]
 

@@ -24,7 +24,7 @@ loop-i-preserved c =
     let n : length ts.answers ≡ 13 = search (rules, length_under) in
     let next = won_at ts n c.args.side l.i (omega arith) in
     elim c.if-won-side.branch [
-      then-won-side w ↦ (l.invariant.0, omega arith, omega (arith, rw (eq-eqb (seat_at ts n l.i % 2) c.args.side w.if-won-side.true) at next))
+      | then-won-side w ↦ (l.invariant.0, omega arith, omega (arith, rw (eq-eqb (seat_at ts n l.i % 2) c.args.side w.if-won-side.true) at next))
       | else-won-side w ↦ (l.invariant.0, omega arith, omega (arith, rw (ne_eqb (seat_at ts n l.i % 2) c.args.side w.if-won-side.false) at next))
     ]
 

@@ -36,19 +36,26 @@ write_contents-requires c = none-broken ((let a = c.args in given a.board a.tabl
 
 pub overflow_cast-result : goal.overflow_cast-result
 overflow_cast-result c =
-    omega (arith, (let h : c.length_of-size.result ≡ length (encode ((let a = c.args in parts_of a.board a.table a.holders.now a.calls.now a.plays.now a.marked a.claim))) = let a = c.args in
-    c.length_of-size.ensures
-    ∙ rw ((c.play_bits.ensures)) (size_is a.board a.table a.holders.now a.calls.now a.plays.now a.marked a.claim
-    (fits ((let a = c.args in given a.board a.table a.holders.now a.calls.now a.plays.now a.marked a.claim)) [] _ c.contents_refusal-number.ensures c.if-number-ne0.false)) in h), length-low ((let a = c.args in given a.board a.table a.holders.now a.calls.now a.plays.now a.marked a.claim)) [] _ c.contents_refusal-number.ensures c.if-number-ne0.false)
+    omega (
+      arith,
+      (let h : c.length_of-size.result ≡ length (encode ((let a = c.args in parts_of a.board a.table a.holders.now a.calls.now a.plays.now a.marked a.claim))) = let a = c.args in
+          c.length_of-size.ensures
+          ∙ rw ((c.play_bits.ensures)) (size_is a.board a.table a.holders.now a.calls.now a.plays.now a.marked a.claim
+          (fits ((let a = c.args in given a.board a.table a.holders.now a.calls.now a.plays.now a.marked a.claim)) [] _ c.contents_refusal-number.ensures c.if-number-ne0.false)) in h),
+      length-low ((let a = c.args in given a.board a.table a.holders.now a.calls.now a.plays.now a.marked a.claim)) [] _ c.contents_refusal-number.ensures c.if-number-ne0.false,
+    )
 
 pub returns : goal.returns
 returns c =
-    record { number = (record_written ((let a = c.args in given a.board a.table a.holders.now a.calls.now a.plays.now a.marked a.claim)) _ _ c.contents_refusal-number.ensures c.if-number-ne0.false _ ((let h : c.length_of-size.result ≡ length (encode ((let a = c.args in parts_of a.board a.table a.holders.now a.calls.now a.plays.now a.marked a.claim))) = let a = c.args in
-    c.length_of-size.ensures
-    ∙ rw ((c.play_bits.ensures)) (size_is a.board a.table a.holders.now a.calls.now a.plays.now a.marked a.claim
-    (fits ((let a = c.args in given a.board a.table a.holders.now a.calls.now a.plays.now a.marked a.claim)) [] _ c.contents_refusal-number.ensures c.if-number-ne0.false)) in h)) c.if-out-size.false _
-    c.write_contents.ensures).0; left = (record_written ((let a = c.args in given a.board a.table a.holders.now a.calls.now a.plays.now a.marked a.claim)) _ _ c.contents_refusal-number.ensures c.if-number-ne0.false _ ((let h : c.length_of-size.result ≡ length (encode ((let a = c.args in parts_of a.board a.table a.holders.now a.calls.now a.plays.now a.marked a.claim))) = let a = c.args in
-    c.length_of-size.ensures
-    ∙ rw ((c.play_bits.ensures)) (size_is a.board a.table a.holders.now a.calls.now a.plays.now a.marked a.claim
-    (fits ((let a = c.args in given a.board a.table a.holders.now a.calls.now a.plays.now a.marked a.claim)) [] _ c.contents_refusal-number.ensures c.if-number-ne0.false)) in h)) c.if-out-size.false _
-    c.write_contents.ensures).1 }
+    record {
+      number = (record_written ((let a = c.args in given a.board a.table a.holders.now a.calls.now a.plays.now a.marked a.claim)) _ _ c.contents_refusal-number.ensures c.if-number-ne0.false _ ((let h : c.length_of-size.result ≡ length (encode ((let a = c.args in parts_of a.board a.table a.holders.now a.calls.now a.plays.now a.marked a.claim))) = let a = c.args in
+          c.length_of-size.ensures
+          ∙ rw ((c.play_bits.ensures)) (size_is a.board a.table a.holders.now a.calls.now a.plays.now a.marked a.claim
+          (fits ((let a = c.args in given a.board a.table a.holders.now a.calls.now a.plays.now a.marked a.claim)) [] _ c.contents_refusal-number.ensures c.if-number-ne0.false)) in h)) c.if-out-size.false _
+          c.write_contents.ensures).0;
+      left = (record_written ((let a = c.args in given a.board a.table a.holders.now a.calls.now a.plays.now a.marked a.claim)) _ _ c.contents_refusal-number.ensures c.if-number-ne0.false _ ((let h : c.length_of-size.result ≡ length (encode ((let a = c.args in parts_of a.board a.table a.holders.now a.calls.now a.plays.now a.marked a.claim))) = let a = c.args in
+          c.length_of-size.ensures
+          ∙ rw ((c.play_bits.ensures)) (size_is a.board a.table a.holders.now a.calls.now a.plays.now a.marked a.claim
+          (fits ((let a = c.args in given a.board a.table a.holders.now a.calls.now a.plays.now a.marked a.claim)) [] _ c.contents_refusal-number.ensures c.if-number-ne0.false)) in h)) c.if-out-size.false _
+          c.write_contents.ensures).1;
+    }

@@ -121,9 +121,9 @@ loop-i-preserved c =
       omega (arith, inside),
       λ deal trump opening e o.
           card-goes deal trump opening a.plays.now e a.at (c.loop-i.invariant.2 deal trump opening e o) inside _ refl card _ (one-refusal _ _ _ ((let one : c.loop-i.i + 1 - c.loop-i.i ≡ 1 = omega arith in
-    rw one at c.take_run-run.ensures)))
+          rw one at c.take_run-run.ensures)))
           c.if-run-ne0.false _ (one_table c.loop-i.t _ c.with_play-t.ensures (one-plays _ _ _ ((let one : c.loop-i.i + 1 - c.loop-i.i ≡ 1 = omega arith in
-    rw one at c.take_run-run.ensures)) c.if-run-ne0.false)),
+          rw one at c.take_run-run.ensures)) c.if-run-ne0.false)),
     )
 
 pub returns : goal.returns

@@ -14,16 +14,21 @@ take_run-run-requires c = (omega arith, omega arith)
 
 pub bounds-plays-stop : goal.bounds-plays-stop
 bounds-plays-stop c =
-    omega (arith, (((let h : (let a = c.args in Ran a.plays.now a.deal a.trump a.opening c.take_run-run.result (length a.plays.now)) = let a = c.args in
-    run_is a.plays.now a.deal a.trump a.opening ((let h : length c.args.deal ≡ 52 = search rules in h)) _ _ c.take_run-run.ensures
-    (card-begins a.plays.now a.deal a.trump a.opening (rw c.requires.2 at c.new-first.ensures)) (omega arith) (omega arith) in h)).stopped c.if-run-ne0.true).0)
+    omega (
+      arith,
+      (((let h : (let a = c.args in Ran a.plays.now a.deal a.trump a.opening c.take_run-run.result (length a.plays.now)) = let a = c.args in
+          run_is a.plays.now a.deal a.trump a.opening ((let h : length c.args.deal ≡ 52 = search rules in h)) _ _ c.take_run-run.ensures
+          (card-begins a.plays.now a.deal a.trump a.opening (rw c.requires.2 at c.new-first.ensures)) (omega arith) (omega arith) in h)).stopped c.if-run-ne0.true).0,
+    )
 
 pub coded_refusal-requires : goal.coded_refusal-requires
 coded_refusal-requires c =
-    let p = c.requires in
-    (p.0, ((let h : (let a = c.args in Ran a.plays.now a.deal a.trump a.opening c.take_run-run.result (length a.plays.now)) = let a = c.args in
-    run_is a.plays.now a.deal a.trump a.opening ((let h : length c.args.deal ≡ 52 = search rules in h)) _ _ c.take_run-run.ensures
-    (card-begins a.plays.now a.deal a.trump a.opening (rw c.requires.2 at c.new-first.ensures)) (omega arith) (omega arith) in h)).there.count ∙ sym p.1)
+    let p = c.requires in (
+      p.0,
+      ((let h : (let a = c.args in Ran a.plays.now a.deal a.trump a.opening c.take_run-run.result (length a.plays.now)) = let a = c.args in
+          run_is a.plays.now a.deal a.trump a.opening ((let h : length c.args.deal ≡ 52 = search rules in h)) _ _ c.take_run-run.ensures
+          (card-begins a.plays.now a.deal a.trump a.opening (rw c.requires.2 at c.new-first.ensures)) (omega arith) (omega arith) in h)).there.count ∙ sym p.1,
+    )
 
 pub returns-then-begins_code : goal.returns-then-begins_code
 returns-then-begins_code c =
@@ -36,9 +41,17 @@ returns-then-begins_code c =
 
 pub overflow_cast-stop : goal.overflow_cast-stop
 overflow_cast-stop c =
-    omega (arith, (let h : c.take_run-run.result.place ≤ 52 = let p = c.requires in omega (arith, ((let h : (let a = c.args in Ran a.plays.now a.deal a.trump a.opening c.take_run-run.result (length a.plays.now)) = let a = c.args in
-    run_is a.plays.now a.deal a.trump a.opening ((let h : length c.args.deal ≡ 52 = search rules in h)) _ _ c.take_run-run.ensures
-    (card-begins a.plays.now a.deal a.trump a.opening (rw c.requires.2 at c.new-first.ensures)) (omega arith) (omega arith) in h)).there.count, p.0, p.1) in h))
+    omega (
+      arith,
+      (let h : c.take_run-run.result.place ≤ 52 = let p = c.requires in omega (
+        arith,
+        ((let h : (let a = c.args in Ran a.plays.now a.deal a.trump a.opening c.take_run-run.result (length a.plays.now)) = let a = c.args in
+            run_is a.plays.now a.deal a.trump a.opening ((let h : length c.args.deal ≡ 52 = search rules in h)) _ _ c.take_run-run.ensures
+            (card-begins a.plays.now a.deal a.trump a.opening (rw c.requires.2 at c.new-first.ensures)) (omega arith) (omega arith) in h)).there.count,
+        p.0,
+        p.1,
+      ) in h),
+    )
 
 pub returns-then-run-ne0 : goal.returns-then-run-ne0
 returns-then-run-ne0 c =
@@ -57,6 +70,9 @@ pub returns : goal.returns
 returns c =
     card_ends _ _ _ _ ((let h : (let a = c.args in Ran a.plays.now a.deal a.trump a.opening c.take_run-run.result (length a.plays.now)) = let a = c.args in
     run_is a.plays.now a.deal a.trump a.opening ((let h : length c.args.deal ≡ 52 = search rules in h)) _ _ c.take_run-run.ensures
-    (card-begins a.plays.now a.deal a.trump a.opening (rw c.requires.2 at c.new-first.ensures)) (omega arith) (omega arith) in h)).there (omega (arith, ((let h : (let a = c.args in Ran a.plays.now a.deal a.trump a.opening c.take_run-run.result (length a.plays.now)) = let a = c.args in
-    run_is a.plays.now a.deal a.trump a.opening ((let h : length c.args.deal ≡ 52 = search rules in h)) _ _ c.take_run-run.ensures
-    (card-begins a.plays.now a.deal a.trump a.opening (rw c.requires.2 at c.new-first.ensures)) (omega arith) (omega arith) in h)).all-played c.if-run-ne0.false))
+    (card-begins a.plays.now a.deal a.trump a.opening (rw c.requires.2 at c.new-first.ensures)) (omega arith) (omega arith) in h)).there (omega (
+      arith,
+      ((let h : (let a = c.args in Ran a.plays.now a.deal a.trump a.opening c.take_run-run.result (length a.plays.now)) = let a = c.args in
+          run_is a.plays.now a.deal a.trump a.opening ((let h : length c.args.deal ≡ 52 = search rules in h)) _ _ c.take_run-run.ensures
+          (card-begins a.plays.now a.deal a.trump a.opening (rw c.requires.2 at c.new-first.ensures)) (omega arith) (omega arith) in h)).all-played c.if-run-ne0.false,
+    ))

@@ -9,8 +9,7 @@ returns-then-code-eq52 c = λ deal trump opening e place rest o room card. rw c.
 
 pub returns : goal.returns
 returns c =
-    λ deal trump opening e place rest o room card.
-    (
+    λ deal trump opening e place rest o room card. (
       chosen_number deal trump opening e _ place o rest room card _ _ _ c.if-code-eq52.false _ c.choice_refusal-refusal.ensures,
       λ z. chosen_after deal trump opening e _ place o rest room card _ _ _ c.if-code-eq52.false _ c.choose-after.ensures,
     )

@@ -22,12 +22,12 @@ returns-then-bytes-at-2 c =
 pub returns-in_default : goal.returns-in_default
 returns-in_default c =
     absurd (omega (
-  arith,
-  short-is c.args.bytes.now
-      c.args.at (8 - c.args.at % 8)
-      (omega arith) (sym c.read.ensures ∙ ap field_answer c.in_default.is),
-  c.if-bytes-at-2.false,
-))
+      arith,
+      short-is c.args.bytes.now
+          c.args.at (8 - c.args.at % 8)
+          (omega arith) (sym c.read.ensures ∙ ap field_answer c.in_default.is),
+      c.if-bytes-at-2.false,
+    ))
 
 pub returns : goal.returns
 returns c =

@@ -26,10 +26,10 @@ overflow_sub-size c = rw (to_z-of_z c.ranges.score, +ℤ_idl) (small c.args.scor
 pub overflow_cast-size : goal.overflow_cast-size
 overflow_cast-size c =
     rw (to_z-of_z c.ranges.score, +ℤ_idl, to_z-of_z (small c.args.score c.requires)) (
-  down-non_neg c.args.score
-      (rw (to_z-of_z c.ranges.score) at c.if-score-ge0.false),
-  record { fits = omega (arith, size_neg c.args.score, c.requires) },
-)
+      down-non_neg c.args.score
+          (rw (to_z-of_z c.ranges.score) at c.if-score-ge0.false),
+      record { fits = omega (arith, size_neg c.args.score, c.requires) },
+    )
 
 pub returns-then-size-gt65536 : goal.returns-then-size-gt65536
 returns-then-size-gt65536 c =

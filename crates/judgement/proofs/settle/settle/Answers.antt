@@ -12,14 +12,14 @@ use Rattle.judgement.proofs.settle.settle.Goals as goal
 pub declarer_score-requires : goal.declarer_score-requires
 declarer_score-requires c =
     omega (
-  arith,
-  c.tricks_after-after.ensures,
-  after-le c.args.k.declarer
-      (revokes_in c.args.rs) c.won-taken.result
-      c.transferred-moved.result,
-  c.won-taken.type_inv,
-  c.transferred-moved.type_inv,
-)
+      arith,
+      c.tricks_after-after.ensures,
+      after-le c.args.k.declarer
+          (revokes_in c.args.rs) c.won-taken.result
+          c.transferred-moved.result,
+      c.won-taken.type_inv,
+      c.transferred-moved.type_inv,
+    )
 
 pub ns_score-score-requires : goal.ns_score-score-requires
 ns_score-score-requires c = rw (read_small c.declarer_score.result c.declarer_score.ensures.1) c.declarer_score.ensures.1
@@ -28,8 +28,7 @@ pub score_word-word-requires : goal.score_word-word-requires
 score_word-word-requires c = rw (read_small c.ns_score-score.result c.ns_score-score.ensures.1) c.ns_score-score.ensures.1
 
 pub contract_bits-requires : goal.contract_bits-requires
-contract_bits-requires c =
-    (
+contract_bits-requires c = (
   omega (
     arith,
     c.tricks_after-after.ensures,

@@ -19,11 +19,15 @@ read_run-run-requires c =
 
 pub read_plays-requires : goal.read_plays-requires
 read_plays-requires c =
-    let n = (let h : (c.read_run-run.result.refusal ≡ 0 → ⊥) → c.read_run-run.result.place < c.args.count = λ z. omega (arith, (((let h : (let a = c.args in
-    Ran a.bytes.now a.deal a.trump a.opening a.at a.count c.read_run-run.result c.whole_codes-whole.result) = let a = c.args in
-    run_is a.bytes.now a.deal a.trump a.opening a.at a.count ((let h : length c.args.deal ≡ 52 = search rules in h)) _ _ c.read_run-run.ensures
-    (card-begins a.bytes.now a.deal a.trump a.opening a.at a.count (rw c.requires.3 at c.new-first.ensures))
-    (omega arith) (omega (arith, (c.whole_codes-whole.ensures))) (omega (arith, (c.whole_codes-whole.ensures))) in h)).stopped z).0, (c.whole_codes-whole.ensures)) in h) c.if-run-ne0.true in
+    let n = (let h : (c.read_run-run.result.refusal ≡ 0 → ⊥) → c.read_run-run.result.place < c.args.count = λ z. omega (
+      arith,
+      (((let h : (let a = c.args in
+          Ran a.bytes.now a.deal a.trump a.opening a.at a.count c.read_run-run.result c.whole_codes-whole.result) = let a = c.args in
+          run_is a.bytes.now a.deal a.trump a.opening a.at a.count ((let h : length c.args.deal ≡ 52 = search rules in h)) _ _ c.read_run-run.ensures
+          (card-begins a.bytes.now a.deal a.trump a.opening a.at a.count (rw c.requires.3 at c.new-first.ensures))
+          (omega arith) (omega (arith, (c.whole_codes-whole.ensures))) (omega (arith, (c.whole_codes-whole.ensures))) in h)).stopped z).0,
+      (c.whole_codes-whole.ensures),
+    ) in h) c.if-run-ne0.true in
     let along = ((let h : (let a = c.args in
     Ran a.bytes.now a.deal a.trump a.opening a.at a.count c.read_run-run.result c.whole_codes-whole.result) = let a = c.args in
     run_is a.bytes.now a.deal a.trump a.opening a.at a.count ((let h : length c.args.deal ≡ 52 = search rules in h)) _ _ c.read_run-run.ensures
@@ -33,11 +37,15 @@ read_plays-requires c =
 
 pub returns-then-begins_code : goal.returns-then-begins_code
 returns-then-begins_code c =
-    let n = (let h : (c.read_run-run.result.refusal ≡ 0 → ⊥) → c.read_run-run.result.place < c.args.count = λ z. omega (arith, (((let h : (let a = c.args in
-    Ran a.bytes.now a.deal a.trump a.opening a.at a.count c.read_run-run.result c.whole_codes-whole.result) = let a = c.args in
-    run_is a.bytes.now a.deal a.trump a.opening a.at a.count ((let h : length c.args.deal ≡ 52 = search rules in h)) _ _ c.read_run-run.ensures
-    (card-begins a.bytes.now a.deal a.trump a.opening a.at a.count (rw c.requires.3 at c.new-first.ensures))
-    (omega arith) (omega (arith, (c.whole_codes-whole.ensures))) (omega (arith, (c.whole_codes-whole.ensures))) in h)).stopped z).0, (c.whole_codes-whole.ensures)) in h) c.if-run-ne0.true in
+    let n = (let h : (c.read_run-run.result.refusal ≡ 0 → ⊥) → c.read_run-run.result.place < c.args.count = λ z. omega (
+      arith,
+      (((let h : (let a = c.args in
+          Ran a.bytes.now a.deal a.trump a.opening a.at a.count c.read_run-run.result c.whole_codes-whole.result) = let a = c.args in
+          run_is a.bytes.now a.deal a.trump a.opening a.at a.count ((let h : length c.args.deal ≡ 52 = search rules in h)) _ _ c.read_run-run.ensures
+          (card-begins a.bytes.now a.deal a.trump a.opening a.at a.count (rw c.requires.3 at c.new-first.ensures))
+          (omega arith) (omega (arith, (c.whole_codes-whole.ensures))) (omega (arith, (c.whole_codes-whole.ensures))) in h)).stopped z).0,
+      (c.whole_codes-whole.ensures),
+    ) in h) c.if-run-ne0.true in
     c.read_plays.ensures _ _ _ _ (of-cards _ _ _ _ _ _ ((let h : (let a = c.args in
     Ran a.bytes.now a.deal a.trump a.opening a.at a.count c.read_run-run.result c.whole_codes-whole.result) = let a = c.args in
     run_is a.bytes.now a.deal a.trump a.opening a.at a.count ((let h : length c.args.deal ≡ 52 = search rules in h)) _ _ c.read_run-run.ensures
@@ -51,11 +59,15 @@ returns-then-begins_code c =
 
 pub overflow_cast-run : goal.overflow_cast-run
 overflow_cast-run c =
-    omega (arith, ((let h : (let a = c.args in
-    Ran a.bytes.now a.deal a.trump a.opening a.at a.count c.read_run-run.result c.whole_codes-whole.result) = let a = c.args in
-    run_is a.bytes.now a.deal a.trump a.opening a.at a.count ((let h : length c.args.deal ≡ 52 = search rules in h)) _ _ c.read_run-run.ensures
-    (card-begins a.bytes.now a.deal a.trump a.opening a.at a.count (rw c.requires.3 at c.new-first.ensures))
-    (omega arith) (omega (arith, (c.whole_codes-whole.ensures))) (omega (arith, (c.whole_codes-whole.ensures))) in h)).there.few, c.requires.2)
+    omega (
+      arith,
+      ((let h : (let a = c.args in
+          Ran a.bytes.now a.deal a.trump a.opening a.at a.count c.read_run-run.result c.whole_codes-whole.result) = let a = c.args in
+          run_is a.bytes.now a.deal a.trump a.opening a.at a.count ((let h : length c.args.deal ≡ 52 = search rules in h)) _ _ c.read_run-run.ensures
+          (card-begins a.bytes.now a.deal a.trump a.opening a.at a.count (rw c.requires.3 at c.new-first.ensures))
+          (omega arith) (omega (arith, (c.whole_codes-whole.ensures))) (omega (arith, (c.whole_codes-whole.ensures))) in h)).there.few,
+      c.requires.2,
+    )
 
 pub returns-then-run-ne0 : goal.returns-then-run-ne0
 returns-then-run-ne0 c =
@@ -65,11 +77,15 @@ returns-then-run-ne0 c =
     Ran a.bytes.now a.deal a.trump a.opening a.at a.count c.read_run-run.result c.whole_codes-whole.result) = let a = c.args in
     run_is a.bytes.now a.deal a.trump a.opening a.at a.count ((let h : length c.args.deal ≡ 52 = search rules in h)) _ _ c.read_run-run.ensures
     (card-begins a.bytes.now a.deal a.trump a.opening a.at a.count (rw c.requires.3 at c.new-first.ensures))
-    (omega arith) (omega (arith, (c.whole_codes-whole.ensures))) (omega (arith, (c.whole_codes-whole.ensures))) in h)).there ((let h : (c.read_run-run.result.refusal ≡ 0 → ⊥) → c.read_run-run.result.place < c.args.count = λ z. omega (arith, (((let h : (let a = c.args in
-    Ran a.bytes.now a.deal a.trump a.opening a.at a.count c.read_run-run.result c.whole_codes-whole.result) = let a = c.args in
-    run_is a.bytes.now a.deal a.trump a.opening a.at a.count ((let h : length c.args.deal ≡ 52 = search rules in h)) _ _ c.read_run-run.ensures
-    (card-begins a.bytes.now a.deal a.trump a.opening a.at a.count (rw c.requires.3 at c.new-first.ensures))
-    (omega arith) (omega (arith, (c.whole_codes-whole.ensures))) (omega (arith, (c.whole_codes-whole.ensures))) in h)).stopped z).0, (c.whole_codes-whole.ensures)) in h) z) ((let h : length c.args.deal ≡ 52 = search rules in h)) ((let h : (c.read_run-run.result.refusal ≡ 0 → ⊥)
+    (omega arith) (omega (arith, (c.whole_codes-whole.ensures))) (omega (arith, (c.whole_codes-whole.ensures))) in h)).there ((let h : (c.read_run-run.result.refusal ≡ 0 → ⊥) → c.read_run-run.result.place < c.args.count = λ z. omega (
+      arith,
+      (((let h : (let a = c.args in
+          Ran a.bytes.now a.deal a.trump a.opening a.at a.count c.read_run-run.result c.whole_codes-whole.result) = let a = c.args in
+          run_is a.bytes.now a.deal a.trump a.opening a.at a.count ((let h : length c.args.deal ≡ 52 = search rules in h)) _ _ c.read_run-run.ensures
+          (card-begins a.bytes.now a.deal a.trump a.opening a.at a.count (rw c.requires.3 at c.new-first.ensures))
+          (omega arith) (omega (arith, (c.whole_codes-whole.ensures))) (omega (arith, (c.whole_codes-whole.ensures))) in h)).stopped z).0,
+      (c.whole_codes-whole.ensures),
+    ) in h) z) ((let h : length c.args.deal ≡ 52 = search rules in h)) ((let h : (c.read_run-run.result.refusal ≡ 0 → ⊥)
     → (let r = c.read_run-run.result in read 6 c.args.bytes.now r.next ≡ found r.code (r.next + 6)) = λ z. let a = c.args in
     let inside = whole_in (length a.bytes.now) a.at a.count ((c.whole_codes-whole.ensures)) c.read_run-run.result.place (((let h : (let a = c.args in
     Ran a.bytes.now a.deal a.trump a.opening a.at a.count c.read_run-run.result c.whole_codes-whole.result) = let a = c.args in
@@ -80,11 +96,15 @@ returns-then-run-ne0 c =
     Ran a.bytes.now a.deal a.trump a.opening a.at a.count c.read_run-run.result c.whole_codes-whole.result) = let a = c.args in
     run_is a.bytes.now a.deal a.trump a.opening a.at a.count ((let h : length c.args.deal ≡ 52 = search rules in h)) _ _ c.read_run-run.ensures
     (card-begins a.bytes.now a.deal a.trump a.opening a.at a.count (rw c.requires.3 at c.new-first.ensures))
-    (omega arith) (omega (arith, (c.whole_codes-whole.ensures))) (omega (arith, (c.whole_codes-whole.ensures))) in h)).stopped z).1) (omega (arith, ((let h : (let a = c.args in
-    Ran a.bytes.now a.deal a.trump a.opening a.at a.count c.read_run-run.result c.whole_codes-whole.result) = let a = c.args in
-    run_is a.bytes.now a.deal a.trump a.opening a.at a.count ((let h : length c.args.deal ≡ 52 = search rules in h)) _ _ c.read_run-run.ensures
-    (card-begins a.bytes.now a.deal a.trump a.opening a.at a.count (rw c.requires.3 at c.new-first.ensures))
-    (omega arith) (omega (arith, (c.whole_codes-whole.ensures))) (omega (arith, (c.whole_codes-whole.ensures))) in h)).there.along, inside)) in h) z) (((let h : (let a = c.args in
+    (omega arith) (omega (arith, (c.whole_codes-whole.ensures))) (omega (arith, (c.whole_codes-whole.ensures))) in h)).stopped z).1) (omega (
+      arith,
+      ((let h : (let a = c.args in
+          Ran a.bytes.now a.deal a.trump a.opening a.at a.count c.read_run-run.result c.whole_codes-whole.result) = let a = c.args in
+          run_is a.bytes.now a.deal a.trump a.opening a.at a.count ((let h : length c.args.deal ≡ 52 = search rules in h)) _ _ c.read_run-run.ensures
+          (card-begins a.bytes.now a.deal a.trump a.opening a.at a.count (rw c.requires.3 at c.new-first.ensures))
+          (omega arith) (omega (arith, (c.whole_codes-whole.ensures))) (omega (arith, (c.whole_codes-whole.ensures))) in h)).there.along,
+      inside,
+    )) in h) z) (((let h : (let a = c.args in
     Ran a.bytes.now a.deal a.trump a.opening a.at a.count c.read_run-run.result c.whole_codes-whole.result) = let a = c.args in
     run_is a.bytes.now a.deal a.trump a.opening a.at a.count ((let h : length c.args.deal ≡ 52 = search rules in h)) _ _ c.read_run-run.ensures
     (card-begins a.bytes.now a.deal a.trump a.opening a.at a.count (rw c.requires.3 at c.new-first.ensures))
@@ -105,11 +125,16 @@ returns-then-whole-count c =
     Ran a.bytes.now a.deal a.trump a.opening a.at a.count c.read_run-run.result c.whole_codes-whole.result) = let a = c.args in
     run_is a.bytes.now a.deal a.trump a.opening a.at a.count ((let h : length c.args.deal ≡ 52 = search rules in h)) _ _ c.read_run-run.ensures
     (card-begins a.bytes.now a.deal a.trump a.opening a.at a.count (rw c.requires.3 at c.new-first.ensures))
-    (omega arith) (omega (arith, (c.whole_codes-whole.ensures))) (omega (arith, (c.whole_codes-whole.ensures))) in h)).there (omega (arith, last, c.if-whole-count.true)) (code_short _ _ (omega (arith, ((let h : (let a = c.args in
-    Ran a.bytes.now a.deal a.trump a.opening a.at a.count c.read_run-run.result c.whole_codes-whole.result) = let a = c.args in
-    run_is a.bytes.now a.deal a.trump a.opening a.at a.count ((let h : length c.args.deal ≡ 52 = search rules in h)) _ _ c.read_run-run.ensures
-    (card-begins a.bytes.now a.deal a.trump a.opening a.at a.count (rw c.requires.3 at c.new-first.ensures))
-    (omega arith) (omega (arith, (c.whole_codes-whole.ensures))) (omega (arith, (c.whole_codes-whole.ensures))) in h)).there.along, last, out)))
+    (omega arith) (omega (arith, (c.whole_codes-whole.ensures))) (omega (arith, (c.whole_codes-whole.ensures))) in h)).there (omega (arith, last, c.if-whole-count.true)) (code_short _ _ (omega (
+      arith,
+      ((let h : (let a = c.args in
+          Ran a.bytes.now a.deal a.trump a.opening a.at a.count c.read_run-run.result c.whole_codes-whole.result) = let a = c.args in
+          run_is a.bytes.now a.deal a.trump a.opening a.at a.count ((let h : length c.args.deal ≡ 52 = search rules in h)) _ _ c.read_run-run.ensures
+          (card-begins a.bytes.now a.deal a.trump a.opening a.at a.count (rw c.requires.3 at c.new-first.ensures))
+          (omega arith) (omega (arith, (c.whole_codes-whole.ensures))) (omega (arith, (c.whole_codes-whole.ensures))) in h)).there.along,
+      last,
+      out,
+    )))
 
 pub returns : goal.returns
 returns c =
@@ -117,8 +142,12 @@ returns c =
     Ran a.bytes.now a.deal a.trump a.opening a.at a.count c.read_run-run.result c.whole_codes-whole.result) = let a = c.args in
     run_is a.bytes.now a.deal a.trump a.opening a.at a.count ((let h : length c.args.deal ≡ 52 = search rules in h)) _ _ c.read_run-run.ensures
     (card-begins a.bytes.now a.deal a.trump a.opening a.at a.count (rw c.requires.3 at c.new-first.ensures))
-    (omega arith) (omega (arith, (c.whole_codes-whole.ensures))) (omega (arith, (c.whole_codes-whole.ensures))) in h)).there (omega (arith, ((let h : (let a = c.args in
-    Ran a.bytes.now a.deal a.trump a.opening a.at a.count c.read_run-run.result c.whole_codes-whole.result) = let a = c.args in
-    run_is a.bytes.now a.deal a.trump a.opening a.at a.count ((let h : length c.args.deal ≡ 52 = search rules in h)) _ _ c.read_run-run.ensures
-    (card-begins a.bytes.now a.deal a.trump a.opening a.at a.count (rw c.requires.3 at c.new-first.ensures))
-    (omega arith) (omega (arith, (c.whole_codes-whole.ensures))) (omega (arith, (c.whole_codes-whole.ensures))) in h)).all-played c.if-run-ne0.false, c.if-whole-count.false)) _ c.after_cards-after.ensures
+    (omega arith) (omega (arith, (c.whole_codes-whole.ensures))) (omega (arith, (c.whole_codes-whole.ensures))) in h)).there (omega (
+      arith,
+      ((let h : (let a = c.args in
+          Ran a.bytes.now a.deal a.trump a.opening a.at a.count c.read_run-run.result c.whole_codes-whole.result) = let a = c.args in
+          run_is a.bytes.now a.deal a.trump a.opening a.at a.count ((let h : length c.args.deal ≡ 52 = search rules in h)) _ _ c.read_run-run.ensures
+          (card-begins a.bytes.now a.deal a.trump a.opening a.at a.count (rw c.requires.3 at c.new-first.ensures))
+          (omega arith) (omega (arith, (c.whole_codes-whole.ensures))) (omega (arith, (c.whole_codes-whole.ensures))) in h)).all-played c.if-run-ne0.false,
+      c.if-whole-count.false,
+    )) _ c.after_cards-after.ensures

@@ -15,14 +15,20 @@ use Rattle.last_card.proofs.plays.read_choice.Goals as goal
 pub returns-in_default : goal.returns-in_default
 returns-in_default c =
     let a = c.args in
-    record { counted = λ z. let e = ap (λ (x : Cards). x.refusal) c.no_cards.ensures in absurd (omega (arith, e, z)); law = λ deal trump opening e o. c.no_cards.ensures ∙ kind_short deal trump opening e _ _ o _ _
-          (short_stops a.bytes.now a.at 2 (lit≤ tt) (sym c.read.ensures ∙ ap field_answer c.in_default.is)) }
+    record {
+      counted = λ z. let e = ap (λ (x : Cards). x.refusal) c.no_cards.ensures in absurd (omega (arith, e, z));
+      law = λ deal trump opening e o. c.no_cards.ensures ∙ kind_short deal trump opening e _ _ o _ _
+          (short_stops a.bytes.now a.at 2 (lit≤ tt) (sym c.read.ensures ∙ ap field_answer c.in_default.is));
+    }
 
 pub returns-in_default-read : goal.returns-in_default-read
 returns-in_default-read c =
     let a = c.args in
-    record { counted = λ z. let e = ap (λ (x : Cards). x.refusal) c.no_cards-in_default-read.ensures in absurd (omega (arith, e, z)); law = λ deal trump opening e o. c.no_cards-in_default-read.ensures ∙ suit-short deal trump opening e _ _ o _ _ _ ((let h : (let a = c.args in read 2 a.bytes.now a.at ≡ found c.in-Value.kind (a.at + 2)) = value-reads _ c.args.at 2 (sym c.read.ensures ∙ ap field_answer c.in-Value.is) in h))
-          (short_stops a.bytes.now (a.at + 2) 2 (lit≤ tt) (sym c.read-2.ensures ∙ ap field_answer c.in_default-read.is)) }
+    record {
+      counted = λ z. let e = ap (λ (x : Cards). x.refusal) c.no_cards-in_default-read.ensures in absurd (omega (arith, e, z));
+      law = λ deal trump opening e o. c.no_cards-in_default-read.ensures ∙ suit-short deal trump opening e _ _ o _ _ _ ((let h : (let a = c.args in read 2 a.bytes.now a.at ≡ found c.in-Value.kind (a.at + 2)) = value-reads _ c.args.at 2 (sym c.read.ensures ∙ ap field_answer c.in-Value.is) in h))
+          (short_stops a.bytes.now (a.at + 2) 2 (lit≤ tt) (sym c.read-2.ensures ∙ ap field_answer c.in_default-read.is));
+    }
 
 pub narrow-chosen-requires : goal.narrow-chosen-requires
 narrow-chosen-requires c =
@@ -36,16 +42,22 @@ narrow-named-requires c =
 
 pub returns-then-f-ne0 : goal.returns-then-f-ne0
 returns-then-f-ne0 c =
-    record { counted = λ z. let e = ap (λ (x : Cards). x.refusal) c.no_cards-then-f-ne0.ensures in absurd (c.if-f-ne0.true (omega (arith, e, z))); law = λ deal trump opening e o. c.no_cards-then-f-ne0.ensures ∙ choice_stops deal trump opening e _ _ o _ _ _ ((let h : (let a = c.args in read 2 a.bytes.now a.at ≡ found c.in-Value.kind (a.at + 2)) = value-reads _ c.args.at 2 (sym c.read.ensures ∙ ap field_answer c.in-Value.is) in h)) _ ((let h : (let a = c.args in
-    read 2 a.bytes.now (a.at + 2) ≡ found c.in-Value-read.suit (a.at + 2 + 2)) = value-reads _ (c.args.at + 2) 2 (sym c.read-2.ensures ∙ ap field_answer c.in-Value-read.is) in h)) _
-          (rw (c.narrow-chosen.ensures, c.narrow-named.ensures) at c.choice_refusal-f.ensures) c.if-f-ne0.true }
+    record {
+      counted = λ z. let e = ap (λ (x : Cards). x.refusal) c.no_cards-then-f-ne0.ensures in absurd (c.if-f-ne0.true (omega (arith, e, z)));
+      law = λ deal trump opening e o. c.no_cards-then-f-ne0.ensures ∙ choice_stops deal trump opening e _ _ o _ _ _ ((let h : (let a = c.args in read 2 a.bytes.now a.at ≡ found c.in-Value.kind (a.at + 2)) = value-reads _ c.args.at 2 (sym c.read.ensures ∙ ap field_answer c.in-Value.is) in h)) _ ((let h : (let a = c.args in
+          read 2 a.bytes.now (a.at + 2) ≡ found c.in-Value-read.suit (a.at + 2 + 2)) = value-reads _ (c.args.at + 2) 2 (sym c.read-2.ensures ∙ ap field_answer c.in-Value-read.is) in h)) _
+          (rw (c.narrow-chosen.ensures, c.narrow-named.ensures) at c.choice_refusal-f.ensures) c.if-f-ne0.true;
+    }
 
 pub overflow_add-result : goal.overflow_add-result
 overflow_add-result c = omega (arith, c.requires)
 
 pub returns : goal.returns
 returns c =
-    record { counted = λ z. (choice-counts _ _ _ c.choose-after.ensures, omega arith, omega arith); law = λ deal trump opening e o. choice-goes deal trump opening e _ _ o _ _ _ ((let h : (let a = c.args in read 2 a.bytes.now a.at ≡ found c.in-Value.kind (a.at + 2)) = value-reads _ c.args.at 2 (sym c.read.ensures ∙ ap field_answer c.in-Value.is) in h)) _ ((let h : (let a = c.args in
-    read 2 a.bytes.now (a.at + 2) ≡ found c.in-Value-read.suit (a.at + 2 + 2)) = value-reads _ (c.args.at + 2) 2 (sym c.read-2.ensures ∙ ap field_answer c.in-Value-read.is) in h)) _
+    record {
+      counted = λ z. (choice-counts _ _ _ c.choose-after.ensures, omega arith, omega arith);
+      law = λ deal trump opening e o. choice-goes deal trump opening e _ _ o _ _ _ ((let h : (let a = c.args in read 2 a.bytes.now a.at ≡ found c.in-Value.kind (a.at + 2)) = value-reads _ c.args.at 2 (sym c.read.ensures ∙ ap field_answer c.in-Value.is) in h)) _ ((let h : (let a = c.args in
+          read 2 a.bytes.now (a.at + 2) ≡ found c.in-Value-read.suit (a.at + 2 + 2)) = value-reads _ (c.args.at + 2) 2 (sym c.read-2.ensures ∙ ap field_answer c.in-Value-read.is) in h)) _
           (rw (c.narrow-chosen.ensures, c.narrow-named.ensures) at c.choice_refusal-f.ensures) c.if-f-ne0.false _
-          (rw (c.narrow-chosen.ensures, c.narrow-named.ensures) at c.choose-after.ensures) }
+          (rw (c.narrow-chosen.ensures, c.narrow-named.ensures) at c.choose-after.ensures);
+    }

@@ -81,8 +81,11 @@ read_run-run-requires c =
       omega (arith, c.loop-i.invariant.1, c.requires.0),
       omega arith,
       omega (arith, more, c.requires.2),
-      omega (arith, ((let h : (let b = c.args.bytes.now in
-    (c.in-Value.code ≡ number_at b c.loop-i.here 6) × (c.loop-i.here + 6 ≤ 8 * length b)) = value-is _ c.loop-i.here 6 (sym c.read.ensures ∙ ap field_answer c.in-Value.is) in h)).1),
+      omega (
+        arith,
+        ((let h : (let b = c.args.bytes.now in
+            (c.in-Value.code ≡ number_at b c.loop-i.here 6) × (c.loop-i.here + 6 ≤ 8 * length b)) = value-is _ c.loop-i.here 6 (sym c.read.ensures ∙ ap field_answer c.in-Value.is) in h)).1,
+      ),
     )
 
 pub returns-then-run-ne0 : goal.returns-then-run-ne0
@@ -103,29 +106,38 @@ overflow_add-i-else-begins_code c = omega (arith, c.loop-i-test.true, c.requires
 
 pub loop-i-smaller : goal.loop-i-smaller
 loop-i-smaller c =
-    omega (arith, same_codes _ _ ((let h : (c.with_play-t.result ≡ after_play c.loop-i.t c.in-Value.code) = one_table c.loop-i.t _ (rw c.narrow-c.ensures at c.with_play-t.ensures)
-    (one-plays _ _ _ _ ((let h : (c.read_run-run.result ≡ run_of c.args.bytes.now c.loop-i.t.play c.loop-i.here c.loop-i.i 1) = let one : c.loop-i.i + 1 - c.loop-i.i ≡ 1 = omega arith in
-    rw one at c.read_run-run.ensures in h)) ((let h : (let b = c.args.bytes.now in
-    (c.in-Value.code ≡ number_at b c.loop-i.here 6) × (c.loop-i.here + 6 ≤ 8 * length b)) = value-is _ c.loop-i.here 6 (sym c.read.ensures ∙ ap field_answer c.in-Value.is) in h)).0 c.if-run-ne0.false) in h)), c.loop-i-test.true)
+    omega (
+      arith,
+      same_codes _ _ ((let h : (c.with_play-t.result ≡ after_play c.loop-i.t c.in-Value.code) = one_table c.loop-i.t _ (rw c.narrow-c.ensures at c.with_play-t.ensures)
+          (one-plays _ _ _ _ ((let h : (c.read_run-run.result ≡ run_of c.args.bytes.now c.loop-i.t.play c.loop-i.here c.loop-i.i 1) = let one : c.loop-i.i + 1 - c.loop-i.i ≡ 1 = omega arith in
+          rw one at c.read_run-run.ensures in h)) ((let h : (let b = c.args.bytes.now in
+          (c.in-Value.code ≡ number_at b c.loop-i.here 6) × (c.loop-i.here + 6 ≤ 8 * length b)) = value-is _ c.loop-i.here 6 (sym c.read.ensures ∙ ap field_answer c.in-Value.is) in h)).0 c.if-run-ne0.false) in h)),
+      c.loop-i-test.true,
+    )
 
 pub loop-i-preserved : goal.loop-i-preserved
 loop-i-preserved c =
     let a = c.args in
     let more = c.loop-i-test.true in (
       omega (arith, more),
-      omega (arith, c.loop-i.invariant.1, same_codes _ _ ((let h : (c.with_play-t.result ≡ after_play c.loop-i.t c.in-Value.code) = one_table c.loop-i.t _ (rw c.narrow-c.ensures at c.with_play-t.ensures)
-    (one-plays _ _ _ _ ((let h : (c.read_run-run.result ≡ run_of c.args.bytes.now c.loop-i.t.play c.loop-i.here c.loop-i.i 1) = let one : c.loop-i.i + 1 - c.loop-i.i ≡ 1 = omega arith in
-    rw one at c.read_run-run.ensures in h)) ((let h : (let b = c.args.bytes.now in
-    (c.in-Value.code ≡ number_at b c.loop-i.here 6) × (c.loop-i.here + 6 ≤ 8 * length b)) = value-is _ c.loop-i.here 6 (sym c.read.ensures ∙ ap field_answer c.in-Value.is) in h)).0 c.if-run-ne0.false) in h)), more),
+      omega (
+        arith,
+        c.loop-i.invariant.1,
+        same_codes _ _ ((let h : (c.with_play-t.result ≡ after_play c.loop-i.t c.in-Value.code) = one_table c.loop-i.t _ (rw c.narrow-c.ensures at c.with_play-t.ensures)
+            (one-plays _ _ _ _ ((let h : (c.read_run-run.result ≡ run_of c.args.bytes.now c.loop-i.t.play c.loop-i.here c.loop-i.i 1) = let one : c.loop-i.i + 1 - c.loop-i.i ≡ 1 = omega arith in
+            rw one at c.read_run-run.ensures in h)) ((let h : (let b = c.args.bytes.now in
+            (c.in-Value.code ≡ number_at b c.loop-i.here 6) × (c.loop-i.here + 6 ≤ 8 * length b)) = value-is _ c.loop-i.here 6 (sym c.read.ensures ∙ ap field_answer c.in-Value.is) in h)).0 c.if-run-ne0.false) in h)),
+        more,
+      ),
       λ deal trump opening e o.
           card-goes deal trump opening a.bytes.now a.count e a.at (c.loop-i.invariant.2 deal trump opening e o) c.requires.2 more _ ((let h : read 6 c.args.bytes.now c.loop-i.here ≡ found c.in-Value.code (c.loop-i.here + 6) = value-reads _ c.loop-i.here 6 (sym c.read.ensures ∙ ap field_answer c.in-Value.is) in h))
           (rw c.narrow-c.ensures at (sym c.begins_code.ensures ∙ c.if-begins_code.false)) _
           ((let h : (c.read_run-run.result.refusal ≡ verdict_number (verdict_of c.loop-i.t.play c.in-Value.code)) = one-refusal _ _ _ _ ((let h : (c.read_run-run.result ≡ run_of c.args.bytes.now c.loop-i.t.play c.loop-i.here c.loop-i.i 1) = let one : c.loop-i.i + 1 - c.loop-i.i ≡ 1 = omega arith in
-    rw one at c.read_run-run.ensures in h)) ((let h : (let b = c.args.bytes.now in
-    (c.in-Value.code ≡ number_at b c.loop-i.here 6) × (c.loop-i.here + 6 ≤ 8 * length b)) = value-is _ c.loop-i.here 6 (sym c.read.ensures ∙ ap field_answer c.in-Value.is) in h)).0 in h)) c.if-run-ne0.false _ ((let h : (c.with_play-t.result ≡ after_play c.loop-i.t c.in-Value.code) = one_table c.loop-i.t _ (rw c.narrow-c.ensures at c.with_play-t.ensures)
-    (one-plays _ _ _ _ ((let h : (c.read_run-run.result ≡ run_of c.args.bytes.now c.loop-i.t.play c.loop-i.here c.loop-i.i 1) = let one : c.loop-i.i + 1 - c.loop-i.i ≡ 1 = omega arith in
-    rw one at c.read_run-run.ensures in h)) ((let h : (let b = c.args.bytes.now in
-    (c.in-Value.code ≡ number_at b c.loop-i.here 6) × (c.loop-i.here + 6 ≤ 8 * length b)) = value-is _ c.loop-i.here 6 (sym c.read.ensures ∙ ap field_answer c.in-Value.is) in h)).0 c.if-run-ne0.false) in h)),
+          rw one at c.read_run-run.ensures in h)) ((let h : (let b = c.args.bytes.now in
+          (c.in-Value.code ≡ number_at b c.loop-i.here 6) × (c.loop-i.here + 6 ≤ 8 * length b)) = value-is _ c.loop-i.here 6 (sym c.read.ensures ∙ ap field_answer c.in-Value.is) in h)).0 in h)) c.if-run-ne0.false _ ((let h : (c.with_play-t.result ≡ after_play c.loop-i.t c.in-Value.code) = one_table c.loop-i.t _ (rw c.narrow-c.ensures at c.with_play-t.ensures)
+          (one-plays _ _ _ _ ((let h : (c.read_run-run.result ≡ run_of c.args.bytes.now c.loop-i.t.play c.loop-i.here c.loop-i.i 1) = let one : c.loop-i.i + 1 - c.loop-i.i ≡ 1 = omega arith in
+          rw one at c.read_run-run.ensures in h)) ((let h : (let b = c.args.bytes.now in
+          (c.in-Value.code ≡ number_at b c.loop-i.here 6) × (c.loop-i.here + 6 ≤ 8 * length b)) = value-is _ c.loop-i.here 6 (sym c.read.ensures ∙ ap field_answer c.in-Value.is) in h)).0 c.if-run-ne0.false) in h)),
       omega (arith, c.loop-i.invariant.3),
     )
 

@@ -16,9 +16,14 @@ pub loop-i-init : goal.loop-i-init
 loop-i-init c = (call-begins _ _ _ _ c.new-a.ensures, omega arith)
 
 pub code_ending-c-requires : goal.code_ending-c-requires
-code_ending-c-requires c =
-    (omega (arith, c.loop-i.invariant.0.along, c.requires.0), omega (arith, (let h : (c.loop-i.here + 6 ≤ 8 * length c.args.bytes.now) = let a = c.args in
-    omega (arith, c.loop-i.invariant.0.along, whole_in (length a.bytes.now) a.at a.count ((c.whole_codes-whole.ensures)) c.loop-i.i c.loop-i-test.true) in h)))
+code_ending-c-requires c = (
+  omega (arith, c.loop-i.invariant.0.along, c.requires.0),
+  omega (
+    arith,
+    (let h : (c.loop-i.here + 6 ≤ 8 * length c.args.bytes.now) = let a = c.args in
+        omega (arith, c.loop-i.invariant.0.along, whole_in (length a.bytes.now) a.at a.count ((c.whole_codes-whole.ensures)) c.loop-i.i c.loop-i-test.true) in h),
+  ),
+)
 
 pub returns-then-f-ne0 : goal.returns-then-f-ne0
 returns-then-f-ne0 c =
@@ -28,14 +33,13 @@ returns-then-f-ne0 c =
     omega (arith, c.loop-i.invariant.0.along, whole_in (length a.bytes.now) a.at a.count ((c.whole_codes-whole.ensures)) c.loop-i.i c.loop-i-test.true) in h)) in h)) c.refusal-f.ensures c.if-f-ne0.true
 
 pub loop-i-preserved : goal.loop-i-preserved
-loop-i-preserved c =
-    (
-      call-goes _ _ _ _ c.loop-i.invariant.0 ((let h : c.loop-i.i < c.args.count = let a = c.args in
-    omega (arith, whole-most (length a.bytes.now) a.at a.count ((c.whole_codes-whole.ensures)), c.loop-i-test.true) in h)) ((let h : (read 6 c.args.bytes.now c.loop-i.here ≡ found c.code_ending-c.result (c.loop-i.here + 6)) = code_read _ c.loop-i.here c.code_ending-c.ensures ((let h : (c.loop-i.here + 6 ≤ 8 * length c.args.bytes.now) = let a = c.args in
-    omega (arith, c.loop-i.invariant.0.along, whole_in (length a.bytes.now) a.at a.count ((c.whole_codes-whole.ensures)) c.loop-i.i c.loop-i-test.true) in h)) in h)) c.refusal-f.ensures c.if-f-ne0.false
-          c.call-a.ensures,
-      omega arith,
-    )
+loop-i-preserved c = (
+  call-goes _ _ _ _ c.loop-i.invariant.0 ((let h : c.loop-i.i < c.args.count = let a = c.args in
+      omega (arith, whole-most (length a.bytes.now) a.at a.count ((c.whole_codes-whole.ensures)), c.loop-i-test.true) in h)) ((let h : (read 6 c.args.bytes.now c.loop-i.here ≡ found c.code_ending-c.result (c.loop-i.here + 6)) = code_read _ c.loop-i.here c.code_ending-c.ensures ((let h : (c.loop-i.here + 6 ≤ 8 * length c.args.bytes.now) = let a = c.args in
+      omega (arith, c.loop-i.invariant.0.along, whole_in (length a.bytes.now) a.at a.count ((c.whole_codes-whole.ensures)) c.loop-i.i c.loop-i-test.true) in h)) in h)) c.refusal-f.ensures c.if-f-ne0.false
+      c.call-a.ensures,
+  omega arith,
+)
 
 pub returns-then-whole-count : goal.returns-then-whole-count
 returns-then-whole-count c =

@@ -24,8 +24,11 @@ narrow-requires c = rest_lt _ _ c.pow2-below.ensures.0
 pub returns : goal.returns
 returns c =
     let a = c.args in
-    record { packer = (put_narrow a.out.now a.self a.width a.value (omega arith)
-    c.wide.ensures.0 c.pow2.ensures.0 c.pow2-2.ensures.0 c.pow2-below.ensures.0
-    (c.store_last-at.ensures.value, c.store_last-at.ensures.out_after) c.narrow.ensures).0; bytes = (put_narrow a.out.now a.self a.width a.value (omega arith)
-    c.wide.ensures.0 c.pow2.ensures.0 c.pow2-2.ensures.0 c.pow2-below.ensures.0
-    (c.store_last-at.ensures.value, c.store_last-at.ensures.out_after) c.narrow.ensures).1 }
+    record {
+      packer = (put_narrow a.out.now a.self a.width a.value (omega arith)
+          c.wide.ensures.0 c.pow2.ensures.0 c.pow2-2.ensures.0 c.pow2-below.ensures.0
+          (c.store_last-at.ensures.value, c.store_last-at.ensures.out_after) c.narrow.ensures).0;
+      bytes = (put_narrow a.out.now a.self a.width a.value (omega arith)
+          c.wide.ensures.0 c.pow2.ensures.0 c.pow2-2.ensures.0 c.pow2-below.ensures.0
+          (c.store_last-at.ensures.value, c.store_last-at.ensures.out_after) c.narrow.ensures).1;
+    }

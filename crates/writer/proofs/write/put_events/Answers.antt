@@ -24,19 +24,17 @@ pub overflow_add-i-then-begins_code-2 : goal.overflow_add-i-then-begins_code-2
 overflow_add-i-then-begins_code-2 c = omega (arith, (let h : length c.args.plays.now < 9223372036854775808 = search rules in h), (let h : (c.loop-i.i + 2 < length c.args.plays.now) = plays-room _ _ _ c.loop-i.invariant.0 c.loop-i-test.true (sym c.begins_code.ensures ∙ c.if-begins_code.true) in h))
 
 pub loop-i-preserved-then-begins_code : goal.loop-i-preserved-then-begins_code
-loop-i-preserved-then-begins_code c =
-    (
-      plays_code _ _ _ c.loop-i.invariant.0 c.loop-i-test.true (sym c.begins_code.ensures ∙ c.if-begins_code.true) (c.put_code-q.ensures.packer, c.put_code-q.ensures.bytes),
-      omega (arith, c.loop-i-test.true),
-    )
+loop-i-preserved-then-begins_code c = (
+  plays_code _ _ _ c.loop-i.invariant.0 c.loop-i-test.true (sym c.begins_code.ensures ∙ c.if-begins_code.true) (c.put_code-q.ensures.packer, c.put_code-q.ensures.bytes),
+  omega (arith, c.loop-i-test.true),
+)
 
 pub loop-i-preserved : goal.loop-i-preserved
-loop-i-preserved c =
-    (
-      plays-card _ _ _ c.loop-i.invariant.0 c.loop-i-test.true (sym c.begins_code.ensures ∙ c.if-begins_code.false)
-          (rw c.wide.ensures.0 at (both c.put-q.ensures.packer c.put-q.ensures.bytes)),
-      omega (arith, c.loop-i-test.true),
-    )
+loop-i-preserved c = (
+  plays-card _ _ _ c.loop-i.invariant.0 c.loop-i-test.true (sym c.begins_code.ensures ∙ c.if-begins_code.false)
+      (rw c.wide.ensures.0 at (both c.put-q.ensures.packer c.put-q.ensures.bytes)),
+  omega (arith, c.loop-i-test.true),
+)
 
 pub shape_of-out : goal.shape_of-out
 shape_of-out c = plays-long _ _ _ c.loop-i.invariant.0
