@@ -2,14 +2,15 @@
 #![tactic(auto)]
 
 use std::io;
-use std::io::{Read, Write};
+use std::io::Write;
 use text::Outcome;
 
 fn main(rt: HostRuntime) -> io::Result<()> {
-    let mut input = Vec::new(rt.alloc());
-    rt.stdin().take(505).read_to_end(&mut input)?;
+    let mut input = [0u8; 505];
+    let mut stdin = rt.stdin();
+    let n = filling::fill(&mut stdin, &mut input)?;
     let mut text = [0u8; 8];
-    match best_text::write(&input, &mut text) {
+    match best_text::write(&input[..n], &mut text) {
         Outcome::Written(length) => rt.stdout().write_all(&text[..length]),
         Outcome::TooShort => Ok(()),
     }

@@ -3,14 +3,15 @@
 #![tactic(auto)]
 
 use std::io;
-use std::io::{Read, Write};
+use std::io::Write;
 use text::Outcome;
 
 fn main(rt: HostRuntime) -> io::Result<()> {
-    let mut input = Vec::new(rt.alloc());
-    rt.stdin().take(65537).read_to_end(&mut input)?;
+    let mut input = [0u8; 65537];
+    let mut stdin = rt.stdin();
+    let n = filling::fill(&mut stdin, &mut input)?;
     let mut record = [0u8; 505];
-    match pbn_output::write(&input, &mut record) {
+    match pbn_output::write(&input[..n], &mut record) {
         Outcome::Written(length) => rt.stdout().write_all(&record[..length]),
         Outcome::TooShort => Ok(()),
     }

@@ -1,7 +1,7 @@
 // What best play would give from records in files, each under a line that names it; and one answer with bytes enough and one too few.
 #![tactic(auto)]
 
-use std::io::{Read, Write};
+use std::io::Write;
 use std::{fs, io};
 use text::Outcome;
 
@@ -18,9 +18,10 @@ fn show<W: Write>(out: &mut W, name: &[u8], record: &[u8]) -> io::Result<()> {
 
 // The answer for the record in a file of that name.
 fn file<W: Write>(rt: &HostRuntime, out: &mut W, name: &str) -> io::Result<()> {
-    let mut record = Vec::new(rt.alloc());
-    fs::open(rt, name)?.take(4096).read_to_end(&mut record)?;
-    show(out, name.as_bytes(), &record)
+    let mut record = [0u8; 4096];
+    let mut file = fs::open(rt, name)?;
+    let n = filling::fill(&mut file, &mut record)?;
+    show(out, name.as_bytes(), &record[..n])
 }
 
 // What the answer for no bytes gives in lent bytes, all `.` before.

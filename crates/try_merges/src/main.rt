@@ -6,7 +6,6 @@ ghost use Rattle.std.specs.Prelude.{◌≤◌};
 
 use deal::SUITS;
 use std::io;
-use std::io::Read;
 use tally::Tally;
 
 // A tally of board 1 and of one deal: 64 scores, each 20 below the one before it, one result each.
@@ -55,9 +54,9 @@ fn merges(a: Tally, b: Tally, n: usize) -> usize {
 }
 
 fn main(rt: HostRuntime) -> io::Result<()> {
-    let mut input = Vec::new(rt.alloc());
-    rt.stdin().take(4096).read_to_end(&mut input)?;
-    let n = input.len();
+    let mut input = [0u8; 4096];
+    let mut stdin = rt.stdin();
+    let n = filling::fill(&mut stdin, &mut input)?;
     if n <= 4096 {
         let sum = merges(filled(1290), filled(1280), n * 1000);
         return println!(rt; "{sum}");

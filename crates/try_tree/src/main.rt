@@ -1,7 +1,7 @@
 // Runs many scripts, each under a line that names it: short ones that stand here, and longer ones from files.
 #![tactic(auto)]
 
-use std::io::{Read, Write};
+use std::io::Write;
 use std::{fs, io};
 // A script by its bytes.
 fn script<W: Write>(out: &mut W, name: &[u8], bytes: &[u8]) -> io::Result<()> {
@@ -14,9 +14,10 @@ fn script<W: Write>(out: &mut W, name: &[u8], bytes: &[u8]) -> io::Result<()> {
 
 // A script in a file of that name.
 fn file<W: Write>(rt: &HostRuntime, out: &mut W, name: &str) -> io::Result<()> {
-    let mut bytes = Vec::new(rt.alloc());
-    fs::open(rt, name)?.take(4096).read_to_end(&mut bytes)?;
-    script(out, name.as_bytes(), &bytes)
+    let mut bytes = [0u8; 4096];
+    let mut file = fs::open(rt, name)?;
+    let n = filling::fill(&mut file, &mut bytes)?;
+    script(out, name.as_bytes(), &bytes[..n])
 }
 
 // Lines that are read.

@@ -1,0 +1,23 @@
+// Lent bytes filled from a reader, up to its end or theirs.
+#![tactic(auto)]
+
+ghost use Rattle.std.specs.Prelude.{◌≡◌, ◌≤◌, IfOk, length};
+
+use std::io;
+use std::io::Read;
+
+// Reads until the bytes are full or the reader is at its end, and tells how many were read. An error is the reader's; some of the bytes may be read by then.
+pub fn fill<R: Read>(reader: &mut R, bytes: &mut [u8]) -> io::Result<usize>
+    ensures within { IfOk result (λ n. n ≤ length bytes.old) }
+    ensures same_length { length bytes.new ≡ length bytes.old }
+{
+    let mut n: usize = 0;
+    while n < bytes.len() {
+        let got = reader.read(&mut bytes[n..])?;
+        if got == 0 {
+            return Ok(n);
+        }
+        n += got;
+    }
+    Ok(n)
+}
