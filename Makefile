@@ -1,5 +1,5 @@
 # `make` says what there is to do. What is built stands in build/, also what `rt` made of a crate, since `rt ci` clears crates/NAME/out; what each step printed, in build/log/.
-.PHONY: help test demo demo-proved install install-files bench fuzz fuzz-programs outside proved clean tools rt-tool FORCE
+.PHONY: help test demo install install-files bench fuzz fuzz-programs outside clean tools rt-tool FORCE
 ifndef V
 .SILENT:
 endif
