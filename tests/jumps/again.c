@@ -1,7 +1,7 @@
 /* Loaded before the proved program that AGAIN_PROGRAM names, runs its main once for each run of the file that AGAIN_RUNS names, kept by
  * tests/src/kept.rs: reading gives the run's input, in pieces that are sometimes short, and what is written has to be the run's output.
- * In the end main is run with an input, and once more with an output, that fails at once. The programs keep nothing between two calls of
- * main. Other programs that this is loaded before, as valgrind's, run as they are. Numbers of the file have four bytes, least
+ * In the end main is run with an input, and once more with an output, that fails at once: what it says of that goes to standard error, and
+ * is not compared, and it ends with another status than 0. The programs keep nothing between two calls of main. Other programs that this is loaded before, as valgrind's, run as they are. Numbers of the file have four bytes, least
  * significant first. */
 #define _GNU_SOURCE
 #include <dlfcn.h>
@@ -46,6 +46,7 @@ ssize_t read(int from, void *to, size_t room) {
 
 ssize_t write(int to, const void *from, size_t length) {
     if (!proved) return syscall(SYS_write, to, from, length);
+    if (to == 2 && fails != NOTHING) return (ssize_t)length;
     if (to != 1) stop("writes to another file");
     if (fails != NOTHING) {
         errno = EIO;
@@ -86,7 +87,8 @@ static int each(int count, char **words, char **environment) {
     }
     fclose(file);
     in.length = 0;
-    for (fails = INPUT; fails <= OUTPUT; fails++) proved(count, words, environment);
+    for (fails = INPUT; fails <= OUTPUT; fails++)
+        if (proved(count, words, environment) == 0) stop("a failed read or write is passed over");
     fprintf(stderr, "%lu runs made again, no difference\n", runs);
     return 0;
 }

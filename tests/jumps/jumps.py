@@ -27,8 +27,8 @@ CALLS = WORK + "/calls"
 AGAIN = WORK + "/again.so"
 VALGRIND = ["valgrind", "--tool=callgrind", "--dump-instr=yes", "--collect-jumps=yes"]
 ARCHIVES = ["build/libtally.a", "build/libjudge.a"]
-# What the C runtime puts into a program.
-RUNTIME = {"_start", "_init", "_fini", "deregister_tm_clones", "register_tm_clones", "__do_global_dtors_aux", "frame_dummy"}
+# Of a program the functions of these count: not what the C runtime and the kit's std put into it.
+CRATES = set(os.listdir("crates"))
 
 # A trial: the cases of a whole and of a short run, and further words, among them the programs that it runs.
 Trial = collections.namedtuple("Trial", "name whole short words")
@@ -88,6 +88,16 @@ def run(words, **more):
     done = subprocess.run(words, stdout=subprocess.PIPE, stderr=subprocess.STDOUT, text=True, errors="replace", **more)
     if done.returncode:
         sys.exit("%s\n%s ended with %d" % (done.stdout, " ".join(words), done.returncode))
+
+
+def in_pool(task):
+    """A task's end as an error that a pool hands on: it would wait for ever for one that exits."""
+    def done(given):
+        try:
+            return task(given)
+        except SystemExit as end:
+            raise RuntimeError(end.code) from end
+    return done
 
 
 def keep_trial(trial, count, seed):
@@ -156,7 +166,7 @@ def program_row(name):
     ran, taken = callgrind.seen(out(name), program)
     row = Row(name)
     for function, code in callgrind.functions(program):
-        if code and function not in RUNTIME and "@plt" not in function and function != ".plt":
+        if code and function.split("::")[0] in CRATES:
             row.add(function, code, ran, taken)
     return row
 
@@ -217,7 +227,7 @@ def trials(count_of, seed, pool):
     for name in os.listdir(WORK):
         if name.endswith((".calls", ".callgrind")):
             os.remove(os.path.join(WORK, name))
-    pool.map(lambda trial: keep_trial(trial, count_of(trial), seed), TRIALS)
+    pool.map(in_pool(lambda trial: keep_trial(trial, count_of(trial), seed)), TRIALS)
     keep_by_hand()
 
 
@@ -235,7 +245,7 @@ def main():
         trials(lambda trial: trial.short if given.short else trial.whole, given.seed, pool)
     calls = sorted(name for name in os.listdir(WORK) if name.endswith(".calls"))
     programs = sorted(name for name in os.listdir(PROGRAMS) if os.path.exists("crates/%s/stdout" % name))
-    pool.map(lambda task: task[0](task[1]), [(watch_calls, name) for name in calls] + [(watch_runs, name) for name in programs], chunksize=1)
+    pool.map(in_pool(lambda task: task[0](task[1])), [(watch_calls, name) for name in calls] + [(watch_runs, name) for name in programs], chunksize=1)
     rows = rows_of(calls, programs)
     print("%-44s %16s %15s" % ("", "instructions run", "jumps both ways"))
     for row in rows.values():
