@@ -36,12 +36,12 @@ refused-short n h = omega (arith, refused-length n, length_3 n (omega arith))
 pub placed-length : (n place : ℕ) → length (placed_text n place) ≡ length (decimal n) + length (decimal place) + 16
 placed-length n place = simp length-append (omega arith)
 
-pub refused_at_short : (n place : ℕ) → n < 256 → place < 256 → length (refused_at_text n place) ≤ 34
+pub refused_at_short : (n place : ℕ) → n < 256 → place < 65536 → length (refused_at_text n place) ≤ 34
 unfolding refused_at_text
 refused_at_short n place h k =
     by_test (eqb place 0)
     (λ (q : eqb place 0 ≡ true). rw q (refused-short n h))
-    (λ (q : eqb place 0 ≡ false). rw q (omega (arith, placed-length n place, length_3 n (omega arith), length_3 place (omega arith))))
+    (λ (q : eqb place 0 ≡ false). rw q (omega (arith, placed-length n place, length_3 n (omega arith), length_by 9 place (omega arith))))
 
 pub points-short : (ns ew : ℕ) → ns < 2 ^ 32 → ew < 2 ^ 32 → length (points_text ns ew) ≤ 34
 points-short ns ew h k = omega (arith, points-length ns ew, length_by 9 ns (omega arith), length_by 9 ew (omega arith))

@@ -3,6 +3,7 @@
 use Rattle.std.specs.Prelude.{ℕ, zero, suc, ◌+◌, ◌/◌, ◌%◌, List, [], ◌∷◌, ◌++◌, eqb, ltb, ℤ, if◌then◌else◌}
 use Rattle.laws.specs.Decimal.{digit, decimal, signed_decimal}
 use Rattle.laws.specs.Sheet.{newline, refusal}
+use Rattle.laws.specs.Refused.{number}
 use Rattle.text.specs.Refused.{refused_text}
 use Rattle.tally.specs.declared.Tally.{Tally}
 use Rattle.tree_stack.specs.declared.Said.{Said}
@@ -52,7 +53,7 @@ alone_text = 97 ∷ 108 ∷ 111 ∷ 110 ∷ 101 ∷ newline ∷ []
 -- what a call answers; where the run ends there, that its line is refused
 unfoldable pub said_text : Said → ℕ → List ℕ
 said_text Done line = ok_text
-said_text (Refused n place) line = refused_at_text n place
+said_text (Refused e) line = refused_at_text (number e.refusal) e.place
 said_text (Points ns ew) line = points_text ns ew
 said_text (Played bits) line = bits_text played_word bits
 said_text (Awarded bits) line = bits_text awarded_word bits

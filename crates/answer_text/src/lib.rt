@@ -2,36 +2,39 @@
 #![tactic(auto)]
 
 ghost use Rattle.std.specs.Prelude.{◌≡◌, ◌≤◌, ◌<◌, length};
+ghost use Rattle.laws.specs.Refused.{number};
 ghost use Rattle.answer_text.specs.Answers.{placed_text, refused_at_text, hex_digit, hex_digits, bits_text};
 ghost use Rattle.answer_text.specs.Answers.{said_text, entry_text, tally_text};
 ghost use Rattle.text.specs.Putting.{Put, written, length_within, left_in};
 
+use laws::Refused;
 use tally::Tally;
 use text::{
-    Outcome, lend, put_byte, put_bytes, put_decimal, put_field, put_pair, put_refusal, put_refused,
+    lend, put_byte, put_bytes, put_decimal, put_field, put_pair, put_refusal, put_refused,
     put_score,
 };
 use tree_stack::Said;
 
 // A refusal with its place.
-fn put_placed(out: &mut [u8], n: u8, place: u8) -> usize
+fn put_placed(out: &mut [u8], n: u8, place: u16) -> usize
     ensures { Put out.old 0 (placed_text n place) out.new result }
 {
     let start = put_bytes(out, 0, b"refused ");
-    let word = put_decimal(out, start, n as u64);
+    let word = put_decimal(out, start, u64::from(n));
     let at = put_bytes(out, word, b" place ");
-    let end = put_decimal(out, at, place as u64);
-    put_byte(out, end, 10)
+    let end = put_decimal(out, at, u64::from(place));
+    put_byte(out, end, b'\n')
 }
 
 // A refusal; its place is told where it is not 0.
-fn put_refused_at(out: &mut [u8], n: u8, place: u8) -> usize
-    ensures { Put out.old 0 (refused_at_text n place) out.new result }
+fn put_refused_at(out: &mut [u8], refused: Refused) -> usize
+    ensures { Put out.old 0 (refused_at_text (number refused.refusal) refused.place) out.new result }
 {
-    if place == 0 {
+    let n = refused.refusal.number();
+    if refused.place == 0 {
         return put_refused(out, n);
     }
-    put_placed(out, n, place)
+    put_placed(out, n, refused.place)
 }
 
 // A number below 16 as a hexadecimal digit.
@@ -40,7 +43,7 @@ fn hex_digit(n: u64) -> u8
     ensures { result ≡ hex_digit n }
 {
     if n < 10 {
-        return 48 + n as u8;
+        return b'0' + n as u8;
     }
     87 + n as u8
 }
@@ -62,7 +65,7 @@ fn put_bits(out: &mut [u8], word: &[u8], bits: u64) -> usize
 {
     let first = put_bytes(out, 0, word);
     let end = put_hex(out, first, 16, bits);
-    put_byte(out, end, 10)
+    put_byte(out, end, b'\n')
 }
 
 fn put_said(out: &mut [u8], said: Said, line: u64) -> usize
@@ -70,7 +73,7 @@ fn put_said(out: &mut [u8], said: Said, line: u64) -> usize
 {
     match said {
         Said::Done => put_bytes(out, 0, b"ok\n"),
-        Said::Refused(n, place) => put_refused_at(out, n, place),
+        Said::Refused(refused) => put_refused_at(out, refused),
         Said::Points(ns, ew) => put_pair(out, ns, ew),
         Said::Played(bits) => put_bits(out, b"played ", bits),
         Said::Awarded(bits) => put_bits(out, b"awarded ", bits),
@@ -80,7 +83,7 @@ fn put_said(out: &mut [u8], said: Said, line: u64) -> usize
 }
 
 // Writes what a call on a line answers to lent bytes. 34 bytes are enough.
-pub fn write_said(said: Said, line: u64, out: &mut [u8]) -> Outcome
+pub fn write_said(said: Said, line: u64, out: &mut [u8]) -> Option<usize>
     ensures answer { written result ≡ length_within (said_text said line) (length out.old) }
     ensures bytes { out.new ≡ left_in out.old (said_text said line) }
 {
@@ -93,29 +96,27 @@ fn put_entry(out: &mut [u8], at: usize, score: i16, count: u8) -> usize
     ensures { Put out.old at (entry_text score count) out.new result }
 {
     let next = put_score(out, at, score);
-    let end = put_field(out, next, count as u32);
-    put_byte(out, end, 10)
+    let end = put_field(out, next, u32::from(count));
+    put_byte(out, end, b'\n')
 }
 
 fn put_entries(out: &mut [u8], t: Tally) -> usize
     ensures { Put out.old 0 (tally_text t) out.new result × (length (tally_text t) ≤ 1408) }
 {
     let mut at = put_bytes(out, 0, b"");
-    let mut i: usize = 0;
-    while i < 128 {
+    for i in 0..128 {
         let count = t.counts[i];
         if count == 0 {
             return at;
         }
         let score = t.scores[i];
         at = put_entry(out, at, score, count);
-        i += 1;
     }
     at
 }
 
 // Writes the entries of a tally to lent bytes, a line each. 1408 bytes are enough.
-pub fn write_tally(t: Tally, out: &mut [u8]) -> Outcome
+pub fn write_tally(t: Tally, out: &mut [u8]) -> Option<usize>
     ensures answer { written result ≡ length_within (tally_text t) (length out.old) }
     ensures bytes { out.new ≡ left_in out.old (tally_text t) }
 {

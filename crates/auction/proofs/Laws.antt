@@ -18,10 +18,13 @@ use Rattle.laws.specs.CallRefusal.{is_code, call_refusal}
 use Rattle.laws.proofs.Tests.{by_test}
 use Rattle.laws.proofs.CallRefusals.{accepted-is}
 use Rattle.laws.proofs.Contracts.{last-bid-le}
-use Rattle.auction.specs.declared.Verdict.{Verdict}
-use Rattle.auction.specs.declared.Verdict.TheVariants.{Allowed, NotACall, AfterEnd, Insufficient, Inadmissible, WrongMark}
+use Rattle.std.specs.Prelude.{Ok, Err}
+use Rattle.laws.specs.Refused.{number_or_none}
+use Rattle.laws.specs.declared.Refusal.TheVariants.{InsufficientBid, InadmissibleDouble, WrongMark}
+use Rattle.laws.proofs.RefusalNumbers.{number_not_none}
+use Rattle.auction.specs.Asked.{Verdict, allow}
 use Rattle.auction.specs.Position.{position_of}
-use Rattle.auction.specs.Asked.{marked_verdict, verdict_of, number_of, refusal_of, contract_of, as_law}
+use Rattle.auction.specs.Asked.{marked_verdict, verdict_of, refusal_of, contract_of, as_law}
 use Rattle.auction.proofs.History.{last-is, doubling-is, over-is, marked_is}
 use Rattle.auction.proofs.Doubles.{double-is, redouble-is}
 use Rattle.auction.proofs.First.{declarer-is}
@@ -34,7 +37,7 @@ and_no_no : (b c : Bool) → (b && (c && false)) ≡ false
 and_no_no b c = ap (λ (x : Bool). b && x) (and_no c) ∙ and_no b
 
 -- a verdict and a number, each chosen by one test
-chosen : (b : Bool) (v w : Verdict) (m n : ℕ) → number_of v ≡ m → number_of w ≡ n → number_of (if b then v else w) ≡ (if b then m else n)
+chosen : (b : Bool) (v w : Verdict) (m n : ℕ) → number_or_none v ≡ m → number_or_none w ≡ n → number_or_none (if b then v else w) ≡ (if b then m else n)
 chosen true v w m n p q = p
 chosen false v w m n p q = q
 
@@ -60,7 +63,7 @@ module _ (d : ℕ) (h : List ℕ) (c : ℕ) where
   unfolding refusal_of verdict_of marked_verdict call_refusal allowed
   code_after_mark q r m =
       simp (over-is d h, marked_is d h, last-is d h, r, m, q, le-ltb 38 c (leb-true c 38 q), below-is)
-      (chosen (is_bid c && at_or_below h c) Allowed WrongMark 0 24 refl refl)
+      (chosen (is_bid c && at_or_below h c) allow (Err WrongMark) 0 24 refl refl)
 
   -- a call of an auction that is not over, after no mark
   call_going : c ≤ 37 → is_over h ≡ false → is_marked h ≡ false → refusal_of (position_of d h) c ≡ call_refusal d h c
@@ -82,12 +85,12 @@ module _ (d : ℕ) (h : List ℕ) (c : ℕ) where
       (by_test (eqb c pass)
       (λ (s : eqb c pass ≡ true). rw s)
       (λ (s : eqb c pass ≡ false). by_test (eqb c double)
-      (λ (t : eqb c double ≡ true). rw (eqb-true c double t) (chosen (may_double d h) Allowed Inadmissible 0 7 refl refl))
+      (λ (t : eqb c double ≡ true). rw (eqb-true c double t) (chosen (may_double d h) allow (Err InadmissibleDouble) 0 7 refl refl))
       (λ (t : eqb c double ≡ false). by_test (eqb c redouble)
-      (λ (u : eqb c redouble ≡ true). rw (eqb-true c redouble u) (chosen (may_redouble d h) Allowed Inadmissible 0 7 refl refl))
+      (λ (u : eqb c redouble ≡ true). rw (eqb-true c redouble u) (chosen (may_redouble d h) allow (Err InadmissibleDouble) 0 7 refl refl))
       (λ (u : eqb c redouble ≡ false).
       let bid : 3 ≤ c = omega (arith, eqb-false c pass s, eqb-false c double t, eqb-false c redouble u) in
-      rw (s, t, u, le-leb 3 c bid) (chosen (ltb (last_bid h) c) Allowed Insufficient 0 6 refl refl)))))
+      rw (s, t, u, le-leb 3 c bid) (chosen (ltb (last_bid h) c) allow (Err InsufficientBid) 0 6 refl refl)))))
 
   -- a mark, which is above every bid
   mark_going : c ≡ mark → is_over h ≡ false → is_marked h ≡ false → refusal_of (position_of d h) c ≡ call_refusal d h c
@@ -112,21 +115,17 @@ module _ (d : ℕ) (h : List ℕ) (c : ℕ) where
       (λ (r : is_over h ≡ false). code_going q r))
       (λ (q : is_code c ≡ false). simp (q, lt-ltb 38 c (leb-false c 38 q)))
 
-  -- the verdict is `Allowed` exactly when the Law on the history allows the call
-  pub allowed-is : (verdict_of (position_of d h) c ≡ Allowed) ↔ (allowed d h c ≡ true)
+  -- the code is allowed exactly when the Law on the history allows the call
+  pub allowed-is : (verdict_of (position_of d h) c ≡ allow) ↔ (allowed d h c ≡ true)
   unfolding refusal_of
   allowed-is = (
-    λ e. (accepted-is d h c).0 (sym refusal_is ∙ ap number_of e),
+    λ e. (accepted-is d h c).0 (sym refusal_is ∙ ap number_or_none e),
     λ e. only-allowed (verdict_of (position_of d h) c) (refusal_is ∙ (accepted-is d h c).1 e),
   )
     where
-      only-allowed : (v : Verdict) → number_of v ≡ accepted → v ≡ Allowed
-      only-allowed Allowed e = refl
-      only-allowed NotACall e = absurd (omega arith)
-      only-allowed AfterEnd e = absurd (omega arith)
-      only-allowed Insufficient e = absurd (omega arith)
-      only-allowed Inadmissible e = absurd (omega arith)
-      only-allowed WrongMark e = absurd (omega arith)
+      only-allowed : (v : Verdict) → number_or_none v ≡ accepted → v ≡ allow
+      only-allowed (Ok u) e = refl
+      only-allowed (Err refusal) e = absurd (number_not_none refusal e)
 
 -- level, strain, doubling and declarer are the Law's on the history
 pub contract-is : (d : ℕ) (h : List ℕ) → as_law (contract_of (position_of d h)) ≡ contract d h

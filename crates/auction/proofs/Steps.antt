@@ -12,9 +12,10 @@ use Rattle.laws.specs.Refusals.{wrong_mark}
 use Rattle.laws.specs.CallRefusal.{place_of}
 use Rattle.laws.proofs.Tests.{by_test}
 use Rattle.auction.specs.declared.Auction.{Auction}
-use Rattle.auction.specs.declared.Verdict.TheVariants.{Allowed, Inadmissible, Insufficient, WrongMark}
+use Rattle.std.specs.Prelude.{Err}
+use Rattle.laws.specs.declared.Refusal.TheVariants.{InadmissibleDouble, InsufficientBid, WrongMark}
 use Rattle.auction.specs.Position.{first_place, entered, stands, passes_to_end, after_call}
-use Rattle.auction.specs.Asked.{over_of, may_double_of, may_redouble_of, marked_verdict, verdict_of}
+use Rattle.auction.specs.Asked.{over_of, may_double_of, may_redouble_of, allow, marked_verdict, verdict_of}
 
 and_no : (b : Bool) → (b && false) ≡ false
 and_no true = refl
@@ -94,7 +95,7 @@ module _ (a : Auction) (c : ℕ) (least : 1 ≤ c) (most : c ≤ 2) where
 
   -- the verdict on it
   pub may_verdict : over_of a ≡ false → a.marked ≡ false → {b : Bool} → b ≡ (if eqb c 1 then may_double_of a else may_redouble_of a)
-      → (if b then Allowed else Inadmissible) ≡ verdict_of a c
+      → (if b then allow else Err InadmissibleDouble) ≡ verdict_of a c
   unfolding verdict_of
   may_verdict o m {b} e =
       by_test (eqb c 1)
@@ -103,22 +104,22 @@ module _ (a : Auction) (c : ℕ) (least : 1 ≤ c) (most : c ≤ 2) where
 
 -- the verdict on a bid or a mark
 pub bid_verdict : (a : Auction) (c : ℕ) → 3 ≤ c → c ≤ 38 → over_of a ≡ false → a.marked ≡ false → {b : Bool} → ltb a.last c ≡ b
-    → (if b then Allowed else Insufficient) ≡ verdict_of a c
+    → (if b then allow else Err InsufficientBid) ≡ verdict_of a c
 unfolding verdict_of
 bid_verdict a c l h o m e =
     simp (e, o, m, le-ltb 38 c h, ne_eqb c 0 (λ q. omega arith), ne_eqb c 1 (λ q. omega arith), ne_eqb c 2 (λ q. omega arith))
 
 -- the verdict on a code after a mark: no bid, one above the last, and one that is not
 module _ (a : Auction) (c : ℕ) where
-  pub mark_on_call : c < 3 → WrongMark ≡ marked_verdict a c
+  pub mark_on_call : c < 3 → Err WrongMark ≡ marked_verdict a c
   unfolding marked_verdict
   mark_on_call l = simp (lt-leb 3 c l)
 
-  pub mark_on_above : a.last < c → WrongMark ≡ marked_verdict a c
+  pub mark_on_above : a.last < c → Err WrongMark ≡ marked_verdict a c
   unfolding marked_verdict
   mark_on_above l = simp (lt-leb c a.last l, and_no (leb 3 c))
 
-  pub mark_on_bid : 3 ≤ c → c ≤ a.last → Allowed ≡ marked_verdict a c
+  pub mark_on_bid : 3 ≤ c → c ≤ a.last → allow ≡ marked_verdict a c
   unfolding marked_verdict
   mark_on_bid l h = simp (le-leb 3 c l, le-leb c a.last h)
 
@@ -131,6 +132,3 @@ module _ (n codes : ℕ) where
   pub mark-place : n ≡ wrong_mark → codes - 1 ≡ place_of n codes
   unfolding place_of
   mark-place e = rw (eq-eqb n wrong_mark e)
-
-  pub first-mark : n ≡ wrong_mark → codes ≡ 0 → 0 ≡ place_of n codes
-  first-mark e z = omega (arith, mark-place e)

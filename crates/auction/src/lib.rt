@@ -14,13 +14,13 @@ ghost use Rattle.auction.specs.Asked.{
   contract_of,
   marked_verdict,
   verdict_of,
-  number_of,
-  refusal_of,
+  taken_of,
 };
+ghost use Rattle.laws.specs.Refused.{placed_of};
 
-use laws::{ACCEPTED, CALL_AFTER_END, INADMISSIBLE_DOUBLE, INSUFFICIENT_BID, NO_CALL, WRONG_MARK};
+use laws::{Refusal, Refused};
 
-// The seat that stands for nobody.
+// The seat that stands for nobody, in a contract too: its declarer without a bid, as `contract_of` has it.
 const NOBODY: u8 = 4;
 
 // The highest call, seven notrump.
@@ -29,7 +29,7 @@ const HIGHEST: u8 = 37;
 // The mark.
 const MARK: u8 = 38;
 
-#[derive(Clone, Copy)]
+#[derive(Clone, Copy, Debug, PartialEq, Eq)]
 pub struct Auction {
     // Whose turn it is.
     turn: u8,
@@ -47,35 +47,8 @@ pub struct Auction {
     marked: bool,
 }
 
-// What is said of a code: it is allowed, or what is wrong with it.
-#[derive(Clone, Copy)]
-pub enum Verdict {
-    Allowed,
-    NotACall,
-    AfterEnd,
-    Insufficient,
-    Inadmissible,
-    WrongMark,
-}
-
-impl Verdict {
-    // The number of a verdict among the refusals; 0 for what is allowed.
-    pub fn number(self) -> u8
-        ensures { result ≡ number_of self }
-    {
-        match self {
-            Verdict::Allowed => ACCEPTED,
-            Verdict::NotACall => NO_CALL,
-            Verdict::AfterEnd => CALL_AFTER_END,
-            Verdict::Insufficient => INSUFFICIENT_BID,
-            Verdict::Inadmissible => INADMISSIBLE_DOUBLE,
-            Verdict::WrongMark => WRONG_MARK,
-        }
-    }
-}
-
 // The last bid with its doubling, and its declarer. Without a bid it is level 1, strain 0, declarer nobody.
-#[derive(Clone, Copy)]
+#[derive(Clone, Copy, Debug, PartialEq, Eq)]
 pub struct Contract {
     pub level: u8,
     pub strain: u8,
@@ -88,7 +61,7 @@ impl Contract {
     pub fn opening_leader(self) -> u8
         ensures { result ≡ clockwise self.declarer 1 }
     {
-        (self.declarer % 4 + 1) % 4
+        next_seat(self.declarer)
     }
 }
 
@@ -96,10 +69,10 @@ impl Contract {
 pub fn place_of(refusal: u8, codes: u16) -> u16
     ensures { result ≡ place_of refusal codes }
 {
-    if refusal != WRONG_MARK {
+    if refusal != Refusal::WrongMark.number() {
         return codes;
     }
-    if codes == 0 { 0 } else { codes - 1 }
+    codes.saturating_sub(1)
 }
 
 // The seat to the left.
@@ -107,13 +80,6 @@ fn next_seat(seat: u8) -> u8
     ensures { result ≡ clockwise seat 1 }
 {
     (seat % 4 + 1) % 4
-}
-
-// One pass less until the auction is over.
-fn one_less(left: u8) -> u8
-    ensures { result ≡ left - 1 }
-{
-    if left == 0 { 0 } else { left - 1 }
 }
 
 // How many passes in a row end the auction after a last bid, 0 for none.
@@ -133,17 +99,11 @@ fn doubled(doubling: u8, code: u8) -> u8
     if doubling == 4 { 5 } else { 1 }
 }
 
-// How far a bid is above one club.
-fn above_club(bid: u8) -> u8
-    ensures { result ≡ bid - 3 }
-{
-    if bid < 3 { 0 } else { bid - 3 }
-}
-
 // 1 for an entry that is 0, else 0: by a division, since a test of what was bid before would be a branch that is hard to foresee.
 fn is_free(entry: u64) -> u64
     requires { entry < 8 }
-    ensures { (result ≡ (if eqb entry 0 then 1 else 0)) × (result < 2) }
+    ensures value { result ≡ (if eqb entry 0 then 1 else 0) }
+    ensures bound { result < 2 }
 {
     1 - (entry + 7) / 8
 }
@@ -151,7 +111,8 @@ fn is_free(entry: u64) -> u64
 // The three bits at a place.
 fn entry(word: u64, place: u8) -> u64
     requires { place < 10 }
-    ensures { (result ≡ entry_at word place) × (result < 8) }
+    ensures value { result ≡ entry_at word place }
+    ensures bound { result < 8 }
 {
     (word >> (3 * place)) % 8
 }
@@ -205,7 +166,7 @@ impl Auction {
         let turn = self.turn;
         self.turn = next_seat(turn);
         if code == 0 {
-            self.left = one_less(self.left);
+            self.left = self.left.saturating_sub(1);
             return self;
         }
         if code < 3 {
@@ -243,7 +204,8 @@ impl Auction {
     // Whether the seat at turn may double, code 1, or redouble, code 2: a bid of the other side that stands undoubled, one of its own side that
     // stands doubled.
     fn may_double(self, code: u8) -> bool
-        requires { (1 ≤ code) × (code ≤ 2) }
+        requires least { 1 ≤ code }
+        requires most { code ≤ 2 }
         ensures { result ≡ (if eqb code 1 then may_double_of self else may_redouble_of self) }
     {
         if self.doubling == 3 + code {
@@ -252,59 +214,62 @@ impl Auction {
         false
     }
 
-    // The verdict on a code after a mark: it is a bid at or below the last one, or the mark is wrong.
-    fn marked_verdict(self, code: u8) -> Verdict
+    // Whether a code may follow a mark: it is a bid at or below the last one, or the mark is wrong.
+    fn marked_verdict(self, code: u8) -> Result<(), Refusal>
         ensures { result ≡ marked_verdict self code }
     {
         if code < 3 {
-            return Verdict::WrongMark;
+            return Err(Refusal::WrongMark);
         }
         if code > self.last {
-            return Verdict::WrongMark;
+            return Err(Refusal::WrongMark);
         }
-        Verdict::Allowed
+        Ok(())
     }
 
-    // The verdict on a code by the seat at turn. A mark is above every bid, and so taken.
-    pub fn verdict(self, code: u8) -> Verdict
+    // Whether a code may follow, by the seat at turn. A mark is above every bid, and so taken.
+    pub fn verdict(self, code: u8) -> Result<(), Refusal>
         ensures { result ≡ verdict_of self code }
     {
         if MARK < code {
-            return Verdict::NotACall;
+            return Err(Refusal::NoCall);
         }
         if self.is_over() {
-            return Verdict::AfterEnd;
+            return Err(Refusal::CallAfterEnd);
         }
         if self.marked {
             return self.marked_verdict(code);
         }
         if code == 0 {
-            return Verdict::Allowed;
+            return Ok(());
         }
         if code < 3 {
             if self.may_double(code) {
-                return Verdict::Allowed;
+                return Ok(());
             }
-            return Verdict::Inadmissible;
+            return Err(Refusal::InadmissibleDouble);
         }
         if self.last < code {
-            return Verdict::Allowed;
+            return Ok(());
         }
-        Verdict::Insufficient
+        Err(Refusal::InsufficientBid)
     }
 
-    // The number that a code is refused with; 0 where it is allowed.
-    pub fn refusal(self, code: u8) -> u8
-        ensures { result ≡ refusal_of self code }
+    // The position after a code that may follow, with so many codes before it; or its refusal, with its place.
+    pub fn take(self, code: u8, before: u16) -> Result<Self, Refused>
+        ensures { placed_of result ≡ taken_of self code before }
     {
-        self.verdict(code).number()
+        match self.verdict(code) {
+            Ok(()) => Ok(self.call(code)),
+            Err(refusal) => Err(refusal.at(place_of(refusal.number(), before))),
+        }
     }
 
     // The contract.
     pub fn contract(self) -> Contract
         ensures { result ≡ contract_of self }
     {
-        let above = above_club(self.last);
+        let above = self.last.saturating_sub(3);
         let strain = above % 5;
         let first = seat_at(self.first, (self.bidder % 2) * 5 + strain);
         Contract {

@@ -3,7 +3,6 @@
 
 use std::io;
 use std::io::Write;
-use text::Outcome;
 
 fn main(rt: HostRuntime) -> io::Result<()> {
     let mut input = [0u8; 505];
@@ -11,7 +10,7 @@ fn main(rt: HostRuntime) -> io::Result<()> {
     let n = filling::fill(&mut stdin, &mut input)?;
     let mut text = [0u8; 8];
     match best_text::write(&input[..n], &mut text) {
-        Outcome::Written(length) => rt.stdout().write_all(&text[..length]),
-        Outcome::TooShort => Ok(()),
+        Some(length) => rt.stdout().write_all(&text[..length]),
+        None => Ok(()),
     }
 }

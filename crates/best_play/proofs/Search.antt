@@ -11,36 +11,23 @@ use Rattle.laws.specs.BestPlay.{greatest, smallest}
 use Rattle.play.specs.declared.Play.{Play}
 use Rattle.laws.proofs.Tests.{by_test}
 use Rattle.play.specs.Position.{leads, step}
-use Rattle.best_play.specs.Search.{within, may_in, gain_in, ours_in, most_in, least_in, best_in}
+use Rattle.best_play.specs.Search.{within, may_in, gain_in, ours_in, most_in, least_in, value_in, best_in}
 use Rattle.best_play.proofs.Window.{raised, lowered, at_ceiling, at_floor, greatest_52, smallest_52, none_within, all-within, greatest-most, smallest_13}
 
 module _ (side : ℕ) where
-  -- the value of a position, by whose turn it is
-  abbrev pub value_in : ℕ → Play → ℕ
-  value_in left p = if ours_in side p then most_in side left p else least_in side left p
-
   -- what a card is worth, with so many left after it
   abbrev pub worth_in : ℕ → Play → ℕ → ℕ
-  worth_in left p c = gain_in side (step p c) + value_in left (step p c)
-
-  -- what is told of the value by the side at turn, from a floor that is known
-  pub our_turn_lem : (left : ℕ) (p : Play) (high : ℕ) {b : Bool} {low floor r : ℕ} → b ≡ ours_in side p → b ≡ true → low ≡ floor
-      → r ≡ within low high (most_in side left p) → r ≡ within floor high (value_in left p)
-  our_turn_lem left p high e t l f = f ∙ rw (l, ← e, t)
-
-  pub their_turn : (left : ℕ) (p : Play) (high : ℕ) {b : Bool} {low floor r : ℕ} → b ≡ ours_in side p → b ≡ false → low ≡ floor
-      → r ≡ within low high (least_in side left p) → r ≡ within floor high (value_in left p)
-  their_turn left p high e t l f = f ∙ rw (l, ← e, t)
+  worth_in left p c = gain_in side (step p c) + value_in side left (step p c)
 
   -- one card, that may be played or not, with the numbers told from a floor to a ceiling
   module _ (left : ℕ) (p : Play) (c best floor ceiling : ℕ) where
-    worth-is : {after : Play} {gained : ℕ} → after ≡ step p c → gained ≡ gain_in side after → gained + value_in left after ≡ worth_in left p c
+    worth-is : {after : Play} {gained : ℕ} → after ≡ step p c → gained ≡ gain_in side after → gained + value_in side left after ≡ worth_in left p c
     worth-is e f = rw (f, e)
 
     pub more_with : best ≡ within floor ceiling (greatest (may_in p) (worth_in left p) c) → {b : Bool} → b ≡ may_in p c → b ≡ true
         → {after : Play} {gained r : ℕ} → after ≡ step p c → gained ≡ gain_in side after → gained ≤ 1
         → best < ceiling
-        → r ≡ within (best - gained) (ceiling - gained) (value_in left after) → gained + r ≡ within floor ceiling (greatest (may_in p) (worth_in left p) (c + 1))
+        → r ≡ within (best - gained) (ceiling - gained) (value_in side left after) → gained + r ≡ within floor ceiling (greatest (may_in p) (worth_in left p) (c + 1))
     unfolding greatest
     more_with i e t s g one high m = rw (add-one c, ← e, t, ← worth-is s g) (raised floor ceiling best _ _ _ _ i m one high)
 
@@ -52,7 +39,7 @@ module _ (side : ℕ) where
     pub less_with : best ≡ within floor ceiling (smallest (may_in p) (worth_in left p) c) → {b : Bool} → b ≡ may_in p c → b ≡ true
         → {after : Play} {gained r : ℕ} → after ≡ step p c → gained ≡ gain_in side after → gained ≤ 1
         → floor < best → best ≤ ceiling
-        → r ≡ within (floor - gained) (best - gained) (value_in left after) → gained + r ≡ within floor ceiling (smallest (may_in p) (worth_in left p) (c + 1))
+        → r ≡ within (floor - gained) (best - gained) (value_in side left after) → gained + r ≡ within floor ceiling (smallest (may_in p) (worth_in left p) (c + 1))
     unfolding smallest
     less_with i e t s g one low high m =
         rw (add-one c, ← e, t, ← worth-is s g) (lowered floor ceiling best _ _ _ _ i m one low high)
@@ -132,10 +119,13 @@ module _ (side : ℕ) (p : Play) where
   unfolding best_in
   best_past h = rw (lt-ltb 52 p.played h)
 
-  pub best-most : p.played ≤ 52 → {b : Bool} → b ≡ ours_in side p → b ≡ true → {v : ℕ} → v ≡ within 0 65 (most_in side (52 - p.played) p) → v ≡ best_in side p
+  pub best-value : p.played ≤ 52 → {v : ℕ} → v ≡ within 0 65 (value_in side (52 - p.played) p) → v ≡ best_in side p
   unfolding best_in
-  best-most h e t f = f ∙ all-within 65 _ (omega (arith, (at_most side (52 - p.played) p).0)) ∙ rw (le-ltb 52 p.played h, ← e, t)
-
-  pub best-least : p.played ≤ 52 → {b : Bool} → b ≡ ours_in side p → b ≡ false → {v : ℕ} → v ≡ within 0 65 (least_in side (52 - p.played) p) → v ≡ best_in side p
-  unfolding best_in
-  best-least h e t f = f ∙ all-within 65 _ (omega (arith, (at_most side (52 - p.played) p).1)) ∙ rw (le-ltb 52 p.played h, ← e, t)
+  best-value h f = f ∙ all-within 65 _ value-most ∙ rw (le-ltb 52 p.played h) refl
+    where
+      value-most : value_in side (52 - p.played) p ≤ 65
+      value-most =
+          let most = at_most side (52 - p.played) p in
+          by_test (ours_in side p)
+          (λ (q : ours_in side p ≡ true). rw q (omega (arith, most.0)))
+          (λ (q : ours_in side p ≡ false). rw q (omega (arith, most.1)))

@@ -38,6 +38,10 @@ module _ (side : ℕ) where
     least_in (suc left) p =
         smallest (may_in p) (λ c. gain_in side (step p c) + (if ours_in side (step p c) then most_in left (step p c) else least_in left (step p c))) 52
 
+  -- the most where a player of the side is at turn, and else the least
+  abbrev pub value_in : ℕ → Play → ℕ
+  value_in left p = if ours_in side p then most_in left p else least_in left p
+
   -- the tricks that the side takes of those left
   unfoldable pub best_in : Play → ℕ
-  best_in p = if ltb 52 p.played then 0 else if ours_in side p then most_in (52 - p.played) p else least_in (52 - p.played) p
+  best_in p = if ltb 52 p.played then 0 else value_in (52 - p.played) p

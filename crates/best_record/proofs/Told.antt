@@ -1,9 +1,9 @@
--- What is answered for a record is told by its number: tricks below 1024, four at the most, or a refusal and its place. Assumes nothing.
-use Prim.Native.Nat.{ℕ, ◌+◌, ◌*◌, ◌/◌, ◌%◌, ◌≤◌, ◌<◌}
+-- What is answered for a record: four tricks at the most, or a refusal up to the last card or 31, with its place. Assumes nothing.
+use Prim.Native.Nat.{ℕ, ◌≤◌, ◌<◌}
 use native.Mathlib.Omega.{arith}
-use mathlib.Core.Path.{◌≡◌, refl, ap, ap₂, subst, ◌∙◌}
-use mathlib.Core.Logic.{◌⊎◌, inl, inr, ⊎_elim}
-use mathlib.Core.Bool.{Bool, true, false, not, ◌&&◌}
+use mathlib.Core.Path.{◌≡◌, refl, subst}
+use mathlib.Core.Logic.{◌⊎◌, inl, inr}
+use mathlib.Core.Bool.{true, false, not}
 use mathlib.Core.List.{List}
 use borrow.Author.Tests.{leb-true, leb-false, le-leb, lt-leb}
 use lib.Dec.{leb, lit≤}
@@ -12,7 +12,7 @@ use Rattle.laws.specs.Auction.{passed_out}
 use Rattle.laws.specs.Law44.{tricks_complete, tricks_left}
 use Rattle.laws.specs.Reading.{Reading, Reading.refused, Reading.found, refuse}
 use Rattle.laws.specs.LastCard.{ToLastCard, read_to_last_card}
-use Rattle.laws.specs.BestRecord.{trump_in, opening_in, side_in, cards_in, cards_left, is_ending, best_after, answer, best_of, best_number}
+use Rattle.laws.specs.BestRecord.{trump_in, opening_in, side_in, cards_in, cards_left, is_ending, best_after, answer, best_of}
 use Rattle.laws.proofs.Tests.{by_test, not_both, and_left, and_right}
 use Rattle.laws.proofs.Numbered.{Fair, fair_last_card}
 use Rattle.laws.proofs.LastCard.{last-card-found}
@@ -72,24 +72,3 @@ module _ (bytes : List ℕ) where
 
   pub told : Tricks (best_of bytes) ⊎ Refusal (best_of bytes)
   told = rw (said-is bytes) (either (read_to_last_card bytes 0) refl)
-
-  -- ---- by the number
-  pub told-tricks : best_number (best_of bytes) < 1024 → (best_of bytes ≡ given (best_number (best_of bytes))) × (best_number (best_of bytes) ≤ 4)
-  told-tricks low =
-      ⊎_elim
-      (λ (t : Tricks (best_of bytes)). rw t.1 (refl, t.2))
-      (λ (t : Refusal (best_of bytes)). absurd (omega (arith, rw t.2 at low, t.3)))
-      told
-
-  pub told-refusal : 1024 ≤ best_number (best_of bytes)
-      → best_of bytes ≡ refused_at (best_number (best_of bytes) / 1024) (best_number (best_of bytes) % 1024)
-  told-refusal high =
-      ⊎_elim
-      (λ (t : Tricks (best_of bytes)). absurd (omega (arith, rw t.1 at high, t.2)))
-      (λ (t : Refusal (best_of bytes)).
-      let n = t.0 in
-      let place = t.1 in
-      let one : n ≡ (n * 1024 + place) / 1024 = omega (arith, t.5) in
-      let two : place ≡ (n * 1024 + place) % 1024 = omega (arith, t.5) in
-      rw t.2 (ap₂ refused_at one two))
-      told

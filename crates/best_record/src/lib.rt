@@ -3,39 +3,39 @@
 
 ghost use Rattle.std.specs.Prelude.{◌≡◌};
 ghost use Rattle.laws.specs.BestRecord.{best_of, best_number};
+ghost use Rattle.laws.specs.Refused.{placed_of};
 ghost use Rattle.best_record.specs.Ending.{ending_at};
 
 use best_play::best_play;
 use last_card::read_to_last_card;
-use laws::{NO_ENDING, refusal_number};
+use laws::{Refusal, Refused};
 
 // Whether there is a contract, at most sixteen cards are left, and no trick is under way.
 fn is_ending(out: bool, played: u64) -> bool
     ensures { result ≡ ending_at out played }
 {
-    if out {
-        return false;
-    }
-    if played < 36 {
-        return false;
-    }
-    played % 4 == 0
+    !out && 36 <= played && played % 4 == 0
 }
 
-// Says how many of the tricks left declarer's side takes by best play on both sides, 0 to 4; or a refusal × 1024 + its place, as the judge refuses the record
-// up to its last card, and then 31 where no ending has been reached.
+// How many of the tricks left declarer's side takes by best play on both sides, 0 to 4; or, as the judge refuses the record up to its last card, the refusal
+// with its place, and then 31 where no ending has been reached.
+pub fn best_tricks(bytes: &[u8]) -> Result<u16, Refused>
+    ensures { placed_of result ≡ best_of bytes.now }
+{
+    let reached = read_to_last_card(bytes)?.value;
+    let play = reached.after.play;
+    if !is_ending(reached.out, play.played) {
+        return Err(Refusal::NoEnding.at(0));
+    }
+    Ok(best_play(play, (reached.contract.declarer % 2) as u64))
+}
+
+// Says them by a number: the tricks, or a refusal × 1024 + its place.
 pub fn judge_best_play(bytes: &[u8]) -> u32
     ensures { result ≡ best_number (best_of bytes.now) }
 {
-    let reached = read_to_last_card(bytes);
-    if reached.refusal != 0 {
-        return reached.refusal;
+    match best_tricks(bytes) {
+        Ok(tricks) => u32::from(tricks),
+        Err(refused) => u32::from(refused),
     }
-    let t = reached.after;
-    let p = t.play;
-    if !is_ending(reached.out, p.played) {
-        return refusal_number(NO_ENDING, 0);
-    }
-    let k = reached.contract;
-    best_play(p, (k.declarer % 2) as u64) as u32
 }

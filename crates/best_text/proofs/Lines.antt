@@ -1,34 +1,38 @@
--- The text by the number that is answered for a record, and how long it is. Assumes nothing.
-use Prim.Native.Nat.{ℕ, ◌+◌, ◌/◌, ◌%◌, ◌≤◌, ◌<◌}
+-- The text by what is answered for a record, and how long it is. Assumes nothing.
+use Prim.Native.Nat.{ℕ, ◌+◌, ◌≤◌, ◌<◌}
 use native.Mathlib.Omega.{arith}
-use mathlib.Core.Path.{◌≡◌, ap, ◌∙◌}
+use mathlib.Core.Path.{◌≡◌, refl, ◌∙◌}
 use mathlib.Core.Logic.{⊎_elim}
 use mathlib.Core.List.{List, [], ◌∷◌}
 use lib.Dec.{lit≤}
 use lib.ListN.{length, length-append}
-use Rattle.laws.specs.Decimal.{decimal}
 use Rattle.laws.specs.Slip.{refusal_line}
-use Rattle.laws.specs.BestRecord.{best_of, best_number}
+use Rattle.laws.specs.Refusals.{refused_at, given}
+use Rattle.laws.specs.BestRecord.{best_of}
 use Rattle.laws.specs.BestText.{tricks_line, text_of, best_text, most_text_bytes}
 use Rattle.text.proofs.Printed.{one-digit, length_by}
-use Rattle.best_record.proofs.Told.{Tricks, Refusal, told, told-tricks, told-refusal}
+use Rattle.best_record.proofs.Told.{Tricks, Refusal, told}
 
 -- a number of one digit
 pub tricks-line : (n : ℕ) → n < 10 → (48 + n) ∷ 10 ∷ [] ≡ tricks_line n
 unfolding tricks_line
 tricks-line n h = rw (one-digit n h)
 
-module _ (bytes : List ℕ) (n : ℕ) (en : n ≡ best_number (best_of bytes)) where
-  pub few : n < 1024 → n < 10
-  few low = omega (arith, en, (told-tricks bytes (rw en at low)).1)
+-- ---- by what is answered for a record
+pub few : (bytes : List ℕ) {tricks : ℕ} → given tricks ≡ best_of bytes → tricks < 10
+few bytes {tricks} e =
+    ⊎_elim
+    (λ (t : Tricks (best_of bytes)). let same : tricks ≡ t.0 = (let f = e ∙ t.1 in cc) in omega (arith, same, t.2))
+    (λ (t : Refusal (best_of bytes)). absurd (let f = e ∙ t.2 in cc))
+    (told bytes)
 
-  pub as_tricks : n < 1024 → best_text bytes ≡ tricks_line n
-  unfolding best_text text_of
-  as_tricks low = ap text_of (told-tricks bytes (rw en at low)).0 ∙ rw en
+pub as_tricks : (bytes : List ℕ) {tricks : ℕ} → given tricks ≡ best_of bytes → best_text bytes ≡ tricks_line tricks
+unfolding best_text text_of
+as_tricks bytes e = rw (← e) refl
 
-  pub as_refusal : 1024 ≤ n → best_text bytes ≡ refusal_line (n / 1024) (n % 1024)
-  unfolding best_text text_of
-  as_refusal high = ap text_of (told-refusal bytes (rw en at high)) ∙ rw en
+pub as_refusal : (bytes : List ℕ) {n place : ℕ} → refused_at n place ≡ best_of bytes → best_text bytes ≡ refusal_line n place
+unfolding best_text text_of
+as_refusal bytes e = rw (← e) refl
 
 -- ---- every text has at most 8 bytes
 tricks-short : (n : ℕ) → n ≤ 4 → length (tricks_line n) ≤ most_text_bytes

@@ -6,16 +6,19 @@ ghost use Rattle.board_call.specs.Asked.{is_board, dealer_asked, vulnerable_aske
 ghost use Rattle.deal.specs.Sides.{sides_of};
 ghost use Rattle.laws.specs.Law2.{vulnerability};
 
-use laws::{NO_BOARD_OR_TABLE, refusal_number};
+use laws::{Refusal, Refused};
+
+const NO_BOARD: Refused = Refused {
+    refusal: Refusal::NoBoardOrTable,
+    place: 0,
+};
 
 // Whether a number is that of a board, 1 to 127.
+#[tactic(auto, unfolding(crate::specs::Asked::is_board))]
 fn is_board(board: u32) -> bool
     ensures { result ≡ is_board board }
 {
-    if board == 0 {
-        return false;
-    }
-    board <= 127
+    board != 0 && board <= 127
 }
 
 // The dealer of a board, a seat from 0 to 3; 3 with place 0 for a number that is not 1 to 127.
@@ -25,7 +28,7 @@ pub fn judge_dealer(board: u32) -> u32
     if is_board(board) {
         return deal::dealer(board as u8) as u32;
     }
-    refusal_number(NO_BOARD_OR_TABLE, 0)
+    u32::from(NO_BOARD)
 }
 
 // The vulnerable sides of a board: 0 none, 1 North-South, 2 East-West, 3 both.
@@ -47,5 +50,5 @@ pub fn judge_vulnerable(board: u32) -> u32
     if is_board(board) {
         return sides(board as u8);
     }
-    refusal_number(NO_BOARD_OR_TABLE, 0)
+    u32::from(NO_BOARD)
 }

@@ -1,5 +1,5 @@
 // Law 68 by the number of cards played: whether a claim may stand, and how many tricks are left.
-#![tactic(auto)]
+#![tactic(auto, unfolding(crate::specs::Claims::point_at, crate::specs::Claims::may_claim))]
 
 ghost use Rattle.std.specs.Prelude.{◌≡◌, ◌-◌, ◌/◌};
 ghost use Rattle.claims.specs.Claims.{may_claim};
@@ -8,22 +8,12 @@ ghost use Rattle.claims.specs.Claims.{may_claim};
 pub fn may_claim(out: bool, played: u8) -> bool
     ensures { result ≡ may_claim out played }
 {
-    if out {
-        return false;
-    }
-    if played < 1 {
-        return false;
-    }
-    played <= 51
+    !out && 1 <= played && played <= 51
 }
 
 // The tricks left after so many cards.
 pub fn tricks_left(played: u8) -> u8
     ensures { result ≡ 13 - played / 4 }
 {
-    let complete = played / 4;
-    if 13 < complete {
-        return 0;
-    }
-    13 - complete
+    13u8.saturating_sub(played / 4)
 }

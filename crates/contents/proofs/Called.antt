@@ -8,21 +8,19 @@ use mathlib.Core.List.{List, []}
 use borrow.Author.Tests.{lt-ltb, le-ltb}
 use lib.Dec.{ltb}
 use lib.ListN.{length}
-use Rattle.laws.specs.Refusals.{refusal_number, auction_unfinished, too_many_cards, too_many_calls}
+use Rattle.laws.specs.Refusals.{refused_at, given, auction_unfinished, too_many_cards, too_many_calls}
 use Rattle.laws.specs.Auction.{is_over}
 use Rattle.laws.specs.CallRefusal.{call_refusal, call_place}
 use Rattle.laws.specs.FlatPlay.{items_of, cards_in}
-use Rattle.laws.specs.Reading.{Reading, Reading.refused, Reading.found, onward, refuse}
+use Rattle.laws.specs.Reading.{Reading, Reading.found, onward, refuse}
 use Rattle.laws.specs.Contents.{take_each, take_calls, take_items}
-use Rattle.laws.proofs.ContentsStop.{each-numbered}
+use Rattle.laws.specs.Refused.{checked_in}
+use Rattle.laws.proofs.Answered.{is-refused, is-found}
+use Rattle.auction.specs.declared.Auction.{Auction}
+use Rattle.auction.specs.Position.{position_of}
 use Rattle.auction.specs.Asked.{over_of}
 use Rattle.auction.proofs.History.{over-is}
-use Rattle.contents.specs.declared.calls.Calls.{Calls}
-use Rattle.contents.specs.Checked.{refusal_in, no_calls, calls_by, cards_by}
-
--- a number that is not 0 makes no refusal 0
-pub not_0 : (n place : ℕ) → (n ≡ 0 → ⊥) → refusal_number n place ≡ 0 → ⊥
-not_0 n place z e = z (omega arith)
+use Rattle.contents.specs.Checked.{calls_by, cards_by}
 
 or_true : (b : Bool) → (b || true) ≡ true
 or_true true = refl
@@ -36,7 +34,7 @@ module _ (calls : List ℕ) (d : ℕ) where
   abbrev ended : Reading (List ℕ) → Reading (List ℕ)
   ended r = onward r (λ h m. onward (refuse auction_unfinished (length calls) (not (is_over h)) [] m) (λ u k. found h k))
 
-  pub calls-many : 511 < length calls → no_calls too_many_calls 511 ≡ calls_by d (take_calls d calls [] 0)
+  pub calls-many : 511 < length calls → refused_at too_many_calls 511 ≡ calls_by d (take_calls d calls [] 0)
   unfolding take_calls refuse
   calls-many o = rw (lt-ltb 511 (length calls) o)
 
@@ -44,37 +42,24 @@ module _ (calls : List ℕ) (d : ℕ) where
   unfolding take_calls refuse
   whole few = rw (le-ltb 511 (length calls) few)
 
-  stopped : (r : Reading (List ℕ)) → ((calls_by d r).refusal ≡ 0 → ⊥) → calls_by d r ≡ calls_by d (ended r)
-  stopped (refused n place) e = refl
-  stopped (found h m) e = absurd (e refl)
+  module _ (few : length calls ≤ 511) where
+    pub calls-stopped : {n place : ℕ} → refused_at n place ≡ calls_by d each → refused_at n place ≡ calls_by d (take_calls d calls [] 0)
+    calls-stopped e = rw (whole few, is-refused (position_of d) each e)
 
-  not-over : (h : List ℕ) (m : ℕ) → is_over h ≡ false → no_calls auction_unfinished (length calls) ≡ calls_by d (ended (found h m))
-  unfolding refuse
-  not-over h m o = rw o
+    module _ {a : Auction} (e : given a ≡ calls_by d each) where
+      told : (h : List ℕ) × (m : ℕ) × (each ≡ found h m) × (a ≡ position_of d h)
+      told = is-found (position_of d) each e
 
-  over : (h : List ℕ) (m : ℕ) → is_over h ≡ true → calls_by d (found h m) ≡ calls_by d (ended (found h m))
-  unfolding refuse
-  over h m o = rw o
+      over_told : is_over told.0 ≡ over_of a
+      over_told = sym (over-is d told.0) ∙ ap over_of (sym told.3)
 
-  module _ (few : length calls ≤ 511) (k : Calls) (ek : k ≡ calls_by d each) where
-    pub calls-stopped : (k.refusal ≡ 0 → ⊥) → k ≡ calls_by d (take_calls d calls [] 0)
-    calls-stopped e = ek ∙ stopped each (rw ek at e) ∙ ap (calls_by d) (sym (whole few))
+      pub calls_open : over_of a ≡ false → refused_at auction_unfinished (length calls) ≡ calls_by d (take_calls d calls [] 0)
+      unfolding refuse
+      calls_open o = sym (ap (calls_by d) (whole few ∙ ap ended told.2) ∙ rw (over_told ∙ o))
 
-    module _ (e : k.refusal ≡ 0) where
-      pub calls_open : over_of k.after ≡ false → no_calls auction_unfinished (length calls) ≡ calls_by d (take_calls d calls [] 0)
-      calls_open o = go each refl (rw ek at e) (rw ek at o) ∙ ap (calls_by d) (sym (whole few))
-        where
-          go : (r : Reading (List ℕ)) → each ≡ r → (calls_by d r).refusal ≡ 0 → over_of (calls_by d r).after ≡ false
-              → no_calls auction_unfinished (length calls) ≡ calls_by d (ended r)
-          go (refused n place) q z o = absurd (not_0 n place (each-numbered (call_place d) (call_refusal d) calls [] 0 q) z)
-          go (found h m) q z o = not-over h m (sym (over-is d h) ∙ o)
-
-      pub calls-over : over_of k.after ≡ true → k ≡ calls_by d (take_calls d calls [] 0)
-      calls-over o = ek ∙ go each refl (rw ek at e) (rw ek at o) ∙ ap (calls_by d) (sym (whole few))
-        where
-          go : (r : Reading (List ℕ)) → each ≡ r → (calls_by d r).refusal ≡ 0 → over_of (calls_by d r).after ≡ true → calls_by d r ≡ calls_by d (ended r)
-          go (refused n place) q z o = absurd (not_0 n place (each-numbered (call_place d) (call_refusal d) calls [] 0 q) z)
-          go (found h m) q z o = over h m (sym (over-is d h) ∙ o)
+      pub calls-over : over_of a ≡ true → given a ≡ calls_by d (take_calls d calls [] 0)
+      unfolding refuse
+      calls-over o = sym (ap (calls_by d) (whole few ∙ ap ended told.2) ∙ rw (over_told ∙ o) (ap given (sym told.3)))
 
 -- ---- the cards
 pub few-cards : (out : Bool) (n : ℕ) → n ≤ (if out then 0 else 52) → n ≤ 52
@@ -88,7 +73,7 @@ module _ (out : Bool) (trump opening : ℕ) (deal plays : List ℕ) where
   abbrev n : ℕ
   n = cards_in plays
 
-  pub cards-over : most < n → refusal_number too_many_cards (min n 63) ≡ refusal_in (cards_by out trump opening deal plays [] 0)
+  pub cards-over : most < n → refused_at too_many_cards (min n 63) ≡ checked_in (cards_by out trump opening deal plays [] 0)
   unfolding cards_by refuse
   cards-over h = rw (over-most out h)
     where
@@ -96,7 +81,7 @@ module _ (out : Bool) (trump opening : ℕ) (deal plays : List ℕ) where
       over-most true h = rw (lt-ltb 0 n h) (or_true (ltb 52 n))
       over-most false h = rw (lt-ltb 52 n h)
 
-  pub cards-counted : n ≤ most → refusal_in (take_items trump opening deal (items_of plays) [] [] 0) ≡ refusal_in (cards_by out trump opening deal plays [] 0)
+  pub cards-counted : n ≤ most → checked_in (take_items trump opening deal (items_of plays) [] [] 0) ≡ checked_in (cards_by out trump opening deal plays [] 0)
   unfolding cards_by refuse
   cards-counted h = rw (within out h)
     where

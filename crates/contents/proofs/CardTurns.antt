@@ -2,17 +2,18 @@
 use Prim.Native.Nat.{ℕ, ◌≤◌, ◌<◌, ◌+◌}
 use native.Mathlib.Omega.{arith}
 use mathlib.Core.Path.{◌≡◌, refl, sym, ap, ◌∙◌}
-use mathlib.Core.Bool.{true, false}
+use mathlib.Core.Bool.{false}
 use mathlib.Core.List.{List, [], ◌∷◌}
 use borrow.Author.Tests.{eq-eqb, ne_eqb}
 use lib.ListN.{length, get_or}
 use Rattle.laws.specs.Choice.{how_many}
-use Rattle.laws.specs.Refusals.{refusal_number}
+use Rattle.laws.specs.Refusals.{Placed, refused_at, given}
+use Rattle.laws.specs.Refused.{checked_in}
 use Rattle.laws.specs.Law44.{cards_played}
-use Rattle.laws.specs.Events.{Event, played, begins_code, cards_of, as_events}
+use Rattle.laws.specs.Events.{Event, played, begins_code, as_events}
 use Rattle.laws.specs.CardRefusal.{card_refusal}
 use Rattle.laws.specs.CodeRefusal.{event_refusal}
-use Rattle.laws.specs.Reading.{Reading, refuse}
+use Rattle.laws.specs.Reading.{refuse}
 use Rattle.laws.specs.FlatPlay.{event, items_of, is_card, cards_in, is_misplaced, item_refusal, after_item}
 use Rattle.laws.specs.Plays.{play_place}
 use Rattle.laws.specs.Contents.{take_items}
@@ -21,14 +22,13 @@ use Rattle.laws.proofs.CardsAlone.{cards-alone}
 use Rattle.laws.proofs.Plays.{card_no_code}
 use Rattle.deal.specs.Hands.{words_of}
 use Rattle.play.specs.declared.Play.{Play}
-use Rattle.play.specs.Position.{start_of, step, verdict_of, verdict_number}
+use Rattle.play.specs.Position.{start_of, step, refusal_of}
 use Rattle.play.specs.History.{position_of, AllPlayed}
 use Rattle.play.proofs.Verdicts.{verdict_law}
 use Rattle.position.specs.declared.table.Table.{Table}
 use Rattle.position.specs.Table.{table_with}
 use Rattle.position.specs.History.{ThirteenEach, OfEvents}
 use Rattle.position.proofs.TableStands.{alone-is, none-alone}
-use Rattle.contents.specs.Checked.{refusal_in}
 use Rattle.contents.proofs.Items.{items_at, none_at, card_at_lem}
 
 -- after i cards: p is their position
@@ -41,8 +41,8 @@ pub record CardsAt (plays deal : List ℕ) (trump opening : ℕ) (p : Play) (i :
   pub same : take_items trump opening deal (items_at plays i) (as_events cards) [] 0 ≡ take_items trump opening deal (items_of plays) [] [] 0
 
 module _ (plays deal : List ℕ) (trump opening : ℕ) where
-  abbrev whole : ℕ
-  whole = refusal_in (take_items trump opening deal (items_of plays) [] [] 0)
+  abbrev whole : Placed (Unit {0})
+  whole = checked_in (take_items trump opening deal (items_of plays) [] [] 0)
 
   pub card-begins : {p : Play} → p ≡ start_of deal (words_of deal) trump opening → CardsAt plays deal trump opening p 0
   unfolding position_of AllPlayed as_events cards_in
@@ -56,21 +56,21 @@ module _ (plays deal : List ℕ) (trump opening : ℕ) where
     unfolding cards_played
     place_is = ap length (cards-alone r.cards) ∙ r.many
 
-    pub card_ends : length plays ≤ i → 0 ≡ whole
+    pub card_ends : length plays ≤ i → given tt ≡ whole
     unfolding take_items
-    card_ends h = ap refusal_in (rw (none_at plays i h) at r.same)
+    card_ends h = ap checked_in (rw (none_at plays i h) at r.same)
 
-    module _ (h : i < length plays) (all : length deal ≡ 52) {c f : ℕ} (q : c ≡ get_or plays i 0) (e : f ≡ verdict_number (verdict_of p c)) where
+    module _ (h : i < length plays) (all : length deal ≡ 52) {c f : ℕ} (q : c ≡ get_or plays i 0) (e : f ≡ refusal_of p c) where
       law : f ≡ card_refusal trump opening deal r.cards c
-      law = e ∙ ap (λ (x : Play). verdict_number (verdict_of x c)) r.position ∙ verdict_law deal trump opening all r.cards r.clean c
+      law = e ∙ ap (λ (x : Play). refusal_of x c) r.position ∙ verdict_law deal trump opening all r.cards r.clean c
 
       item_is : item_refusal trump opening deal events (event (played c)) (items_at plays (i + 1)) ≡ f
       unfolding item_refusal is_misplaced event_refusal
       item_is = rw (cards-alone r.cards) (sym law)
 
-      pub card_stops : begins_code c ≡ false → (f ≡ 0 → ⊥) → refusal_number f i ≡ whole
+      pub card_stops : begins_code c ≡ false → (f ≡ 0 → ⊥) → refused_at f i ≡ whole
       unfolding take_items refuse
-      card_stops b z = ap refusal_in (rw (card_at_lem plays i h c q b, item_is, ne_eqb f 0 z, place_is) at r.same)
+      card_stops b z = ap checked_in (rw (card_at_lem plays i h c q b, item_is, ne_eqb f 0 z, place_is) at r.same)
 
       pub card-goes : f ≡ 0 → {b : Play} → b ≡ step p c → CardsAt plays deal trump opening b (i + 1)
       unfolding position_of AllPlayed as_events take_items refuse after_item how_many is_card
@@ -98,5 +98,5 @@ module _ (plays deal : List ℕ) (trump opening : ℕ) where
           many = sym place_is;
         }
 
-    pub on_with_codes : refusal_in (take_items trump opening deal (items_at plays i) events [] 0) ≡ whole
-    on_with_codes = ap refusal_in r.same
+    pub on_with_codes : checked_in (take_items trump opening deal (items_at plays i) events [] 0) ≡ whole
+    on_with_codes = ap checked_in r.same

@@ -1,32 +1,32 @@
 -- The loop over plays with codes among them: what the checks come to from a turn on is what they come to in all. Assumes nothing.
-use Rattle.std.specs.Prelude.{if◌then◌else◌}
 use Prim.Native.Nat.{ℕ, ◌≤◌, ◌<◌, ◌+◌}
 use native.Mathlib.Omega.{arith}
-use mathlib.Core.Path.{◌≡◌, refl, sym, ap, ◌∙◌}
-use mathlib.Core.Bool.{Bool, true, false, not}
+use mathlib.Core.Path.{◌≡◌, refl, sym, ap, ap₂, ◌∙◌}
+use mathlib.Core.Bool.{true, false}
 use mathlib.Core.List.{List, [], ◌∷◌}
-use borrow.Author.Tests.{eq-eqb, ne_eqb, lt-ltb, le-ltb, ltb-true, ltb-false}
+use borrow.Author.Tests.{ne_eqb, lt-ltb, le-ltb, ltb-true, ltb-false}
 use lib.Dec.{eqb, ltb}
-use lib.ListN.{length, get_or, drop}
+use lib.ListN.{length, get_or}
 use Rattle.laws.specs.Choice.{some, how_many}
-use Rattle.laws.specs.Refusals.{refusal_number, accepted, too_many_codes, choice_not_open}
+use Rattle.laws.specs.Refusals.{Answer, refused, answered, Placed, refused_at, given, accepted, too_many_codes, choice_not_open}
+use Rattle.laws.specs.Refused.{answer_by, checked_in}
+use Rattle.laws.proofs.Answered.{answer-taken, answer-refused}
+use Rattle.contents.specs.Checked.{coded_by}
 use Rattle.laws.specs.Law44.{cards_played}
 use Rattle.laws.specs.Events.{Event, played, exposed, choice, begins_code, exposure_code, cards_of}
-use Rattle.laws.specs.CardRefusal.{card_refusal}
-use Rattle.laws.specs.CodeRefusal.{codes_full, exposure_refusal, choice_refusal, event_refusal}
+use Rattle.laws.specs.CodeRefusal.{codes_full, event_refusal}
 use Rattle.laws.specs.Kept.{NoneRefused}
-use Rattle.laws.specs.Reading.{Reading, refuse}
+use Rattle.laws.specs.Reading.{refuse}
 use Rattle.laws.specs.Plays.{play_place}
-use Rattle.laws.specs.FlatPlay.{Item, event, broken, code_item, items_of, is_card, is_misplaced, item_refusal, after_item}
+use Rattle.laws.specs.FlatPlay.{Item, event, broken, code_item, is_card, is_misplaced, item_refusal, after_item}
 use Rattle.laws.specs.Contents.{take_items}
 use Rattle.laws.proofs.Tests.{by_test, not_both}
 use Rattle.laws.proofs.ItemsTaken.{placed-number, placed, some-many}
-use Rattle.play.specs.Position.{verdict_of, verdict_number}
+use Rattle.play.specs.Position.{refusal_of}
 use Rattle.position.specs.declared.table.Table.{Table}
 use Rattle.position.specs.Table.{full_in, exposure_in, choice_in, after_exposed, after_choice, after_play}
 use Rattle.position.specs.History.{OfEvents, position_of}
 use Rattle.position.proofs.Refusing.{card_law, full_law, exposure_law, choice_law}
-use Rattle.contents.specs.Checked.{refusal_in}
 use Rattle.contents.proofs.Items.{items_at, none_at, card_at_lem, code_at, cut_at, code_no_card}
 
 -- a code for which there is no room, whatever it is
@@ -66,7 +66,7 @@ after_code trump opening deal e broken rest n q w = absurd (placed-number (codes
 -- ---- one code that has a card after it, where there is room for it
 module _ (deal : List ℕ) (trump opening : ℕ) (e : List Event) (t : Table) (place : ℕ) (o : OfEvents deal trump opening e t place) (rest : List Item)
     (room : codes_full e ≡ false) (card : some is_card rest ≡ true) where
-  pub bit-over : (k bit : ℕ) → 1 < bit → choice_not_open ≡ item_refusal trump opening deal e (code_item exposure_code k bit) rest
+  pub bit-over : (k bit : ℕ) → 1 < bit → refused choice_not_open ≡ coded_by trump opening deal e (code_item exposure_code k bit) rest
   unfolding code_item item_refusal
   bit-over k bit h = rw (lt-ltb 1 bit h, room)
 
@@ -75,33 +75,38 @@ module _ (deal : List ℕ) (trump opening : ℕ) (e : List Event) (t : Table) (p
     unfolding code_item
     exposure_item = rw (le-ltb 1 bit low)
 
-    pub exposed-number : (f : ℕ) → f ≡ exposure_in t k → f ≡ item_refusal trump opening deal e (code_item exposure_code k bit) rest
+    exposed-number : exposure_in t k ≡ item_refusal trump opening deal e (code_item exposure_code k bit) rest
     unfolding item_refusal is_misplaced event_refusal
-    exposed-number f ef =
-        ef ∙ ap (λ (x : Table). exposure_in x k) o.position
+    exposed-number =
+        ap (λ (x : Table). exposure_in x k) o.position
         ∙ exposure_law deal trump opening o.deal_of_lem.places o.deal_of_lem.thirteen o.seat e o.none_refused k
         ∙ rw (exposure_item, card, room)
 
-    pub exposed-after : (after : Table) → after ≡ after_exposed t k (eqb bit 1)
-        → after ≡ position_of deal trump opening (after_item (code_item exposure_code k bit) e)
+    exposed-after : after_exposed t k (eqb bit 1) ≡ position_of deal trump opening (after_item (code_item exposure_code k bit) e)
     unfolding position_of after_item
-    exposed-after after s = s ∙ rw (exposure_item, o.position)
+    exposed-after = rw (exposure_item, o.position)
+
+    pub exposed_is : answer_by (exposure_in t k) (after_exposed t k (eqb bit 1)) ≡ coded_by trump opening deal e (code_item exposure_code k bit) rest
+    exposed_is = ap₂ answer_by exposed-number exposed-after
 
   module _ (code kind suit : ℕ) (other : code ≡ 52 → ⊥) where
     choice_item : code_item code kind suit ≡ event (choice kind suit)
     unfolding code_item
     choice_item = rw (ne_eqb code 52 other)
 
-    pub chosen_number : (f : ℕ) → f ≡ choice_in t kind suit → f ≡ item_refusal trump opening deal e (code_item code kind suit) rest
+    chosen_number : choice_in t kind suit ≡ item_refusal trump opening deal e (code_item code kind suit) rest
     unfolding item_refusal is_misplaced event_refusal
-    chosen_number f ef =
-        ef ∙ ap (λ (x : Table). choice_in x kind suit) o.position
+    chosen_number =
+        ap (λ (x : Table). choice_in x kind suit) o.position
         ∙ choice_law deal trump opening o.deal_of_lem.places o.deal_of_lem.thirteen o.seat e o.none_refused kind suit
         ∙ rw (choice_item, card, room)
 
-    pub chosen_after : (after : Table) → after ≡ after_choice t kind suit → after ≡ position_of deal trump opening (after_item (code_item code kind suit) e)
+    chosen_after : after_choice t kind suit ≡ position_of deal trump opening (after_item (code_item code kind suit) e)
     unfolding position_of after_item
-    chosen_after after s = s ∙ rw (choice_item, o.position)
+    chosen_after = rw (choice_item, o.position)
+
+    pub chosen_is : answer_by (choice_in t kind suit) (after_choice t kind suit) ≡ coded_by trump opening deal e (code_item code kind suit) rest
+    chosen_is = ap₂ answer_by chosen_number chosen_after
 
 -- ---- the loop: the position is that of events after which the checks come to the same
 pub record Turned (deal : List ℕ) (trump opening : ℕ) (plays : List ℕ) (first : List Event) (at : ℕ) (t : Table) (i n : ℕ) : Type 0 where
@@ -110,23 +115,23 @@ pub record Turned (deal : List ℕ) (trump opening : ℕ) (plays : List ℕ) (fi
   pub same : take_items trump opening deal (items_at plays i) events [] 0 ≡ take_items trump opening deal (items_at plays at) first [] 0
 
 module _ (deal : List ℕ) (trump opening : ℕ) (plays : List ℕ) (first : List Event) (at : ℕ) where
-  abbrev whole : ℕ
-  whole = refusal_in (take_items trump opening deal (items_at plays at) first [] 0)
+  abbrev whole : Placed (Unit {0})
+  whole = checked_in (take_items trump opening deal (items_at plays at) first [] 0)
 
   pub turns_begin : (t : Table) (n : ℕ) → OfEvents deal trump opening first t n → Turned deal trump opening plays first at t at n
   turns_begin t n o = record { events = first; of_events = o; same = refl }
 
   module _ {t : Table} {i n : ℕ} (r : Turned deal trump opening plays first at t i n) where
-    pub turns_end : length plays ≤ i → 0 ≡ whole
+    pub turns_end : length plays ≤ i → given tt ≡ whole
     unfolding take_items
-    turns_end h = ap refusal_in (rw (none_at plays i h) at r.same)
+    turns_end h = ap checked_in (rw (none_at plays i h) at r.same)
 
     -- an item that is refused, and one that is not
     stops : (item : Item) (rest : List Item) → items_at plays i ≡ item ∷ rest → (f : ℕ) → item_refusal trump opening deal r.events item rest ≡ f
-        → (f ≡ 0 → ⊥) → refusal_number f n ≡ whole
+        → (f ≡ 0 → ⊥) → refused_at f n ≡ whole
     unfolding take_items refuse
     stops item rest q f e z =
-        rw r.of_events.many (ap refusal_in (rw (q, e, ne_eqb f 0 z) at r.same))
+        rw r.of_events.many (ap checked_in (rw (q, e, ne_eqb f 0 z) at r.same))
 
     goes : (item : Item) (rest : List Item) → items_at plays i ≡ item ∷ rest → item_refusal trump opening deal r.events item rest ≡ 0
         → take_items trump opening deal rest (after_item item r.events) [] 0 ≡ take_items trump opening deal (items_at plays at) first [] 0
@@ -144,7 +149,7 @@ module _ (deal : List ℕ) (trump opening : ℕ) (plays : List ℕ) (first : Lis
         abbrev item : Item
         item = code_item c (get_or plays (i + 1) 0) (get_or plays (i + 2) 0)
 
-        pub code_over : full_in t ≡ true → refusal_number too_many_codes n ≡ whole
+        pub code_over : full_in t ≡ true → refused_at too_many_codes n ≡ whole
         unfolding is_card
         code_over f =
             let full = sym full_is ∙ f in
@@ -160,7 +165,7 @@ module _ (deal : List ℕ) (trump opening : ℕ) (plays : List ℕ) (first : Lis
           pub room-is : codes_full r.events ≡ false
           room-is = sym full_is ∙ f
 
-          pub code_cut : length plays ≤ i + 2 → refusal_number choice_not_open n ≡ whole
+          pub code_cut : length plays ≤ i + 2 → refused_at choice_not_open n ≡ whole
           unfolding item_refusal
           code_cut l = stops broken [] (cut_at plays i h c ec b l) choice_not_open (rw room-is) (λ z. omega arith)
 
@@ -179,7 +184,7 @@ module _ (deal : List ℕ) (trump opening : ℕ) (plays : List ℕ) (first : Lis
                 (λ (q : is_card x ≡ true). absurd (let y = rw q at z in omega (arith, y)))
                 (λ (q : is_card x ≡ false). rw q (none-some items (let y = rw q at z in omega (arith, y))))
 
-            pub code_last : n ≡ cards → refusal_number choice_not_open n ≡ whole
+            pub code_last : n ≡ cards → refused_at choice_not_open n ≡ whole
             code_last z =
                 stops item _ (code_at plays i h c ec b l) choice_not_open
                 (last-number trump opening deal r.events item _ (code_no_card c _ _) room-is (none-some (items_at plays (i + 3)) (omega (arith, behind))))
@@ -192,37 +197,44 @@ module _ (deal : List ℕ) (trump opening : ℕ) (plays : List ℕ) (first : Lis
                 (λ (q : ltb 0 later ≡ true). ltb-true 0 later q)
                 (λ (q : ltb 0 later ≡ false). absurd (z (omega (arith, behind, ltb-false 0 later q)))))
 
-            module _ (g : ℕ) (eg : g ≡ item_refusal trump opening deal r.events item (items_at plays (i + 3))) where
-              pub code_stops : (g ≡ 0 → ⊥) → refusal_number g n ≡ whole
-              code_stops z = stops item _ (code_at plays i h c ec b l) g (sym eg) z
+            abbrev answered_by : Answer Table
+            answered_by = coded_by trump opening deal r.events item (items_at plays (i + 3))
 
-              pub code_goes : g ≡ 0 → (after : Table) → after ≡ position_of deal trump opening (after_item item r.events)
-                  → Turned deal trump opening plays first at after (i + 3) n
-              code_goes z after s =
-                  let o = r.of_events in
-                  let ok = after_code trump opening deal r.events item (items_at plays (i + 3)) (code_no_card c _ _) (sym eg ∙ z) o.none_refused in
-                  record {
-                    events = after_item item r.events;
-                    of_events = record {
-                      deal_of_lem = o.deal_of_lem;
-                      seat = o.seat;
-                      position = s;
-                      none_refused = ok.0;
-                      many = o.many ∙ sym ok.1;
-                    };
-                    same = goes item _ (code_at plays i h c ec b l) (sym eg ∙ z);
-                  }
+            abbrev after : Table
+            after = position_of deal trump opening (after_item item r.events)
+
+            pub code_stops : {g : ℕ} → refused g ≡ answered_by → refused_at g n ≡ whole
+            code_stops e =
+                let f = answer-refused (item_refusal trump opening deal r.events item (items_at plays (i + 3))) after e in
+                stops item _ (code_at plays i h c ec b l) _ (sym f.1) (λ z. f.0 (sym f.1 ∙ z))
+
+            pub code_goes : {next : Table} → answered next ≡ answered_by → Turned deal trump opening plays first at next (i + 3) n
+            code_goes {next} e =
+                let f = answer-taken (item_refusal trump opening deal r.events item (items_at plays (i + 3))) e in
+                let o = r.of_events in
+                let ok = after_code trump opening deal r.events item (items_at plays (i + 3)) (code_no_card c _ _) f.0 o.none_refused in
+                record {
+                  events = after_item item r.events;
+                  of_events = record {
+                    deal_of_lem = o.deal_of_lem;
+                    seat = o.seat;
+                    position = f.1;
+                    none_refused = ok.0;
+                    many = o.many ∙ sym ok.1;
+                  };
+                  same = goes item _ (code_at plays i h c ec b l) f.0;
+                }
 
       -- ---- a card
-      module _ (b : begins_code c ≡ false) (f : ℕ) (ef : f ≡ verdict_number (verdict_of t.play c)) where
+      module _ (b : begins_code c ≡ false) (f : ℕ) (ef : f ≡ refusal_of t.play c) where
         card_is : item_refusal trump opening deal r.events (event (played c)) (items_at plays (i + 1)) ≡ f
         unfolding item_refusal is_misplaced event_refusal
         card_is =
             let o = r.of_events in
-            sym (ef ∙ ap (λ (x : Table). verdict_number (verdict_of x.play c)) o.position
+            sym (ef ∙ ap (λ (x : Table). refusal_of x.play c) o.position
             ∙ card_law deal trump opening o.deal_of_lem.places o.deal_of_lem.thirteen o.seat r.events o.none_refused c)
 
-        pub card_stops : (f ≡ 0 → ⊥) → refusal_number f n ≡ whole
+        pub card_stops : (f ≡ 0 → ⊥) → refused_at f n ≡ whole
         card_stops z = stops (event (played c)) _ (card_at_lem plays i h c ec b) f card_is z
 
         pub card-goes : f ≡ 0 → (after : Table) → after ≡ after_play t c → Turned deal trump opening plays first at after (i + 1) (n + 1)

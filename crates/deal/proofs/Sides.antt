@@ -1,50 +1,46 @@
--- The table of the vulnerable sides is Law 2's, and a side's vulnerability is a bit of its entry. Assumes nothing.
-use mathlib.Core.Path.{◌≡◌, refl, sym, ap, ◌∙◌}
-use mathlib.Core.List.{List, [], ◌∷◌, map}
-use Prim.Native.Nat.{ℕ, ◌-◌, ◌/◌, ◌%◌}
-use native.Mathlib.Omega.{arith}
-use borrow.Author.Tests.{eq-eqb, ne_eqb}
+-- The table of the vulnerable sides is Law 2's, and so are the seats that they include. Assumes nothing.
+use Rattle.std.proofs.Common.{◌≡◌, refl, sym, ◌∙◌, List, [], ◌∷◌, map, ℕ, ◌-◌, ◌%◌, Bool, true, false, get_or}
+use lib.ListN.{get_or-map}
 use lib.Dec.{eqb}
-use lib.ListN.{get_or, get_or-map}
-use Rattle.laws.specs.Law2.{Vulnerability, none, ns, ew, both, sixteen_boards, vulnerability, includes, vulnerable}
-use Rattle.deal.specs.Sides.{sides_of}
+use Rattle.laws.specs.Law2.{sixteen_boards, vulnerability, includes, vulnerable}
+use Rattle.deal.specs.declared.Vulnerability.{Vulnerability}
+use Rattle.deal.specs.declared.Vulnerability.TheVariants.{Neither, NorthSouth, EastWest, Both}
+use Rattle.deal.specs.Sides.{law_of}
 
--- the numbers of the sixteen boards
-abbrev pub sides : List ℕ
-sides = 0 ∷ 1 ∷ 2 ∷ 3 ∷ 1 ∷ 2 ∷ 3 ∷ 0 ∷ 2 ∷ 3 ∷ 0 ∷ 1 ∷ 3 ∷ 0 ∷ 1 ∷ 2 ∷ []
+-- the sides of the sixteen boards, as the code has them
+abbrev pub sides : List Vulnerability
+sides =
+    Neither ∷ NorthSouth ∷ EastWest ∷ Both
+    ∷ NorthSouth ∷ EastWest ∷ Both ∷ Neither
+    ∷ EastWest ∷ Both ∷ Neither ∷ NorthSouth
+    ∷ Both ∷ Neither ∷ NorthSouth ∷ EastWest
+    ∷ []
 
 -- the whole table, computed
-table : map sides_of sixteen_boards ≡ sides
-unfolding sides_of sixteen_boards
+table : map law_of sides ≡ sixteen_boards
+unfolding sixteen_boards
 table = refl
 
-pub sides_at : (board before : ℕ) → before ≡ board - 1 → get_or sides (before % 16) 0 ≡ sides_of (vulnerability board)
-unfolding vulnerability sides_of
+pub sides_at : (board before : ℕ) → before ≡ board - 1 → law_of (get_or sides (before % 16) Neither) ≡ vulnerability board
+unfolding vulnerability
 sides_at board before e =
     rw e
-    (ap (λ (l : List ℕ). get_or l ((board - 1) % 16) 0) (sym table)
-    ∙ get_or-map sides_of sixteen_boards ((board - 1) % 16) none)
+    (sym (get_or-map law_of sides ((board - 1) % 16) Neither) ∙ rw table)
 
-north-south : (v : Vulnerability) (seat : ℕ) → seat % 2 ≡ 0 → eqb (sides_of v % 2) 1 ≡ includes v seat
-unfolding sides_of includes
-north-south none seat h = refl
-north-south ns seat h = rw h
-north-south ew seat h = rw h
-north-south both seat h = refl
+-- whether the sides include the side of a seat
+abbrev pub side_in : Vulnerability → ℕ → Bool
+side_in Neither seat = false
+side_in NorthSouth seat = eqb (seat % 2) 0
+side_in EastWest seat = eqb (seat % 2) 1
+side_in Both seat = true
 
-east-west : (v : Vulnerability) (seat : ℕ) → (seat % 2 ≡ 0 → ⊥) → eqb (sides_of v / 2) 1 ≡ includes v seat
-unfolding sides_of includes
-east-west none seat h = refl
-east-west ns seat h = sym (ne_eqb (seat % 2) 0 h)
-east-west ew seat h = sym (eq-eqb (seat % 2) 1 (omega arith))
-east-west both seat h = refl
+among : (v : Vulnerability) (seat : ℕ) → side_in v seat ≡ includes (law_of v) seat
+unfolding includes
+among Neither seat = refl
+among NorthSouth seat = refl
+among EastWest seat = refl
+among Both seat = refl
 
--- the low bit is North-South's, the high one East-West's
-module _ (board before seat : ℕ) (e : before ≡ board - 1) where
-  pub even_seat : seat % 2 ≡ 0 → eqb (get_or sides (before % 16) 0 % 2) 1 ≡ vulnerable board seat
-  unfolding vulnerable
-  even_seat h = ap (λ (n : ℕ). eqb (n % 2) 1) (sides_at board before e) ∙ north-south (vulnerability board) seat h
-
-  pub odd-seat : (seat % 2 ≡ 0 → ⊥) → eqb (get_or sides (before % 16) 0 / 2) 1 ≡ vulnerable board seat
-  unfolding vulnerable
-  odd-seat h = ap (λ (n : ℕ). eqb (n / 2) 1) (sides_at board before e) ∙ east-west (vulnerability board) seat h
+pub side_among : (v : Vulnerability) (board seat : ℕ) → law_of v ≡ vulnerability board → side_in v seat ≡ vulnerable board seat
+unfolding vulnerable
+side_among v board seat e = among v seat ∙ rw e

@@ -2,13 +2,17 @@
 -- Assumes nothing.
 use Rattle.std.specs.Prelude.{if◌then◌else◌}
 use mathlib.Core.Path.{◌≡◌, refl, ap, ◌∙◌}
-use mathlib.Core.Bool.{true, false}
-use mathlib.Core.List.{List}
-use Prim.Native.Nat.{ℕ, zero, suc, ◌≤◌, ◌<◌}
+use mathlib.Core.Bool.{true, false, not}
+use Rattle.std.proofs.Common.{unwrap_or, add-one, add-zero}
+use lib.Dec.{eqb}
+use Rattle.std.specs.List.{position, position_from}
+use Rattle.std.proofs.lemmas.Iterator.Adapters.{position_from-zero}
+use mathlib.Core.List.{List, [], ◌∷◌}
+use Prim.Native.Nat.{ℕ, zero, suc, ◌+◌, ◌≤◌, ◌<◌}
 use native.Mathlib.Omega.{arith}
-use borrow.Author.Tests.{eqb-true, eq-eqb, ne_eqb}
+use borrow.Author.Tests.{eqb-true, eq-eqb}
 use lib.Count.{ones}
-use lib.ListN.{length, get_or, drop, drop_of_length-le}
+use lib.ListN.{length, get_or, drop}
 use lib.Seq.{drop-cons}
 use Rattle.laws.specs.Cards.{no_seat, cards_dealt, has_thirteen, seats, first_without_thirteen, seat_without_thirteen}
 use Rattle.laws.proofs.Tests.{by_test}
@@ -63,16 +67,17 @@ pub by_hands : (l : List ℕ) → not_thirteen_from 0 (words_of l) ≡ seat_with
 unfolding not_thirteen_from words_of first_without_thirteen
 by_hands l = rw (ones_word 0 l, ones_word 1 l, ones_word 2 l, ones_word 3 l)
 
--- a loop over the hands: those before `seat` have thirteen
-pub passes : (hands : List ℕ) (seat : ℕ) → seat < length hands → ones (get_or hands seat 0) ≡ 13
-    → not_thirteen_from seat (drop seat hands) ≡ not_thirteen_from (suc seat) (drop (suc seat) hands)
+-- the place of the first hand without thirteen set bits, counted on from a seat; past the last where each has them
+from_seat : (seat last : ℕ) (hands : List ℕ) → last ≡ seat + length hands
+    → unwrap_or (position_from (λ (hand : ℕ). not (eqb (ones hand) 13)) seat hands) last ≡ not_thirteen_from seat hands
 unfolding not_thirteen_from
-passes hands seat h e = rw (drop-cons hands seat 0 h, eq-eqb (ones (get_or hands seat 0)) 13 e)
+from_seat seat last [] e = e ∙ add-zero seat
+from_seat seat last (hand ∷ rest) e =
+    by_test (eqb (ones hand) 13)
+    (λ (q : eqb (ones hand) 13 ≡ true). rw (q, add-one seat) (from_seat (suc seat) last rest (omega (arith, e))))
+    (λ (q : eqb (ones hand) 13 ≡ false). rw q)
 
-pub stops : (hands : List ℕ) (seat : ℕ) → seat < length hands → (ones (get_or hands seat 0) ≡ 13 → ⊥) → not_thirteen_from seat (drop seat hands) ≡ seat
-unfolding not_thirteen_from
-stops hands seat h ne = rw (drop-cons hands seat 0 h, ne_eqb (ones (get_or hands seat 0)) 13 ne)
-
-pub ends : (hands : List ℕ) (seat : ℕ) → length hands ≤ seat → not_thirteen_from seat (drop seat hands) ≡ seat
-unfolding not_thirteen_from
-ends hands seat h = rw (drop_of_length-le hands h)
+pub first_hand : (hands : List ℕ) (last : ℕ) → last ≡ length hands
+    → unwrap_or (position (λ (hand : ℕ). not (eqb (ones hand) 13)) hands) last ≡ not_thirteen_from 0 hands
+first_hand hands last e =
+    rw (position_from-zero (λ (hand : ℕ). not (eqb (ones hand) 13)) hands) (from_seat 0 last hands (omega (arith, e)))

@@ -4,8 +4,9 @@
 
 mod given;
 
-ghost use Rattle.std.specs.Prelude.{◌≡◌, ◌-◌, ◌^◌, ◌<◌};
+ghost use Rattle.std.specs.Prelude.{◌≡◌, ◌^◌, ◌<◌, unwrap_or, IfSome};
 ghost use Rattle.laws.specs.Law2;
+ghost use Rattle.deal.specs.Sides.{law_of};
 ghost use Rattle.deal.specs.Hands.{words_of, suit_bits, has_suit, not_thirteen_from};
 
 pub use given::{Dealt, SUITS, take, take_places};
@@ -41,57 +42,61 @@ pub fn hands(holders: [u8; 52]) -> [u64; 4]
     ensures { result ≡ words_of holders }
 {
     let mut words = [0u64; 4];
-    let mut i: usize = 0;
-    while i < 52 {
-        let holder = holders[i] as usize;
-        let bit = bit_of(i);
-        i += 1;
-        if holder < 4 {
-            words[holder] = words[holder] + bit;
+    for (i, holder) in holders.iter().enumerate() {
+        if *holder < 4 {
+            words[*holder as usize] += bit_of(i);
         }
     }
     words
 }
 
-// The first of four hands, in the order North, East, South, West, that has not thirteen cards; 4 where each has thirteen.
-pub fn seat_without_thirteen(hands: [u64; 4]) -> u8
-    ensures { result ≡ not_thirteen_from 0 hands }
+// The first of four hands, in the order North, East, South, West, that has not thirteen cards.
+pub fn seat_without_thirteen(hands: [u64; 4]) -> Option<usize>
+    ensures first { unwrap_or result 4 ≡ not_thirteen_from 0 hands }
+    ensures seat { IfSome result (λ seat. seat < 4) }
 {
-    let mut seat: usize = 0;
-    while seat < 4 {
-        if u64::count_ones(hands[seat]) != 13 {
-            return seat as u8;
-        }
-        seat += 1;
-    }
-    4
+    hands.iter().position(|hand| hand.count_ones() != 13)
 }
 
-// The vulnerable sides of boards 1 to 16: 0 neither, 1 North-South, 2 East-West, 3 both.
-const SIDES: [u8; 16] = [0, 1, 2, 3, 1, 2, 3, 0, 2, 3, 0, 1, 3, 0, 1, 2];
-
-// How many boards stand before a board.
-fn boards_before(board: u8) -> u8
-    ensures { result ≡ board - 1 }
-{
-    if board == 0 { 0 } else { board - 1 }
+// The vulnerable sides of a board.
+#[derive(Clone, Copy, Debug, PartialEq, Eq)]
+pub enum Vulnerability {
+    Neither,
+    NorthSouth,
+    EastWest,
+    Both,
 }
+
+use Vulnerability::{Both, EastWest, Neither, NorthSouth};
+
+// Those of boards 1 to 16.
+const SIDES: [Vulnerability; 16] = [
+    Neither, NorthSouth, EastWest, Both, NorthSouth, EastWest, Both, Neither, EastWest, Both,
+    Neither, NorthSouth, Both, Neither, NorthSouth, EastWest,
+];
 
 // The dealer of a board.
 pub fn dealer(board: u8) -> u8
     ensures { result ≡ Law2.dealer board }
 {
-    boards_before(board) % 4
+    board.saturating_sub(1) % 4
+}
+
+// The vulnerable sides of a board.
+pub fn vulnerable_sides(board: u8) -> Vulnerability
+    ensures { law_of result ≡ Law2.vulnerability board }
+{
+    SIDES[(board.saturating_sub(1) % 16) as usize]
 }
 
 // Whether the side of a seat is vulnerable on a board.
 pub fn vulnerable(board: u8, seat: u8) -> bool
     ensures { result ≡ Law2.vulnerable board seat }
 {
-    let at = (boards_before(board) % 16) as usize;
-    let sides = SIDES[at];
-    if seat % 2 == 0 {
-        return sides % 2 == 1;
+    match vulnerable_sides(board) {
+        Neither => false,
+        NorthSouth => seat % 2 == 0,
+        EastWest => seat % 2 == 1,
+        Both => true,
     }
-    sides / 2 == 1
 }

@@ -1,18 +1,18 @@
 -- Digits read from the left: what is read, and what is left to read. Assumes nothing.
-use Rattle.std.specs.Prelude.{if◌then◌else◌}
+use Rattle.std.specs.Prelude.{◌⊎◌, Option, Some, None, if◌then◌else◌}
 use Prim.Native.Nat.{ℕ, zero, suc, ◌+◌, ◌-◌, ◌*◌, ◌≤◌, ◌<◌}
 use native.Mathlib.Numerals.{add-one}
 use native.Mathlib.Omega.{arith}
-use mathlib.Core.Path.{◌≡◌, refl, sym, ap, ◌∙◌}
-use mathlib.Core.Bool.{Bool, true, false, ◌&&◌}
-use mathlib.Core.List.{List, [], ◌∷◌}
-use borrow.Author.Tests.{le-leb, lt-leb, leb-true}
+use mathlib.Core.Path.{◌≡◌}
+use mathlib.Core.Bool.{true, false}
+use mathlib.Core.List.{List}
+use borrow.Author.Tests.{le-leb, lt-leb, leb-true, leb-false}
+use Rattle.laws.proofs.Tests.{by_test}
+use mathlib.Core.Logic.{inl, inr}
 use lib.Dec.{leb}
 use lib.ListN.{length, get_or, drop, drop_of_length-le}
 use lib.Seq.{drop-cons}
-use Rattle.laws.specs.Decimal.{is_digit, all_digits, is_number, value_after, value}
-use Rattle.decimal.specs.declared.Number.{Number}
-use Rattle.decimal.specs.declared.Number.TheVariants.{Is, None}
+use Rattle.laws.specs.Decimal.{all_digits, is_number, value_after}
 use Rattle.decimal.specs.Numbers.{number_on}
 
 -- ten to a power
@@ -42,8 +42,8 @@ unfolding tens
 tens_zero = omega arith
 
 -- what is answered after a number n, with more bytes to read
-abbrev pub onward : List ℕ → ℕ → Number
-onward bytes n = if all_digits bytes then Is (value_after n bytes) else None
+abbrev pub onward : List ℕ → ℕ → Option ℕ
+onward bytes n = if all_digits bytes then Some (value_after n bytes) else None
 
 module _ (s : List ℕ) where
   pub begins : (length s ≡ 0 → ⊥) → length s ≤ 5 → number_on s ≡ onward s 0
@@ -71,10 +71,19 @@ module _ (s : List ℕ) where
     unfolding all_digits
     high k h = rw (drop-cons s i 0 within, le-leb 48 (get_or s i 0) k, lt-leb (get_or s i 0) 57 h)
 
+    pub other : ◌⊎◌ (get_or s i 0 < 48) (57 < get_or s i 0) → None ≡ onward (drop i s) n
+    other h =
+        elim h [
+          | inl k ↦ low k
+          | inr k ↦ by_test (leb 48 (get_or s i 0))
+              (λ (t : leb 48 (get_or s i 0) ≡ true). high (leb-true _ _ t) k)
+              (λ (t : leb 48 (get_or s i 0) ≡ false). low (leb-false _ _ t))
+        ]
+
     pub goes : 48 ≤ get_or s i 0 → get_or s i 0 ≤ 57 → onward (drop i s) n ≡ onward (drop (i + 1) s) (10 * n + (get_or s i 0 - 48))
     unfolding all_digits value_after
     goes k h = rw (add-one i, drop-cons s i 0 within, le-leb 48 (get_or s i 0) k, le-leb (get_or s i 0) 57 h)
 
-  pub ends : (i n : ℕ) → length s ≤ i → Is n ≡ onward (drop i s) n
+  pub ends : (i n : ℕ) → length s ≤ i → Some n ≡ onward (drop i s) n
   unfolding all_digits value_after
   ends i n h = rw (drop_of_length-le s h)

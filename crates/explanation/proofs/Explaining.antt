@@ -1,7 +1,7 @@
 -- The 56 bits of an answer to lawful parts, read back, give the items of these parts; and so what is explained of a record. Assumes nothing.
 use Prim.Native.Nat.{ℕ, ◌≤◌, ◌<◌, ◌/◌, ◌%◌}
 use native.Mathlib.Omega.{arith}
-use mathlib.Core.Path.{◌≡◌, refl, ap, ap₂, ◌∙◌, subst}
+use mathlib.Core.Path.{◌≡◌, refl, ap, ◌∙◌}
 use mathlib.Core.Bool.{Bool, true, false}
 use mathlib.Core.List.{List, [], ◌∷◌}
 use borrow.Author.Tests.{eq-eqb, ne_eqb}
@@ -10,18 +10,18 @@ use Rattle.laws.specs.Auction.{passed_out}
 use Rattle.laws.specs.Law2.{vulnerable}
 use Rattle.laws.specs.Law77.{Stake}
 use Rattle.laws.specs.Record.{Parts, field, bits, number}
-use Rattle.laws.specs.Reading.{Reading, Reading.refused, Reading.found}
+use Rattle.laws.specs.Reading.{Reading, Reading.found}
 use Rattle.laws.specs.Judge.{read_record, outcome, least_rooms, judge_of}
 use Rattle.laws.specs.Judgement.{calls_of, contract_of, declarer_of, won_of, after_of, revokes_of, stake_of, score_of, twos_complement, played_fields, answer_fields}
 use Rattle.laws.specs.Lawful.{Lawful}
 use Rattle.laws.specs.Slip.{points_of}
 use Rattle.laws.proofs.Accepts.{least-enough, judged, lent_is}
-use Rattle.laws.proofs.Numbered.{Ruled, ruled, not_0}
+use Rattle.laws.specs.Refusals.{refused_at, given}
+use Rattle.laws.proofs.Answered.{is-refused, is-found}
 use Rattle.laws.proofs.Tests.{by_test}
 use Rattle.explanation.specs.declared.slip.Items.{Items}
-use Rattle.explanation.specs.declared.slip.Explained.TheVariants.{Refused, Granted}
 use Rattle.judgement.specs.declared.whole.Judged.{Judged}
-use Rattle.judgement.specs.Whole.{judged_of}
+use Rattle.judgement.specs.Whole.{judgement_of, judged_of}
 use Rattle.explanation.specs.Explained.{Possible, no_items, items_for, level_in, declarer_in, tricks_in, board_in, stake_in, items_at, items_in, explained_of}
 use Rattle.judgement.proofs.Told.{few-found}
 use Rattle.judgement.proofs.Widths.{won-le, after-le, declarer_lt, level-le, strain-le, doubled_le, valid, word_lt}
@@ -159,42 +159,30 @@ module _ (p : Parts) (ok : Lawful p) (few : length (revokes_of p) ≤ 48) where
   items_back = by_test (passed_out (calls_of p)) out_items bid-items
 
 -- ---- a record
-module _ (bytes : List ℕ) (j : Judged) (ej : j ≡ judged_of (read_record bytes 0)) where
-  said : judge_of bytes least_rooms ≡ outcome (read_record bytes 0)
+module _ (bytes : List ℕ) where
+  abbrev reading : Reading Parts
+  reading = read_record bytes 0
+
+  said : judge_of bytes least_rooms ≡ outcome reading
   said = lent_is least_rooms least-enough bytes
 
-  -- a refusal's number and its place, out of the one that holds both
-  taken-apart : (r : Reading Parts) → Ruled (outcome r) → ((judged_of r).refusal ≡ 0 → ⊥)
-      → Refused ((judged_of r).refusal / 1024) ((judged_of r).refusal % 1024) ≡ explained_of (outcome r)
+  pub explained_refused : {n place : ℕ} → refused_at n place ≡ judged_of reading → refused_at n place ≡ explained_of (judge_of bytes least_rooms)
   unfolding explained_of
-  taken-apart (refused n place) f e =
-      let low : place < 1024 = f.place_lt in
-      ap₂ Refused (omega arith) (omega arith)
-  taken-apart (found p at) f e = absurd (e refl)
+  explained_refused e = rw (said ∙ ap outcome (is-refused judgement_of reading e)) refl
 
-  pub explained_refused : (j.refusal ≡ 0 → ⊥) → Refused (j.refusal / 1024) (j.refusal % 1024) ≡ explained_of (judge_of bytes least_rooms)
-  explained_refused e =
-      rw (ej, said) (taken-apart (read_record bytes 0) (subst Ruled said (ruled bytes least_rooms)) (rw ej at e))
+  module _ {j : Judged} (ej : given j ≡ judged_of reading) where
+    told : (p : Parts) × (at : ℕ) × (reading ≡ found p at) × (j ≡ judgement_of p)
+    told = is-found judgement_of reading ej
 
-  -- what holds of the bits where nothing is refused
-  abbrev Reads : Reading Parts → Type 0
-  Reads r = ((level_in (judged_of r).bits ≡ 0 → ⊥) → Possible (stake_in (judged_of r).bits) (tricks_in (judged_of r).bits))
-      × (Granted (items_at (judged_of r).bits) ≡ explained_of (outcome r))
+    lawful : Lawful told.0
+    lawful = (judged bytes told.0 told.1 told.2).0.0
 
-  read-bits : (r : Reading Parts) → read_record bytes 0 ≡ r → Ruled (outcome r) → (judged_of r).refusal ≡ 0 → Reads r
-  unfolding explained_of
-  read-bits (refused n place) q f e = absurd (not_0 refl f e)
-  read-bits (found p at) q f e =
-      let ok = (judged bytes p at q).0.0 in
-      let few = (few-found bytes q).revokes in
-      (possible p ok few, ap Granted (items_back p ok few))
-
-  module _ (none : j.refusal ≡ 0) where
-    all_read : Reads (read_record bytes 0)
-    all_read = read-bits (read_record bytes 0) refl (subst Ruled said (ruled bytes least_rooms)) (rw ej at none)
+    few : length (revokes_of told.0) ≤ 48
+    few = (few-found bytes told.2).revokes
 
     pub answer_possible : (level_in j.bits ≡ 0 → ⊥) → Possible (stake_in j.bits) (tricks_in j.bits)
-    answer_possible = rw ej all_read.0
+    answer_possible = rw told.3 (possible told.0 lawful few)
 
-    pub explained_granted : (i : Items) → i ≡ items_at j.bits → Granted i ≡ explained_of (judge_of bytes least_rooms)
-    explained_granted i e = rw (e, ej, said) all_read.1
+    pub explained_granted : (i : Items) → i ≡ items_at j.bits → given i ≡ explained_of (judge_of bytes least_rooms)
+    unfolding explained_of
+    explained_granted i e = rw (e, told.3, said ∙ ap outcome told.2) (ap given (items_back told.0 lawful few))

@@ -1,5 +1,5 @@
 -- The code's items of a contract, made or down, are Law 77's from North-South; each fits 16 bits. Assumes nothing.
-use Prim.Native.Nat.{ℕ, ◌≤◌, ◌<◌, ◌+◌, ◌^◌}
+use Prim.Native.Nat.{ℕ, ◌≤◌, ◌<◌, ◌^◌}
 use native.Mathlib.Omega.{arith}
 use mathlib.Core.Path.{◌≡◌, refl, sym, ◌∙◌}
 use mathlib.Core.Bool.{true, false}
@@ -14,7 +14,7 @@ use Rattle.laws.proofs.Integers.{size_neg, mag-le-size}
 use Rattle.laws.proofs.Score.{no_undertricks, score-valid}
 use Rattle.laws.proofs.Slip.{ns_0, size-ns, valid-le, item_le}
 use Rattle.explanation.specs.declared.slip.Items.{Items}
-use Rattle.explanation.specs.Explained.{Possible}
+use Rattle.explanation.specs.Explained.{Possible, no_items}
 
 -- ---- a small number in 16 bits
 pub fits_16 : (z : ℤ) → nat_abs z ≤ 7600 → SFits w16 z
@@ -50,6 +50,11 @@ pub eight : {a b c d e f g h a' b' c' d' e' f' g' h' : ℤ} → a ≡ a' → b �
     (record { tricks = a; overtricks = b; undertricks = c; partscore = d; game = e; slam = f; doubling = g; sum = h })
     (record { tricks = a'; overtricks = b'; undertricks = c'; partscore = d'; game = e'; slam = f'; doubling = g'; sum = h' })
 eight i j k l m n o p = rw (i, j, k, l, m, n, o, p)
+
+-- what the derived default says of each field, as one equation
+pub all_zero : {i : Items} → (i.tricks ≡ pos 0) × ((i.overtricks ≡ pos 0) × ((i.undertricks ≡ pos 0) × ((i.partscore ≡ pos 0) × ((i.game ≡ pos 0)
+    × ((i.slam ≡ pos 0) × ((i.doubling ≡ pos 0) × (i.sum ≡ pos 0))))))) → i ≡ no_items
+all_zero z = eight z.0 z.1.0 z.1.1.0 z.1.1.1.0 z.1.1.1.1.0 z.1.1.1.1.1.0 z.1.1.1.1.1.1.0 z.1.1.1.1.1.1.1
 
 module _ (d : ℕ) (s : Stake) (tricks : ℕ) (ok : Possible s tricks) where
   -- the score and each item are small

@@ -4,12 +4,11 @@ use Rattle.std.specs.Prelude.{ℕ, ◌≤◌, ◌/◌, ◌%◌, eqb, pos, if◌t
 use Rattle.laws.specs.Law2.{vulnerable}
 use Rattle.laws.specs.Law77.{Stake, items, declarer_score, ns_score}
 use Rattle.laws.specs.Record.{Parts}
+use Rattle.laws.specs.Refusals.{Placed, refused_at, given}
 use Rattle.laws.specs.Judge.{Outcome, Outcome.refused, Outcome.accepted}
 use Rattle.laws.specs.Judgement.{score_of}
 use Rattle.laws.specs.Slip.{TRICKS, OVERTRICKS, UNDERTRICKS, PARTSCORE, GAME, SLAM, DOUBLING, gain, points_of}
 use Rattle.explanation.specs.declared.slip.Items.{Items}
-use Rattle.explanation.specs.declared.slip.Explained.{Explained}
-use Rattle.explanation.specs.declared.slip.Explained.TheVariants.{Refused, Granted}
 
 -- a contract and tricks that a board can have
 pub record Possible (s : Stake) (tricks : ℕ) : Type 0 where
@@ -89,6 +88,6 @@ items_in p =
     }
 
 -- what the answer is: the refusal with its place, or the items
-unfoldable pub explained_of : Outcome → Explained
-explained_of (refused n place) = Refused n place
-explained_of (accepted p) = Granted (items_in p)
+unfoldable pub explained_of : Outcome → Placed Items
+explained_of (refused n place) = refused_at n place
+explained_of (accepted p) = given (items_in p)

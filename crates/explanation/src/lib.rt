@@ -3,4 +3,4 @@
 
 mod slip;
 
-pub use slip::{Explained, Items, explain};
+pub use slip::{Items, explain};

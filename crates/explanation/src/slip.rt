@@ -2,6 +2,7 @@
 ghost use Rattle.std.specs.Prelude.{◌≡◌, ◌≤◌, ◌<◌, ◌/◌, ◌%◌, pos, neg_ℤ, nat_abs, true, false};
 ghost use Rattle.laws.specs.Judge.{least_rooms, judge_of};
 ghost use Rattle.laws.specs.Law77.{declarer_score, is_made, ns_score};
+ghost use Rattle.laws.specs.Refused.{placed_of};
 ghost use Rattle.law77.specs.Scoring.{stake_of};
 ghost use Rattle.explanation.specs.Explained.{Possible, no_items, items_for, level_in, stake_in, tricks_in, items_at, explained_of};
 
@@ -10,9 +11,10 @@ use law77::{
     Stake, declarer_score, doubling_points, game_points, overtricks, part_score_points,
     slam_points, trick_points, undertricks,
 };
+use laws::Refused;
 
 // Points from North-South under each name, 0 for nothing, and their sum.
-#[derive(Clone, Copy)]
+#[derive(Clone, Copy, Default)]
 pub struct Items {
     pub tricks: i16,
     pub overtricks: i16,
@@ -22,13 +24,6 @@ pub struct Items {
     pub slam: i16,
     pub doubling: i16,
     pub sum: i16,
-}
-
-// The judge's refusal and its place, or the items of an accepted record.
-#[derive(Clone, Copy)]
-pub enum Explained {
-    Refused { number: u32, place: u32 },
-    Granted(Items),
 }
 
 // A score of declarer's side from North-South.
@@ -66,57 +61,36 @@ fn score(s: Stake, tricks: u32, declarer: u8) -> i16
     from_ns(declarer_score(s, tricks), declarer)
 }
 
-// Of a board that was passed out.
-fn no_items() -> Items
-    ensures { result ≡ no_items }
-{
-    Items {
-        tricks: 0,
-        overtricks: 0,
-        undertricks: 0,
-        partscore: 0,
-        game: 0,
-        slam: 0,
-        doubling: 0,
-        sum: 0,
-    }
-}
-
 // Of a contract that went down.
 fn items_down(s: Stake, tricks: u32, declarer: u8) -> Items
-    requires { Possible (stake_of s) tricks × (is_made (stake_of s) tricks ≡ false) }
+    requires possible { Possible (stake_of s) tricks }
+    requires down { is_made (stake_of s) tricks ≡ false }
     ensures { result ≡ items_for declarer (stake_of s) tricks }
 {
     let down = s.level as u32 + 6 - tricks;
-    let sum = score(s, tricks, declarer);
     Items {
-        tricks: 0,
-        overtricks: 0,
         undertricks: lost(undertricks(s, down), declarer),
-        partscore: 0,
-        game: 0,
-        slam: 0,
-        doubling: 0,
-        sum,
+        sum: score(s, tricks, declarer),
+        ..Items::default()
     }
 }
 
 // Of a contract that was made.
 fn items_made(s: Stake, tricks: u32, declarer: u8) -> Items
-    requires { Possible (stake_of s) tricks × (is_made (stake_of s) tricks ≡ true) }
+    requires possible { Possible (stake_of s) tricks }
+    requires made { is_made (stake_of s) tricks ≡ true }
     ensures { result ≡ items_for declarer (stake_of s) tricks }
 {
     let over = tricks - (s.level as u32 + 6);
-    let sum = score(s, tricks, declarer);
     Items {
         tricks: gained(trick_points(s) as u64, declarer),
         overtricks: gained(overtricks(s, over), declarer),
-        undertricks: 0,
         partscore: gained(part_score_points(s) as u64, declarer),
         game: gained(game_points(s) as u64, declarer),
         slam: gained(slam_points(s) as u64, declarer),
         doubling: gained(doubling_points(s) as u64, declarer),
-        sum,
+        sum: score(s, tricks, declarer),
+        ..Items::default()
     }
 }
 
@@ -132,7 +106,9 @@ fn items_of(s: Stake, tricks: u32, declarer: u8) -> Items
 
 // Some bits of the answer: those that are left of so many, as many as a byte has at the most.
 fn part(bits: u64, behind: u64, values: u64) -> u8
-    requires { (0 < behind) × (0 < values) × (values ≤ 256) }
+    requires behind { 0 < behind }
+    requires some { 0 < values }
+    requires few { values ≤ 256 }
     ensures { result ≡ bits / behind % values }
 {
     (bits / behind % values) as u8
@@ -145,7 +121,7 @@ fn items_in(bits: u64) -> Items
 {
     let level = part(bits, 137438953472, 8);
     if level == 0 {
-        return no_items();
+        return Items::default();
     }
     let declarer = part(bits, 1073741824, 4);
     let board = part(bits, 562949953421312, 128);
@@ -158,19 +134,10 @@ fn items_in(bits: u64) -> Items
     items_of(stake, part(bits, 4194304, 16) as u32, declarer)
 }
 
-// The items of Law 77 that make the score of a table record.
-pub fn explain(bytes: &[u8]) -> Explained
-    ensures { result ≡ explained_of (judge_of bytes.now least_rooms) }
+// The items of Law 77 that make the score of a table record, or the judge's refusal with its place.
+pub fn explain(bytes: &[u8]) -> Result<Items, Refused>
+    ensures { placed_of result ≡ explained_of (judge_of bytes.now least_rooms) }
 {
-    let judged = judge(bytes);
-    let refusal = judged.refusal;
-    if refusal != 0 {
-        return Explained::Refused {
-            number: refusal / 1024,
-            place: refusal % 1024,
-        };
-    }
-    let bits = judged.bits;
-    let found = items_in(bits);
-    Explained::Granted(found)
+    let judged = judge(bytes)?;
+    Ok(items_in(judged.bits))
 }

@@ -7,18 +7,14 @@ use mathlib.Core.Bool.{true, false, ◌&&◌}
 use mathlib.Core.List.{List}
 use borrow.Author.Tests.{le-leb, lt-leb, leb-true, leb-false}
 use lib.Dec.{leb}
-use lib.ListN.{length, get_or}
+use lib.ListN.{length}
 use lib.Pow.{pow_pos, pow_mono}
 use Rattle.laws.specs.Reading.{number_at, Reading.found, Reading.refused as stopped, read}
-use Rattle.laws.specs.Refusals.{refused, answered, record_ends}
+use Rattle.laws.specs.Refusals.{Answer, refused, answered, placed, refused_at, given, record_ends}
 use Rattle.laws.proofs.Tests.{by_test, and_right}
 use Rattle.laws.proofs.Bits.{number_lt, number-add, number-within}
 use Rattle.laws.proofs.Bytes.{number_byte}
-use Rattle.field.specs.Field.{field_at}
-
--- a byte as it was read
-abbrev pub Byte : List ℕ → ℕ → ℕ → Type 0
-Byte bytes i b = (b ≡ get_or bytes i 0) × (b < 256)
+use Rattle.field.specs.Field.{Byte, field_at}
 
 -- three bytes as one number
 pub number_three : (bytes : List ℕ) (q : ℕ) {a b c : ℕ} → Byte bytes q a → Byte bytes (q + 1) b → Byte bytes (q + 2) c → a * 65536 + b * 256 + c
@@ -94,3 +90,52 @@ module _ (bytes : List ℕ) (at w : ℕ) where
   pub short_stops : w ≤ 16 → field_at bytes at w ≡ refused record_ends → read w bytes at ≡ stopped record_ends 0
   unfolding read
   short_stops h e = rw (lt-leb (at + w) (8 * length bytes) (short-is h e))
+
+  -- ---- what the code answers of the field
+  value : {v : ℕ} → given v ≡ placed (field_at bytes at w) → field_at bytes at w ≡ answered v
+  value e = go (field_at bytes at w) e
+    where
+      go : (a : Answer ℕ) {v : ℕ} → given v ≡ placed a → a ≡ answered v
+      go (refused n) e = absurd cc
+      go (answered u) e = cc
+
+  no_value : {n place : ℕ} → refused_at n place ≡ placed (field_at bytes at w) → (field_at bytes at w ≡ refused n) × (place ≡ 0)
+  no_value e = go (field_at bytes at w) e
+    where
+      go : (a : Answer ℕ) {n place : ℕ} → refused_at n place ≡ placed a → (a ≡ refused n) × (place ≡ 0)
+      go (refused n) e = (cc, cc)
+      go (answered u) e = absurd cc
+
+  -- a value is the number of the bits, which lie whole within the bytes
+  pub given-is : {v : ℕ} → given v ≡ placed (field_at bytes at w) → (v ≡ number_at bytes at w) × (at + w ≤ 8 * length bytes)
+  given-is e = value-is (value e)
+
+  pub given_lt : {v : ℕ} → given v ≡ placed (field_at bytes at w) → v < 2 ^ w
+  given_lt e = value_lt (value e)
+
+  -- the field was read, and the bit behind it
+  pub given-reads : {v : ℕ} → given v ≡ placed (field_at bytes at w) → read w bytes at ≡ found v (at + w)
+  given-reads e = value-reads (value e)
+
+  -- a refusal is the Laws', of a field of at most 16 bits
+  pub refused_stops : w ≤ 16 → {n place : ℕ} → refused_at n place ≡ placed (field_at bytes at w) → read w bytes at ≡ stopped n place
+  unfolding field_at
+  refused_stops h {n} {place} e =
+      let f = no_value e in
+      by_test (leb (at + w) (8 * length bytes))
+      (λ (q : leb (at + w) (8 * length bytes) ≡ true). absurd (let z = rw (le-leb w 16 h, q) at f.0 in cc))
+      (λ (q : leb (at + w) (8 * length bytes) ≡ false).
+      let z : refused record_ends ≡ refused n = rw (le-leb w 16 h, q) at f.0 in
+      let same : record_ends ≡ n = same_number z in
+      rw (← same, f.1) (short_stops h (f.0 ∙ sym z)))
+    where
+      same_number : {a b : ℕ} → ◌≡◌ {A = Answer ℕ} (refused a) (refused b) → a ≡ b
+      same_number z = cc
+
+  pub refused_short : w ≤ 16 → {n place : ℕ} → refused_at n place ≡ placed (field_at bytes at w) → 8 * length bytes < at + w
+  unfolding field_at
+  refused_short h e =
+      let f = no_value e in
+      by_test (leb (at + w) (8 * length bytes))
+      (λ (q : leb (at + w) (8 * length bytes) ≡ true). absurd (let z = rw (le-leb w 16 h, q) at f.0 in cc))
+      (λ (q : leb (at + w) (8 * length bytes) ≡ false). leb-false (at + w) (8 * length bytes) q)

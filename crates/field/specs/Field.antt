@@ -1,15 +1,12 @@
 -- What a read of a bit field answers.
 -- Assumes nothing.
-use Rattle.std.specs.Prelude.{ℕ, ◌+◌, ◌*◌, ◌&&◌, List, leb, length, if◌then◌else◌}
+use Rattle.std.specs.Prelude.{ℕ, ◌+◌, ◌*◌, ◌≡◌, ◌<◌, ◌&&◌, List, leb, length, get_or, if◌then◌else◌}
 use Rattle.laws.specs.Refusals.{Answer, refused, answered, record_ends}
 use Rattle.laws.specs.Reading.{number_at}
-use Rattle.field.specs.declared.Field.{Field}
-use Rattle.field.specs.declared.Field.TheVariants.{Value, Short}
 
--- what the cases of a read's answer stand for: the field's number, or that the record ends before it is whole
-abbrev pub field_answer : Field → Answer ℕ
-field_answer (Value n) = answered n
-field_answer Short = refused record_ends
+-- a byte of the list, 0 past the end
+abbrev pub Byte : List ℕ → ℕ → ℕ → Type 0
+Byte bytes i b = (b ≡ get_or bytes i 0) × (b < 256)
 
 -- the number of w bits from a bit on, where they lie whole within the bytes; else 2. A width over 16 is 2 too: no field is so wide
 unfoldable pub field_at : List ℕ → ℕ → ℕ → Answer ℕ

@@ -1,36 +1,22 @@
 // A bit field of a byte slice, read by whole bytes. Bit 0 is the most significant bit of the first byte.
 #![tactic(auto)]
 
-ghost use Rattle.std.specs.Prelude.{◌≡◌, ◌+◌, ◌*◌, ◌^◌, ◌≤◌, ◌<◌, get_or};
+ghost use Rattle.std.specs.Prelude.{◌≡◌, ◌+◌, ◌*◌, ◌^◌, ◌≤◌, ◌<◌};
 ghost use Rattle.laws.specs.Reading.{number_at};
-ghost use Rattle.field.specs.Field.{field_answer, field_at};
+ghost use Rattle.laws.specs.Refusals.{placed};
+ghost use Rattle.laws.specs.Refused.{placed_of};
+ghost use Rattle.field.specs.Field.{Byte, field_at};
 
-// What a read finds: the field's number, or that the record ends before the field is whole.
-#[derive(Clone, Copy)]
-pub enum Field {
-    Value(u16),
-    Short,
-}
-
-fn wide(x: u8) -> u32
-    ensures { (result ≡ x) × (result < 256) }
-{
-    x as u32
-}
-
-// 2 to the power n.
-fn pow2(n: usize) -> u32
-    requires { n < 32 }
-    ensures { result ≡ 2 ^ n }
-{
-    1u32 << n
-}
+use laws::{Refusal, Refused};
 
 // The byte at a place, 0 past the end.
 fn byte_at(bytes: &[u8], i: usize) -> u32
-    ensures { (result ≡ get_or bytes.now i 0) × (result < 256) }
+    ensures { Byte bytes.now i result }
 {
-    if i < bytes.len() { wide(bytes[i]) } else { 0 }
+    match bytes.get(i) {
+        Some(b) => u32::from(*b),
+        None => 0,
+    }
 }
 
 // Three bytes from a place on, as one number: the three of them read at once where they are all there.
@@ -39,40 +25,39 @@ fn three_at(bytes: &[u8], first: usize) -> u32
     ensures { result ≡ number_at bytes.now (8 * first) 24 }
 {
     if first + 2 < bytes.len() {
-        return wide(bytes[first]) * 65536 + wide(bytes[first + 1]) * 256 + wide(bytes[first + 2]);
+        return u32::from(bytes[first]) * 65536
+            + u32::from(bytes[first + 1]) * 256
+            + u32::from(bytes[first + 2]);
     }
     byte_at(bytes, first) * 65536 + byte_at(bytes, first + 1) * 256 + byte_at(bytes, first + 2)
 }
 
 // The field of `width` bits that starts behind the first `skipped` bits of a byte: that byte and the next two hold it.
 fn window(bytes: &[u8], first: usize, skipped: usize, width: usize) -> u16
-    requires { (skipped < 8) × (width ≤ 16) × (first < 2 ^ 61) }
+    requires skipped { skipped < 8 }
+    requires width { width ≤ 16 }
+    requires first { first < 2 ^ 61 }
     ensures { result ≡ number_at bytes.now (8 * first + skipped) width }
 {
-    let three = three_at(bytes, first);
-    let behind = pow2(24 - skipped - width);
-    let all = pow2(width);
-    (three / behind % all) as u16
+    let from_here = three_at(bytes, first) >> (24 - skipped - width);
+    (from_here % (1 << width)) as u16
 }
 
-// The field of `width` bits from bit `at` on. Where three bytes are there from its first one on, it is whole.
-pub fn read(bytes: &[u8], at: usize, width: usize) -> Field
-    ensures { field_answer result ≡ field_at bytes.now at width }
+// The field of `width` bits from bit `at` on, where it lies whole within the bytes. Where three bytes are there from its first one on, it does.
+pub fn read(bytes: &[u8], at: usize, width: usize) -> Result<u16, Refused>
+    ensures { placed_of result ≡ placed (field_at bytes.now at width) }
 {
     if 16 < width {
-        return Field::Short;
+        return Err(Refusal::RecordEnds.at(0));
     }
     let first = at / 8;
     let skipped = at % 8;
     let count = bytes.len();
     if first + 2 < count {
-        return Field::Value(window(bytes, first, skipped, width));
+        return Ok(window(bytes, first, skipped, width));
     }
-    if count < first {
-        return Field::Short;
+    if count < first || count - first < (skipped + width + 7) / 8 {
+        return Err(Refusal::RecordEnds.at(0));
     }
-    if count - first < (skipped + width + 7) / 8 {
-        return Field::Short;
-    }
-    Field::Value(window(bytes, first, skipped, width))
+    Ok(window(bytes, first, skipped, width))
 }

@@ -1,14 +1,13 @@
 -- The loop that fills in the bytes of the plays against Law 50, from the last play on. Assumes nothing.
 use Prim.Native.Nat.{ℕ, zero, suc, ◌≤◌, ◌<◌, ◌+◌, ◌-◌, ◌*◌, ◌/◌, ◌%◌}
-use mathlib.Core.Path.{◌≡◌, refl, sym, ap, ◌∙◌}
-use mathlib.Core.List.{List, [], ◌∷◌, ◌++◌, append-nil, append_assoc}
-use native.Mathlib.Numerals.{add-one}
+use mathlib.Core.Path.{◌≡◌, refl, sym, ◌∙◌}
+use mathlib.Core.List.{List, [], ◌∷◌, ◌++◌, append_assoc}
 use native.Mathlib.Omega.{arith}
 use lib.ListN.{length, set, drop, replicate, length-append, length-set}
 use Rattle.laws.specs.Padded.{padded}
 use Rattle.play.proofs.Filling.{padded-rest, drop-set}
 use Rattle.found.specs.declared.found.Found.{Found}
-use Rattle.found.specs.Told.{popped, lowest_of, pair_of, pairs_in, failure_bytes_in}
+use Rattle.found.specs.Told.{popped, lowest_of, pairs_in, failure_bytes_in}
 
 pub pairs-many : (n : ℕ) (words : List ℕ) → length (pairs_in n words) ≡ 2 * n
 unfolding pairs_in

@@ -3,23 +3,24 @@
 ghost use Rattle.std.specs.Prelude.{◌≡◌, ◌<◌};
 ghost use Rattle.found.specs.Found.{none_found, named_by, with_revoke, with_lead, pushed, with_failure};
 
-use play::{bit, with_bit};
+use play::with_bit;
 
-#[derive(Clone, Copy)]
+#[derive(Clone, Copy, Debug, PartialEq, Eq)]
 pub struct Found {
     // A bit for each card: 1 for a lead that is a revoke, and 1 for a revoke that is excused.
     pub leads: u64,
     pub excused: u64,
     // Three bits for each lead: 4 + the suit required where that is a revoke, else 0.
     pub named: u64,
-    // The plays against Law 50: how many, and twelve bits for each in words of five.
+    // The plays against Law 50: how many, and twelve bits for each in words of five. A list would need memory that is not fixed.
     pub failures: u64,
     pub failed: [u64; 5],
 }
 
 // What is told of a lead: 4 + the suit required where it is a revoke against a requirement, else 0.
 fn named_by(revoke: bool, required: u64) -> u64
-    ensures { (result ≡ named_by revoke required) × (result < 8) }
+    ensures value { result ≡ named_by revoke required }
+    ensures bound { result < 8 }
 {
     if revoke {
         if required < 4 {
@@ -60,10 +61,8 @@ impl Found {
     pub fn with_revoke(mut self, lead: bool, revoke: bool, excused: bool) -> Self
         ensures { result ≡ with_revoke self lead revoke excused }
     {
-        let led = bit(lead) * bit(revoke);
-        let free = bit(revoke) * bit(excused);
-        self.leads = with_bit(self.leads, led);
-        self.excused = with_bit(self.excused, free);
+        self.leads = with_bit(self.leads, u64::from(lead & revoke));
+        self.excused = with_bit(self.excused, u64::from(revoke & excused));
         self
     }
 

@@ -1,15 +1,8 @@
 // What is told at the end: the plays against Law 50, as bytes.
-ghost use Rattle.std.specs.Prelude.{◌≡◌, ◌<◌};
+ghost use Rattle.std.specs.Prelude.{◌≡◌};
 ghost use Rattle.found.specs.Told.{popped, failure_bytes_in};
 
 use crate::Found;
-
-fn narrow(x: u64) -> u8
-    requires { x < 256 }
-    ensures { result ≡ x }
-{
-    x as u8
-}
 
 // The five words without their lowest entry.
 fn popped(words: [u64; 5]) -> [u64; 5]
@@ -31,14 +24,12 @@ impl Found {
     {
         let mut bytes = [0u8; 52];
         let mut words = self.failed;
-        let mut i = self.failures % 27;
-        while 0 < i {
-            i -= 1;
+        for i in (0..self.failures % 27).rev() {
             let entry = words[0] % 4096;
             words = popped(words);
             let at = (2 * i) as usize;
-            bytes[at + 1] = narrow(entry % 16 * 16);
-            bytes[at] = narrow(entry / 16);
+            bytes[at + 1] = (entry % 16 * 16) as u8;
+            bytes[at] = (entry / 16) as u8;
         }
         bytes
     }

@@ -9,8 +9,10 @@ use Rattle.laws.specs.Refusals.{Answer, refused, answered, Placed, refused_at, g
 use Rattle.laws.specs.Tally.{Result, asked}
 use Rattle.tally.specs.declared.Tally.{Tally}
 use Rattle.tally.specs.Tallies.{results_in, well_formed}
-use Rattle.hundredths.specs.declared.ShareAnswer.{ShareAnswer}
-use Rattle.hundredths.specs.declared.ShareAnswer.TheVariants.{Refused, Shares}
+use Rattle.std.specs.Prelude as Std
+use Rattle.laws.specs.Refused.{number}
+use Rattle.laws.specs.declared.Refused.{Refused}
+use Rattle.hundredths.specs.declared.Shares.{Shares}
 
 -- what stands for a result that is alone on its board
 abbrev pub alone_number : ℕ
@@ -45,7 +47,11 @@ share_of points most = if eqb most 0 then alone_number else hundredths points mo
 unfoldable pub shares_by : ℕ → ℕ → Placed BothShares
 shares_by ns ew = given (record { ns = share_of ns (ns + ew); ew = share_of ew (ns + ew) })
 
+-- what the shares of the code are
+abbrev pub shares : Shares → BothShares
+shares s = record { ns = s.ns; ew = s.ew }
+
 -- what an answer stands for: a refusal by its number and its place, or the shares
-abbrev pub share_answer : ShareAnswer → Placed BothShares
-share_answer (Refused n place) = refused_at n place
-share_answer (Shares ns ew) = given (record { ns = ns; ew = ew })
+abbrev pub share_answer : Std.Result Shares Refused → Placed BothShares
+share_answer (Std.Ok s) = given (shares s)
+share_answer (Std.Err e) = refused_at (number e.refusal) e.place

@@ -1,15 +1,15 @@
 -- What judging a record comes to in the number returned and in the four buffers. Assumes nothing.
-use Prim.Native.Nat.{ℕ, ◌≤◌, ◌<◌, ◌+◌, ◌*◌, ◌/◌, ◌%◌}
-use native.Mathlib.Nat.{zero-add, div-one}
+use Prim.Native.Nat.{ℕ, ◌≤◌, ◌<◌, ◌+◌, ◌*◌}
+use native.Mathlib.Nat.{zero-add}
 use native.Mathlib.Numerals.{add-one}
 use native.Mathlib.Omega.{arith}
-use mathlib.Core.Path.{◌≡◌, refl, ap, ◌∙◌, subst}
-use mathlib.Core.List.{List, [], ◌∷◌, ◌++◌, map}
+use mathlib.Core.Path.{◌≡◌, ap, ◌∙◌, subst}
+use mathlib.Core.List.{List, ◌++◌, map}
 use borrow.Author.Tests.{lt-ltb, le-ltb}
 use lib.ListN.{length, take, drop, get_or, set, length-map, get_or-map}
 use lib.Seq.{paste-suc}
 use Rattle.laws.specs.Record.{Parts, number, bytes_of}
-use Rattle.laws.specs.Reading.{Reading, Reading.refused, Reading.found, refuse}
+use Rattle.laws.specs.Reading.{Reading, Reading.found, refuse}
 use Rattle.laws.specs.Judge as Judge
 use Rattle.laws.specs.Failures.{failure_bytes}
 use Rattle.laws.specs.Law44.{Won}
@@ -19,12 +19,13 @@ use Rattle.laws.proofs.Bytes.{length-bytes}
 use Rattle.laws.proofs.Padded.{padded_back, length-padded}
 use Rattle.laws.proofs.TricksWon.{bytes-long, byte_seat, byte_card}
 use Rattle.laws.proofs.Accepts.{lent_is}
-use Rattle.laws.proofs.Numbered.{Ruled, ruled, not_0}
+use Rattle.laws.specs.Refusals.{refused_at, given}
+use Rattle.laws.proofs.Answered.{is-refused, is-found}
 use Rattle.play.specs.declared.Won.{Won as Told}
 use Rattle.play.specs.Told.{no_trick}
 use Rattle.play.specs.History.{law_of}
 use Rattle.judgement.specs.declared.whole.Judged.{Judged}
-use Rattle.judgement.specs.Whole.{judged_of, listed_in}
+use Rattle.judgement.specs.Whole.{judgement_of, judged_of, listed_in}
 use Rattle.judgement.proofs.Told.{seven_bytes, few-found, tricks-count, winners-told, winners-long}
 
 -- ---- bytes over the front of a buffer
@@ -50,11 +51,6 @@ pair_more l d ws i e h k =
     let two = front-more (set l (2 * i) (get_or s (2 * i) 0)) d s (2 * i + 1) one (omega arith) (omega arith) in
     rw (seat, card, next) at two
 
-pub seven : (x : ℕ) {a b c d e f g : ℕ} → a ≡ x / 281474976710656 % 256 → b ≡ x / 1099511627776 % 256 → c ≡ x / 4294967296 % 256 → d ≡ x / 16777216 % 256
-    → e ≡ x / 65536 % 256 → f ≡ x / 256 % 256 → g ≡ x % 256 → a ∷ b ∷ c ∷ d ∷ e ∷ f ∷ g ∷ [] ≡ bytes_of 7 x
-unfolding bytes_of
-seven x p q r s t u v = rw (p, q, r, s, t, u, v, div-one x)
-
 -- four buffers that are long enough
 pub enough-of : (answer list failures winners : List ℕ) → 7 ≤ length answer → 48 ≤ length list → 52 ≤ length failures → 26 ≤ length winners
     → Judge.Enough (rooms_of answer list failures winners)
@@ -76,10 +72,6 @@ module _ (bytes : List ℕ) (answer list failures winners : List ℕ) where
   kept : {n place : ℕ} → said ≡ Judge.Outcome.refused n place → Left (n * 1024 + place) answer list failures winners
   unfolding answer_left list_left failures_left winners_left
   kept o = record { number = rw o; answered = rw o; listed = rw o; failed = rw o; won = rw o }
-
-  -- a refusal's number is not 0
-  not_none : {n place : ℕ} → said ≡ Judge.Outcome.refused n place → n * 1024 + place ≡ 0 → ⊥
-  not_none o z = not_0 refl (subst Ruled o (ruled bytes (rooms_of answer list failures winners))) z
 
   answer-said : length answer < 7 → said ≡ Judge.Outcome.refused 1 0
   unfolding Judge.judge_of Judge.read_lent refuse
@@ -110,51 +102,48 @@ module _ (bytes : List ℕ) (answer list failures winners : List ℕ) where
   pub short_winners : 7 ≤ length answer → 48 ≤ length list → 52 ≤ length failures → length winners < 26 → Left 1027 answer list failures winners
   short_winners h k l m = kept (winners-said h k l m)
 
-  module _ (enough : Judge.Enough (rooms_of answer list failures winners)) (j : Judged) (ej : j ≡ judged_of (Judge.read_record bytes 0)) where
-    said-is : said ≡ Judge.outcome (Judge.read_record bytes 0)
+  module _ (enough : Judge.Enough (rooms_of answer list failures winners)) where
+    abbrev reading : Reading Parts
+    reading = Judge.read_record bytes 0
+
+    said-is : said ≡ Judge.outcome reading
     said-is = lent_is (rooms_of answer list failures winners) enough bytes
 
-    stops : (r : Reading Parts) → ((judged_of r).refusal ≡ 0 → ⊥) → said ≡ Judge.outcome r → Left (judged_of r).refusal answer list failures winners
-    stops (refused n place) e o = kept o
-    stops (found p at) e o = absurd (e refl)
+    pub judge_refuses : {n place : ℕ} → refused_at n place ≡ judged_of reading → Left (n * 1024 + place) answer list failures winners
+    judge_refuses e = kept (said-is ∙ ap Judge.outcome (is-refused judgement_of reading e))
 
-    pub judge_refuses : (j.refusal ≡ 0 → ⊥) → Left j.refusal answer list failures winners
-    judge_refuses e = rw ej (stops (Judge.read_record bytes 0) (rw ej at e) said-is)
+    module _ {j : Judged} (ej : given j ≡ judged_of reading) where
+      told : (p : Parts) × (at : ℕ) × (reading ≡ found p at) × (j ≡ judgement_of p)
+      told = is-found judgement_of reading ej
 
-    -- how many revokes and tricks there are to be put
-    few : (r : Reading Parts) → Judge.read_record bytes 0 ≡ r → (judged_of r).refusal ≡ 0 → said ≡ Judge.outcome r
-        → ((judged_of r).revokes.count ≤ 48) × ((judged_of r).tricks.count ≤ 13)
-    unfolding listed_in
-    few (refused n place) q e o = absurd (not_none o e)
-    few (found p at) q e o = let f = few-found bytes q in (f.revokes, rw (tricks-count p) f.tricks)
+      -- how many revokes and tricks there are to be put
+      pub few-listed : (j.revokes.count ≤ 48) × (j.tricks.count ≤ 13)
+      unfolding listed_in
+      few-listed = let f = few-found bytes told.2 in rw told.3 (f.revokes, rw (tricks-count told.0) f.tricks)
 
-    pub few-listed : j.refusal ≡ 0 → (j.revokes.count ≤ 48) × (j.tricks.count ≤ 13)
-    few-listed e = rw ej (few (Judge.read_record bytes 0) refl (rw ej at e) said-is)
+      -- what putting the answer's bits, the list, the plays against Law 50 and the winners leaves
+      abbrev Put : Judged → List ℕ → List ℕ → List ℕ → List ℕ → Type 0
+      Put x a m f w =
+          (a ≡ bytes_of 7 x.bits ++ drop 7 answer)
+          × (m ≡ take x.revokes.count x.revokes.list ++ drop x.revokes.count list)
+          × (f ≡ x.failures ++ drop 52 failures)
+          × (w ≡ take (2 * x.tricks.count) (won_bytes (map law_of x.tricks.answers)) ++ drop (2 * x.tricks.count) winners)
 
-    -- what putting the answer's bits, the list, the plays against Law 50 and the winners leaves
-    abbrev Put : Judged → List ℕ → List ℕ → List ℕ → List ℕ → Type 0
-    Put x a m f w =
-        (a ≡ bytes_of 7 x.bits ++ drop 7 answer)
-        × (m ≡ take x.revokes.count x.revokes.list ++ drop x.revokes.count list)
-        × (f ≡ x.failures ++ drop 52 failures)
-        × (w ≡ take (2 * x.tricks.count) (won_bytes (map law_of x.tricks.answers)) ++ drop (2 * x.tricks.count) winners)
+      takes : (p : Parts) {at : ℕ} → reading ≡ found p at → said ≡ Judge.Outcome.accepted p → {a m f w : List ℕ} → Put (judgement_of p) a m f w → Left 0 a m f w
+      unfolding answer_left list_left failures_left winners_left failures_bytes ◌over◌ listed_in revoke_bytes
+      takes p q o w =
+          let n = length-map (revokes_of p) revoke_byte in
+          let some = few-found bytes q in
+          let back = padded_back 0 48 (revoke_bytes p) (omega (arith, n, some.revokes)) in
+          record {
+            number = rw o;
+            answered = rw (o, seven_bytes p, length-bytes 7 (number (answer_fields p))) w.0;
+            listed = rw (o, n) (w.1 ∙ ap (λ (x : List ℕ). x ++ drop (length (revokes_of p)) list) (rw n at back));
+            failed = rw (o, length-padded 0 52 (failure_bytes (failures_of p))) w.2;
+            won = rw (o, winners-long p) (w.3 ∙ rw (tricks-count p) (rw (tricks-count p) at (ap (λ (x : List ℕ). x ++ drop (2 * length (won_tricks_of p)) winners)
+                (winners-told p some.tricks))));
+          }
 
-    takes : (r : Reading Parts) → Judge.read_record bytes 0 ≡ r → (judged_of r).refusal ≡ 0 → said ≡ Judge.outcome r → {a m f w : List ℕ}
-        → Put (judged_of r) a m f w → Left 0 a m f w
-    unfolding answer_left list_left failures_left winners_left failures_bytes ◌over◌ listed_in revoke_bytes
-    takes (refused n place) q e o w = absurd (not_none o e)
-    takes (found p at) q e o w =
-        let n = length-map (revokes_of p) revoke_byte in
-        let some = few-found bytes q in
-        let back = padded_back 0 48 (revoke_bytes p) (omega (arith, n, some.revokes)) in
-        record {
-          number = rw o;
-          answered = rw (o, seven_bytes p, length-bytes 7 (number (answer_fields p))) w.0;
-          listed = rw (o, n) (w.1 ∙ ap (λ (x : List ℕ). x ++ drop (length (revokes_of p)) list) (rw n at back));
-          failed = rw (o, length-padded 0 52 (failure_bytes (failures_of p))) w.2;
-          won = rw (o, winners-long p) (w.3 ∙ rw (tricks-count p) (rw (tricks-count p) at (ap (λ (x : List ℕ). x ++ drop (2 * length (won_tricks_of p)) winners)
-              (winners-told p some.tricks))));
-        }
-
-    pub judge_accepts : j.refusal ≡ 0 → {a m f w : List ℕ} → Put j a m f w → Left j.refusal a m f w
-    judge_accepts e {a} {m} {f} {w} put = rw e (takes (Judge.read_record bytes 0) refl (rw ej at e) said-is (subst (λ (x : Judged). Put x a m f w) ej put))
+      pub judge_accepts : {a m f w : List ℕ} → Put j a m f w → Left 0 a m f w
+      judge_accepts {a} {m} {f} {w} put =
+          takes told.0 told.2 (said-is ∙ ap Judge.outcome told.2) (subst (λ (x : Judged). Put x a m f w) told.3 put)

@@ -1,7 +1,7 @@
 // The judge of table records, for C: the record judged, and the answer written to what was lent.
 #![tactic(auto)]
 
-ghost use Rattle.std.specs.Prelude.{◌≡◌, ◌++◌, map, ◌*◌, ◌<◌, ◌≤◌, length, take, drop};
+ghost use Rattle.std.specs.Prelude.{◌≡◌, ◌++◌, map, ◌*◌, ◌≤◌, length, take, drop};
 ghost use Rattle.laws.specs.Record.{bytes_of};
 ghost use Rattle.laws.specs.Judge.{judge_of, number_of};
 ghost use Rattle.laws.specs.Judgement.{won_bytes};
@@ -9,40 +9,25 @@ ghost use Rattle.laws.specs.Lent.{rooms_of, answer_left, list_left, failures_lef
 ghost use Rattle.play.specs.History.{law_of};
 
 use judgement::judge;
-use laws::{SHORT_BUFFER, refusal_number};
+use laws::Refusal;
 use play::Tricks;
-
-fn narrow(x: u64) -> u8
-    requires { x < 256 }
-    ensures { result ≡ x }
-{
-    x as u8
-}
 
 // The last seven bytes of x over the front of answer.
 fn put7(answer: &mut [u8], x: u64)
     requires { 7 ≤ length answer.old }
     ensures { answer.new ≡ bytes_of 7 x ++ drop 7 answer.old }
 {
-    answer[0] = narrow(x / 281474976710656 % 256);
-    answer[1] = narrow(x / 1099511627776 % 256);
-    answer[2] = narrow(x / 4294967296 % 256);
-    answer[3] = narrow(x / 16777216 % 256);
-    answer[4] = narrow(x / 65536 % 256);
-    answer[5] = narrow(x / 256 % 256);
-    answer[6] = narrow(x % 256);
+    let bytes = x.to_be_bytes();
+    answer[..7].copy_from_slice(&bytes[1..]);
 }
 
 // The first bytes of a revoke list over the front of list.
 fn put_list(list: &mut [u8], revokes: [u8; 48], count: usize)
-    requires { (count ≤ 48) × (48 ≤ length list.old) }
+    requires few { count ≤ 48 }
+    requires room { 48 ≤ length list.old }
     ensures { list.new ≡ take count revokes ++ drop count list.old }
 {
-    let mut i: usize = 0;
-    while i < count {
-        list[i] = revokes[i];
-        i += 1;
-    }
+    list[..count].copy_from_slice(&revokes[..count]);
 }
 
 // The 52 bytes of the plays against Law 50 over the front of failures.
@@ -50,25 +35,19 @@ fn put_failures(failures: &mut [u8], told: [u8; 52])
     requires { 52 ≤ length failures.old }
     ensures { failures.new ≡ told ++ drop 52 failures.old }
 {
-    let mut i: usize = 0;
-    while i < 52 {
-        failures[i] = told[i];
-        i += 1;
-    }
+    failures[..52].copy_from_slice(&told);
 }
 
 // Two bytes for each complete trick over the front of winners: who won it, and the card that won.
 fn put_winners(winners: &mut [u8], ts: Tricks)
-    requires { (ts.count ≤ 13) × (26 ≤ length winners.old) }
+    requires few { ts.count ≤ 13 }
+    requires room { 26 ≤ length winners.old }
     ensures { winners.new ≡ take (2 * ts.count) (won_bytes (map law_of ts.answers)) ++ drop (2 * ts.count) winners.old }
 {
-    let complete = ts.count as usize;
-    let mut i: usize = 0;
-    while i < complete {
+    for i in 0..ts.count as usize {
         let won = ts.answers[i];
         winners[2 * i] = won.seat;
         winners[2 * i + 1] = won.card;
-        i += 1;
     }
 }
 
@@ -98,31 +77,25 @@ pub fn judge_record(
         (rooms_of answer.old list.old failures.old winners.old)) winners.old }
 {
     if answer.len() < 7 {
-        return refusal_number(SHORT_BUFFER, 0);
+        return u32::from(Refusal::ShortBuffer.at(0));
     }
     if list.len() < 48 {
-        return refusal_number(SHORT_BUFFER, 1);
+        return u32::from(Refusal::ShortBuffer.at(1));
     }
     if failures.len() < 52 {
-        return refusal_number(SHORT_BUFFER, 2);
+        return u32::from(Refusal::ShortBuffer.at(2));
     }
     if winners.len() < 26 {
-        return refusal_number(SHORT_BUFFER, 3);
+        return u32::from(Refusal::ShortBuffer.at(3));
     }
-    let judged = judge(bytes);
-    let refusal = judged.refusal;
-    if refusal != 0 {
-        return refusal;
+    match judge(bytes) {
+        Ok(judged) => {
+            put7(answer, judged.bits);
+            put_list(list, judged.revokes.list, judged.revokes.count as usize);
+            put_failures(failures, judged.failures);
+            put_winners(winners, judged.tricks);
+            0
+        }
+        Err(refused) => u32::from(refused),
     }
-    let bits = judged.bits;
-    let revokes = judged.revokes;
-    let listed = revokes.list;
-    let count = revokes.count as usize;
-    put7(answer, bits);
-    put_list(list, listed, count);
-    let told = judged.failures;
-    put_failures(failures, told);
-    let tricks = judged.tricks;
-    put_winners(winners, tricks);
-    refusal
 }

@@ -1,14 +1,14 @@
 -- The claim in the code is the Laws' section: a law for each way out, over what was read. Assumes nothing.
-use Prim.Native.Nat.{ℕ, ◌≤◌, ◌<◌, ◌+◌, ◌-◌, ◌/◌, ◌%◌}
+use Prim.Native.Nat.{ℕ, ◌≤◌, ◌<◌, ◌+◌, ◌-◌, ◌/◌}
 use mathlib.Core.Path.{◌≡◌, refl}
-use mathlib.Core.Bool.{Bool, true, false, not, ◌&&◌, ◌||◌}
+use mathlib.Core.Bool.{Bool, true, false, not, ◌&&◌}
 use mathlib.Core.List.{List, []}
-use borrow.Author.Tests.{eq-eqb, ne_eqb, le-leb, lt-leb, leb-true}
-use lib.Dec.{eqb, leb}
+use borrow.Author.Tests.{eq-eqb, ne_eqb, le-leb, lt-leb}
 use Rattle.laws.specs.Reading.{Reading.refused, Reading.found, read, refuse}
-use Rattle.laws.proofs.Tests.{and_right}
-use Rattle.judgement.specs.declared.claim.Claim.{Claim as Read}
-use Rattle.judgement.specs.Claims.{no_claim, claim_of, no_claim_by, marked_by, claim_by}
+use Rattle.std.specs.Prelude.{Option, None, Some}
+use Rattle.laws.specs.Refusals.{Placed, refused_at, given, play_unfinished, no_claim_point, claim_too_many}
+use Rattle.last_card.specs.declared.reading.Read.{Read}
+use Rattle.judgement.specs.Claims.{claim_of, no_claim_by, marked_by, claim_by}
 use Rattle.claims.specs.Claims.{point_at, may_claim}
 use Rattle.claims.proofs.ClaimPoints.{no_point}
 
@@ -18,10 +18,10 @@ none_left false = refl
 
 -- ---- no claim
 module _ (out : Bool) (played : ℕ) (bytes : List ℕ) (at : ℕ) where
-  abbrev unclaimed : Read
-  unclaimed = record { refusal = 0; next = at; marked = false; tricks = 0 }
+  abbrev unclaimed : Placed (Read (Option ℕ))
+  unclaimed = given (record { value = None; next = at })
 
-  pub unfinished : out ≡ false → (played ≡ 52 → ⊥) → no_claim 13 played ≡ claim_of (no_claim_by out played bytes at)
+  pub unfinished : out ≡ false → (played ≡ 52 → ⊥) → refused_at play_unfinished played ≡ claim_of (no_claim_by out played bytes at)
   unfolding no_claim_by refuse
   unfinished e n = rw (e, ne_eqb played 52 n)
 
@@ -34,27 +34,27 @@ module _ (out : Bool) (played : ℕ) (bytes : List ℕ) (at : ℕ) where
   passed e = rw e
 
   -- ---- a marked claim
-  pub claim_elsewhere : may_claim out played ≡ false → no_claim 14 played ≡ claim_of (marked_by out played bytes at)
+  pub claim_elsewhere : may_claim out played ≡ false → refused_at no_claim_point played ≡ claim_of (marked_by out played bytes at)
   unfolding marked_by refuse may_claim
   claim_elsewhere p = rw (no_point out (point_at played), p)
 
   module _ (p : may_claim out played ≡ true) where
-    pub claim-short : read 4 bytes at ≡ refused 2 0 → no_claim 2 0 ≡ claim_of (marked_by out played bytes at)
+    pub claim-short : {n place : ℕ} → read 4 bytes at ≡ refused n place → refused_at n place ≡ claim_of (marked_by out played bytes at)
     unfolding marked_by refuse may_claim
     claim-short q = rw (no_point out (point_at played), p, q)
 
     module _ (tricks : ℕ) (q : read 4 bytes at ≡ found tricks (at + 4)) where
-      pub claim_too_many_lem : 13 - played / 4 < tricks → no_claim 15 tricks ≡ claim_of (marked_by out played bytes at)
+      pub claim_too_many_lem : 13 - played / 4 < tricks → refused_at claim_too_many tricks ≡ claim_of (marked_by out played bytes at)
       unfolding marked_by refuse may_claim
       claim_too_many_lem h = rw (no_point out (point_at played), p, q, lt-leb tricks (13 - played / 4) h)
 
-      pub claim-agreed : tricks ≤ 13 - played / 4 → record { refusal = 0; next = at + 4; marked = true; tricks = tricks }
+      pub claim-agreed : tricks ≤ 13 - played / 4 → given (record { value = Some tricks; next = at + 4 })
           ≡ claim_of (marked_by out played bytes at)
       unfolding marked_by refuse may_claim
       claim-agreed h = rw (no_point out (point_at played), p, q, le-leb tricks (13 - played / 4) h)
 
   -- ---- the mark
-  pub mark-short : read 1 bytes at ≡ refused 2 0 → no_claim 2 0 ≡ claim_of (claim_by out played bytes at)
+  pub mark-short : {n place : ℕ} → read 1 bytes at ≡ refused n place → refused_at n place ≡ claim_of (claim_by out played bytes at)
   unfolding claim_by
   mark-short q = rw q
 

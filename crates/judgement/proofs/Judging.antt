@@ -8,11 +8,12 @@ use mathlib.Core.List.{List, [], ◌∷◌, reverse, reverse-reverse}
 use borrow.Author.Tests.{eqb-true, eqb-false, eq-eqb}
 use lib.Dec.{eqb}
 use lib.ListN.{get_or, length-map}
-use Rattle.laws.specs.Refusals.{refuses_behind}
+use Rattle.std.specs.Prelude.{Option}
+use Rattle.laws.specs.Refusals.{Placed, refused_at, given, not_padding}
 use Rattle.laws.specs.Cards.{clockwise, side_of}
 use Rattle.laws.specs.Law2.{dealer, vulnerable}
 use Rattle.laws.specs.Auction as Law
-use Rattle.laws.specs.Reading.{Reading, Reading.refused, Reading.found, onward, refuse, ending, overfull}
+use Rattle.laws.specs.Reading.{Reading, Reading.found, onward, refuse, ending, overfull}
 use Rattle.laws.specs.Judge.{read_claim, read_no_claim, read_marked_claim}
 use Rattle.laws.specs.LastCard.{read_behind}
 use Rattle.laws.specs.Law44.{cards_played, all_played, tricks_complete, tricks_left, cards_in_trick, winners, tricks_won}
@@ -27,14 +28,12 @@ use Rattle.laws.specs.Record.{Parts, Field, field, number}
 use Rattle.laws.specs.Judgement.{play_of, contract_of, won_tricks_of, winners_of, revokes_of, counted_of, failures_of, claimed_of, won_of, transferred_of}
 use Rattle.laws.specs.Judgement.{after_of, stake_of, score_of}
 use Rattle.laws.specs.Judgement.{played_fields, answer_fields, twos_complement, revoke_byte, revoke_bytes, failures_bytes}
-use Rattle.laws.proofs.Numbered.{Fair, not_0, fair_claim}
 use Rattle.laws.proofs.Tests.{by_test}
 use Rattle.auction.specs.declared.Contract.{Contract}
 use Rattle.auction.specs.Asked.{as_law}
 use Rattle.play.specs.declared.Tricks.{Tricks}
 use Rattle.play.specs.Told.{tricks_in}
 use Rattle.play.specs.History.{tricks_of, position_of}
-use Rattle.play.proofs.Thirteen.{at_most_52}
 use Rattle.play.proofs.Complete.{tricks_law}
 use Rattle.position.specs.declared.table.Table.{Table}
 use Rattle.position.specs.declared.listed.Listed.{Listed}
@@ -47,10 +46,11 @@ use Rattle.position.proofs.FailureBytes.{failure_bytes_lem}
 use Rattle.transfer.specs.Inputs.{claimed_by, transferred_in}
 use Rattle.transfer.proofs.History.{seats-told, listed_for, revokes_back, transferred_law, plain-bytes}
 use Rattle.judgement.specs.Settled.{head_fields, won_in, after_in, stake_in, settled_fields}
-use Rattle.judgement.specs.Whole.{OfCards, listed_in, tricks_told, after_cards, no_judgement, judged_of, board_fields}
-use Rattle.judgement.specs.declared.claim.Claim.{Claim as Read}
+use Rattle.judgement.specs.Whole.{OfCards, listed_in, tricks_told, after_cards, judged_of, board_fields}
+use Rattle.last_card.specs.declared.reading.Read.{Read}
+use Rattle.last_card.proofs.Told.{told-refused, told-found}
 use Rattle.judgement.specs.declared.whole.Judged.{Judged}
-use Rattle.judgement.specs.Claims.{claim_of, no_claim_by, marked_by, claim_by}
+use Rattle.judgement.specs.Claims.{claim_told, claim_of, no_claim_by, marked_by, claim_by}
 use Rattle.claims.specs.Claims.{point_at}
 
 -- the parts of a record with these calls and events of the play, latest first
@@ -225,97 +225,89 @@ module _ (board table : ℕ) (out : Bool) (k : Contract) (deal h : List ℕ) (e 
   pub count-is : t.play.played ≡ cards_played cards
   count-is = (table_is board table out k deal h e t o none).play.played
 
-  module _ (played : ℕ) (ep : played ≡ t.play.played) (claimed : Read) (ec : claimed ≡ claim_of (claim_by out played bytes at)) where
-    claim-is : claimed ≡ claim_of (read_claim h cards bytes at)
-    claim-is = ec ∙ rw (o.passed, ep, count-is) (ap claim_of (section_is h cards bytes at))
+  module _ (played : ℕ) (ep : played ≡ t.play.played) where
+    abbrev reading : Reading Claim
+    reading = claim_by out played bytes at
+
+    reading-is : reading ≡ read_claim h cards bytes at
+    reading-is = rw (o.passed, ep, count-is) (section_is h cards bytes at)
 
     abbrev rest : Reading Claim → Reading Parts
     rest r = onward r (λ claim next. onward (ending bytes next) (λ _ behind. found (parts_of board table deal h e claim) behind))
 
-    whole : after_cards board table deal h e bytes at ≡ rest (read_claim h cards bytes at)
+    abbrev answer : Placed Judged
+    answer = judged_of (after_cards board table deal h e bytes at)
+
+    whole : after_cards board table deal h e bytes at ≡ rest reading
     unfolding read_behind
-    whole = refl
+    whole = ap rest (sym reading-is)
 
-    stopped : (r : Reading Claim) → ((claim_of r).refusal ≡ 0 → ⊥) → no_judgement (claim_of r).refusal ≡ judged_of (rest r)
-    stopped (refused n place) z = refl
-    stopped (found none next) z = absurd (z refl)
-    stopped (found (agreed tricks) next) z = absurd (z refl)
+    pub claim-refused : {n place : ℕ} → refused_at n place ≡ claim_of reading → refused_at n place ≡ answer
+    claim-refused q = sym (ap judged_of (whole ∙ ap rest (told-refused claim_told reading q)))
 
-    pub claim-refused : (claimed.refusal ≡ 0 → ⊥) → no_judgement claimed.refusal ≡ judged_of (after_cards board table deal h e bytes at)
-    claim-refused z = rw (claim-is, whole) (stopped (read_claim h cards bytes at) (rw claim-is at z))
+    module _ {c : Read (Option ℕ)} (ec : given c ≡ claim_of reading) where
+      claimed : (claim : Claim) × (reading ≡ found claim c.next) × (c.value ≡ claim_told claim)
+      claimed = told-found claim_told reading ec
 
-    -- a refusal of the claim is not 0
-    fair : Fair refuses_behind (read_claim h cards bytes at)
-    unfolding cards_played
-    fair =
-        fair_claim h cards bytes at (at_most_52 deal (Law.trump_after h) (Law.opening_after (dealer board) h) o.deal_of_lem.places cards
-        (cards-allowed deal (Law.trump_after h) (Law.opening_after (dealer board) h) e o.played))
+      pub not-padded : overfull bytes c.next ≡ true → refused_at not_padding 0 ≡ answer
+      unfolding ending refuse
+      not-padded pad = sym (ap judged_of (whole ∙ ap rest claimed.1) ∙ rw pad)
 
-    unpadded : (r : Reading Claim) → Fair refuses_behind r → (claim_of r).refusal ≡ 0 → overfull bytes (claim_of r).next ≡ true
-        → no_judgement 16384 ≡ judged_of (rest r)
-    unfolding ending refuse
-    unpadded (refused n place) f z pad = absurd (not_0 refl f z)
-    unpadded (found none next) f z pad = rw pad
-    unpadded (found (agreed tricks) next) f z pad = rw pad
+      -- ---- accepted: the bits and the list are the Laws' on the parts
+      module _ (left : ℕ) (el : left ≡ 13 - played / 4) where
+        left_is : (claim : Claim) → left ≡ tricks_left (Events.cards_of (play_of (parts_of board table deal h e claim)))
+        unfolding tricks_left tricks_complete
+        left_is claim = rw (reverse-reverse e, sym count-is, sym ep) el
 
-    pub not-padded : claimed.refusal ≡ 0 → overfull bytes claimed.next ≡ true → no_judgement 16384 ≡ judged_of (after_cards board table deal h e bytes at)
-    not-padded z pad = rw whole (unpadded (read_claim h cards bytes at) fair (rw claim-is at z) (rw claim-is at pad))
+        sides_none : claimed_by k.declarer 0 0 ≡ claimed_of (parts_of board table deal h e none)
+        unfolding claimed_of
+        sides_none =
+            claim-none k.declarer (tricks_left (Events.cards_of (reverse (reverse e))))
+            ∙ ap {B = ℕ → ℕ} (λ (d side : ℕ). claimed_tricks none (tricks_left (Events.cards_of (reverse (reverse e)))) (eqb side (side_of d)))
+            (declarer-is board table out k deal h e t o none)
 
-    -- ---- accepted: the bits and the list are the Laws' on the parts
-    module _ (left : ℕ) (el : left ≡ 13 - played / 4) where
-      left_is : (claim : Claim) → left ≡ tricks_left (Events.cards_of (play_of (parts_of board table deal h e claim)))
-      unfolding tricks_left tricks_complete
-      left_is claim = rw (reverse-reverse e, sym count-is, sym ep) el
+        sides_some : (tricks : ℕ) → claimed_by k.declarer tricks left ≡ claimed_of (parts_of board table deal h e (agreed tricks))
+        unfolding claimed_of
+        sides_some tricks =
+            rw (left_is (agreed tricks)) (claim-some k.declarer (tricks_left (Events.cards_of (reverse (reverse e)))) tricks
+            ∙ ap {B = ℕ → ℕ} (λ (d side : ℕ). claimed_tricks (agreed tricks) (tricks_left (Events.cards_of (reverse (reverse e)))) (eqb side (side_of d)))
+            (declarer-is board table out k deal h e t o (agreed tricks)))
 
-      sides_none : claimed_by k.declarer 0 0 ≡ claimed_of (parts_of board table deal h e none)
-      unfolding claimed_of
-      sides_none =
-          claim-none k.declarer (tricks_left (Events.cards_of (reverse (reverse e))))
-          ∙ ap {B = ℕ → ℕ} (λ (d side : ℕ). claimed_tricks none (tricks_left (Events.cards_of (reverse (reverse e)))) (eqb side (side_of d)))
-          (declarer-is board table out k deal h e t o none)
+        bits_is : (claim : Claim) (c l : ℕ) → claimed_by k.declarer c l ≡ claimed_of (parts_of board table deal h e claim)
+            → (if out then head_fields board table else settled_fields board table k (tricks_in t.play) (revokes_in t) c l)
+            ≡ answer_fields (parts_of board table deal h e claim)
+        bits_is claim c l sides =
+            by_test out
+            (λ (q : out ≡ true). rw q (passed_is board table out k deal h e t o claim (sym o.passed ∙ q)))
+            (λ (q : out ≡ false).
+            rw q (fields-is board table out k deal h e t o claim c l sides
+            (sym (own_claim k.declarer c l) ∙ ap (λ (f : ℕ → ℕ). f (side_of k.declarer)) sides) (sym o.passed ∙ q)))
 
-      sides_some : (tricks : ℕ) → claimed_by k.declarer tricks left ≡ claimed_of (parts_of board table deal h e (agreed tricks))
-      unfolding claimed_of
-      sides_some tricks =
-          rw (left_is (agreed tricks)) (claim-some k.declarer (tricks_left (Events.cards_of (reverse (reverse e)))) tricks
-          ∙ ap {B = ℕ → ℕ} (λ (d side : ℕ). claimed_tricks (agreed tricks) (tricks_left (Events.cards_of (reverse (reverse e)))) (eqb side (side_of d)))
-          (declarer-is board table out k deal h e t o (agreed tricks)))
+        -- the answer's fields, by the claim
+        fields_by : (claim : Claim)
+            → board_fields board table out k (tricks_in t.play) (revokes_in t) (claim_told claim) left ≡ answer_fields (parts_of board table deal h e claim)
+        unfolding board_fields
+        fields_by none = bits_is none 0 0 sides_none
+        fields_by (agreed tricks) = bits_is (agreed tricks) tricks left (sides_some tricks)
 
-      bits_is : (claim : Claim) (c l : ℕ) → claimed_by k.declarer c l ≡ claimed_of (parts_of board table deal h e claim)
-          → (if out then head_fields board table else settled_fields board table k (tricks_in t.play) (revokes_in t) c l)
-          ≡ answer_fields (parts_of board table deal h e claim)
-      bits_is claim c l sides =
-          by_test out
-          (λ (q : out ≡ true). rw q (passed_is board table out k deal h e t o claim (sym o.passed ∙ q)))
-          (λ (q : out ≡ false).
-          rw q (fields-is board table out k deal h e t o claim c l sides
-          (sym (own_claim k.declarer c l) ∙ ap (λ (f : ℕ → ℕ). f (side_of k.declarer)) sides) (sym o.passed ∙ q)))
+        -- the parts of the answer that do not hang on the claim
+        told-alike : (claim : Claim) (bits : ℕ)
+            → ◌≡◌ {A = Judged} (record { bits = bits; revokes = revokes_in t; failures = failure_bytes_in t.found; tricks = tricks_in t.play })
+            (let q = parts_of board table deal h e claim in record { bits = bits; revokes = listed_in q; failures = failures_bytes q; tricks = tricks_told q })
+        told-alike claim bits =
+            rw (
+              list-is board table out k deal h e t o claim,
+              failed_is board table out k deal h e t o claim,
+              told_is board table out k deal h e t o claim,
+            )
 
-      abbrev given : ℕ → Listed → List ℕ → Tricks → Judged
-      given bits rs fs ts = record { refusal = 0; bits = bits; revokes = rs; failures = fs; tricks = ts }
-
-      -- the parts of the answer that do not hang on the claim
-      told-alike : (claim : Claim) (bits : ℕ)
-          → given bits (revokes_in t) (failure_bytes_in t.found) (tricks_in t.play)
-          ≡ (let q = parts_of board table deal h e claim in given bits (listed_in q) (failures_bytes q) (tricks_told q))
-      told-alike claim bits =
-          rw (
-            list-is board table out k deal h e t o claim,
-            failed_is board table out k deal h e t o claim,
-            told_is board table out k deal h e t o claim,
-          )
-
-      agreed_on : (r : Reading Claim) → Fair refuses_behind r → (claim_of r).refusal ≡ 0 → overfull bytes (claim_of r).next ≡ false
-          → given (number (board_fields board table out k (tricks_in t.play) (revokes_in t) (claim_of r) left)) (revokes_in t) (failure_bytes_in t.found)
-          (tricks_in t.play)
-          ≡ judged_of (rest r)
-      unfolding ending refuse board_fields
-      agreed_on (refused n place) f z pad = absurd (not_0 refl f z)
-      agreed_on (found none next) f z pad = rw (pad, bits_is none 0 0 sides_none) (told-alike none _)
-      agreed_on (found (agreed tricks) next) f z pad = rw (pad, bits_is (agreed tricks) tricks left (sides_some tricks)) (told-alike (agreed tricks) _)
-
-      pub claim-accepted : (ts : Tricks) (rs : Listed) (fs : List ℕ) → ts ≡ tricks_in t.play → rs ≡ revokes_in t → fs ≡ failure_bytes_in t.found
-          → (bits : ℕ) → claimed.refusal ≡ 0 → overfull bytes claimed.next ≡ false → bits ≡ number (board_fields board table out k ts rs claimed left)
-          → given bits rs fs ts ≡ judged_of (after_cards board table deal h e bytes at)
-      claim-accepted ts rs fs et er ef bits z pad ek =
-          rw (whole, ek, et, er, ef, claim-is) (agreed_on (read_claim h cards bytes at) fair (rw claim-is at z) (rw claim-is at pad))
+        pub claim-accepted : {ts : Tricks} {rs : Listed} {fs : List ℕ} → ts ≡ tricks_in t.play → rs ≡ revokes_in t → fs ≡ failure_bytes_in t.found
+            → {bits : ℕ} → overfull bytes c.next ≡ false → bits ≡ number (board_fields board table out k ts rs c.value left)
+            → given (record { bits = bits; revokes = rs; failures = fs; tricks = ts }) ≡ answer
+        unfolding ending refuse
+        claim-accepted et er ef {bits} pad ek =
+            let claim = claimed.0 in
+            let fields = ap (λ (x : Option ℕ). board_fields board table out k (tricks_in t.play) (revokes_in t) x left) claimed.2 ∙ fields_by claim in
+            let same : bits ≡ number (answer_fields (parts_of board table deal h e claim)) = rw (et, er) at ek ∙ ap number fields in
+            rw (same, et, er, ef)
+            (ap given (told-alike claim _) ∙ sym (ap judged_of (whole ∙ ap rest claimed.1) ∙ rw pad))

@@ -7,7 +7,7 @@ use mathlib.Core.List.{List, map, map-map, map-id, reverse-reverse}
 use lib.ListN.{length, take, length-map}
 use Rattle.laws.specs.Auction.{passed_out}
 use Rattle.laws.specs.Record.{Parts, bits, number, bytes_of, packed}
-use Rattle.laws.specs.Reading.{Reading, Reading.found}
+use Rattle.laws.specs.Reading.{Reading.found}
 use Rattle.laws.specs.LastCard.{read_to_last_card, read_behind}
 use Rattle.laws.specs.Judge as Judge
 use Rattle.laws.specs.Events as Events

@@ -1,21 +1,20 @@
 -- Each field of the answer to lawful parts fits its width: contract, tricks before and after Law 64, revokes and score. Assumes nothing.
-use Rattle.std.specs.Prelude.{if◌then◌else◌}
-use Prim.Native.Nat.{ℕ, zero, suc, ◌+◌, ◌-◌, ◌*◌, ◌/◌, ◌^◌, ◌≤◌, ◌<◌, min}
+use Prim.Native.Nat.{ℕ, ◌+◌, ◌-◌, ◌^◌, ◌≤◌, ◌<◌}
 use native.Mathlib.Omega.{arith}
 use mathlib.Core.Path.{◌≡◌, refl, sym, ap, ◌∙◌}
-use mathlib.Core.Bool.{Bool, true, false, not}
-use mathlib.Core.List.{List, [], ◌∷◌, ◌++◌, reverse}
+use mathlib.Core.Bool.{true, false}
+use mathlib.Core.List.{List, [], ◌∷◌}
 use borrow.Author.Tests.{eqb-true, eqb-false, ne_eqb, eq-eqb, leb-true, not-false}
 use lib.Dec.{eqb, leb}
 use lib.IntN.{ℤ, pos, negsuc, nat_abs}
-use lib.ListN.{length, take, drop, take-append-drop, length-reverse}
+use lib.ListN.{length, take, drop, take-append-drop}
 use Rattle.laws.specs.Choice.{how_many, some}
 use Rattle.laws.specs.Cards.{side_of, partner_of}
 use Rattle.laws.specs.Auction as Auction
 use Rattle.laws.specs.Law2.{dealer}
 use Rattle.laws.specs.Law44.{cards_played, tricks_complete, tricks_left, tricks_won}
 use Rattle.laws.specs.LeadRevoke.{Counted}
-use Rattle.laws.specs.Law64.{Due, won_from, entitlement, dues, total, side_revoked, both_revoked, transferred_tricks, tricks_after}
+use Rattle.laws.specs.Law64.{won_from, dues, total, side_revoked, both_revoked, transferred_tricks, tricks_after}
 use Rattle.laws.specs.Law68.{Claim, none, agreed, claimable, claimed_tricks}
 use Rattle.laws.specs.Law77.{valid_score}
 use Rattle.laws.specs.Record.{Parts}
@@ -23,7 +22,7 @@ use Rattle.laws.specs.Lawful.{Lawful, Claimed}
 use Rattle.laws.specs.Events.{cards_of, cards_among}
 use Rattle.laws.specs.Judgement.{calls_of, play_of, contract_of, declarer_of, trump_of, opening_of, winners_of, counted_of, claimed_of, won_of}
 use Rattle.laws.specs.Judgement.{transferred_of, after_of, stake_of, score_of, twos_complement}
-use Rattle.laws.proofs.Tests.{by_test, not_both, or_left, and_left}
+use Rattle.laws.proofs.Tests.{by_test, or_left, and_left}
 use Rattle.laws.proofs.Counts.{many_append}
 use Rattle.laws.proofs.Plays.{cards-reverse}
 use Rattle.laws.proofs.Contracts.{level_bounds, strain_lt, doubling-le, declarer_side}

@@ -1,19 +1,20 @@
--- The claim: what the code's struct says of its reading, a refusal by its number or 0 and what was read, and the Laws' section by what it takes of calls and
--- cards. Assumes nothing.
-use Rattle.std.specs.Prelude.{ℕ, ◌-◌, ◌/◌, Bool, true, false, not, ◌&&◌, ◌||◌, eqb, leb, if◌then◌else◌}
-use Rattle.laws.specs.Refusals.{refusal_number, play_unfinished, no_claim_point, claim_too_many}
+-- The claim: what the code says of its reading, a refusal with its place, or the tricks claimed where there is a claim; and the Laws' section by what it takes
+-- of calls and cards. Assumes nothing.
+use Rattle.std.specs.Prelude.{ℕ, ◌-◌, ◌/◌, Bool, not, ◌&&◌, ◌||◌, Option, None, Some, eqb, leb, if◌then◌else◌}
+use Rattle.laws.specs.Refusals.{Placed, play_unfinished, no_claim_point, claim_too_many}
 use Rattle.laws.specs.Law68.{Claim, none, agreed}
-use Rattle.laws.specs.Reading.{Reading, Reading.refused, Reading.found, Reader, ◌>>=◌, ◌>>◌, give, read, refuse}
+use Rattle.laws.specs.Reading.{Reading, Reader, ◌>>=◌, ◌>>◌, give, read, refuse}
 use Rattle.claims.specs.Claims.{point_at}
-use Rattle.judgement.specs.declared.claim.Claim.{Claim as Read}
+use Rattle.last_card.specs.declared.reading.Read.{Read}
+use Rattle.last_card.specs.Sections.{placed_read}
 
-abbrev pub no_claim : ℕ → ℕ → Read
-no_claim n place = record { refusal = refusal_number n place; next = 0; marked = false; tricks = 0 }
+-- the tricks claimed, where there is a claim
+abbrev pub claim_told : Claim → Option ℕ
+claim_told none = None
+claim_told (agreed tricks) = Some tricks
 
-abbrev pub claim_of : Reading Claim → Read
-claim_of (refused n place) = no_claim n place
-claim_of (found none at) = record { refusal = 0; next = at; marked = false; tricks = 0 }
-claim_of (found (agreed tricks) at) = record { refusal = 0; next = at; marked = true; tricks = tricks }
+abbrev pub claim_of : Reading Claim → Placed (Read (Option ℕ))
+claim_of r = placed_read claim_told r
 
 -- the Laws' section, here and below, by whether the board was passed out and the number of cards played: no claim
 unfoldable pub no_claim_by : Bool → ℕ → Reader Claim

@@ -1,6 +1,6 @@
 -- The answer's fields by what the positions hold at the end.
 -- Assumes nothing.
-use Rattle.std.specs.Prelude.{ℕ, ◌+◌, List, [], ◌∷◌, ◌++◌, get_or}
+use Rattle.std.specs.Prelude.{ℕ, ◌+◌, List, [], ◌∷◌, get_or}
 use Rattle.laws.specs.Cards.{side_of}
 use Rattle.laws.specs.Law2.{vulnerable}
 use Rattle.laws.specs.Law64.{tricks_after}

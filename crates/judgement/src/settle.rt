@@ -56,26 +56,19 @@ fn contract_bits(k: Contract, won: u16, after: u32, revokes: u8, word: u64) -> u
     contract + tricks + revokes as u64 * 65536 + word
 }
 
-fn wide(x: u8) -> u16
-    ensures { (result ≡ x) × (result < 256) }
-{
-    x as u16
-}
-
 // Tricks won by declarer's side, claimed ones included.
 fn won(ts: Tricks, declarer: u8, claim: u8) -> u16
     ensures { result ≡ won_in ts declarer claim }
 {
     let side = (declarer % 2) as usize;
-    wide(ts.won[side]) + wide(claim)
+    u16::from(ts.won[side]) + u16::from(claim)
 }
 
 // The answer's bits on a board that was passed out.
 pub(crate) fn settle_passed_out(board: u8, table: u16) -> u64
     ensures { result ≡ number (head_fields board table) }
 {
-    let head = heading_bits(board, table);
-    head
+    heading_bits(board, table)
 }
 
 // The answer's bits where there is a contract.

@@ -1,31 +1,34 @@
 -- The record from its first bit to the end of its calls: what each section's success tells, and the whole from its parts. Assumes nothing.
-use Prim.Native.Nat.{ℕ, zero, suc, ◌≤◌, ◌<◌, ◌+◌, ◌-◌, ◌*◌}
+use Prim.Native.Nat.{ℕ, zero, suc, ◌≤◌, ◌<◌, ◌+◌, ◌*◌}
 use native.Mathlib.Nat.{mul-zero, mul-suc}
 use native.Mathlib.Omega.{arith}
-use mathlib.Core.Path.{◌≡◌, refl, sym, ap, ◌∙◌, subst}
+use mathlib.Core.Path.{◌≡◌, refl, sym, ap, ◌∙◌}
 use mathlib.Core.Bool.{not}
 use mathlib.Core.List.{List}
 use borrow.Author.Tests.{eqb-true, not-false}
 use lib.Dec.{eqb}
 use lib.ListN.{length}
-use Rattle.laws.specs.Refusals.{refuses_to_last_card, no_board_or_table, not_thirteen}
+use Rattle.laws.specs.Refusals.{Placed, refused_at, given, no_board_or_table, not_thirteen}
+use Rattle.laws.specs.Refused.{placed_in}
+use Rattle.laws.proofs.Answered.{is-refused, is-found}
 use Rattle.laws.specs.Cards.{no_seat, seat_without_thirteen}
-use Rattle.laws.specs.Reading.{Reading, Reading.refused, Reading.found, onward, read_row}
+use Rattle.laws.specs.Reading.{Reading, Reading.found, onward, read_row}
 use Rattle.laws.specs.Law2.{dealer}
 use Rattle.laws.specs.Judge as Judge
 use Rattle.laws.specs.LastCard.{ToLastCard, read_to_last_card}
-use Rattle.laws.proofs.Numbered.{Fair, not_0, fair_heading, fair_deal, fair_calls}
 use Rattle.laws.proofs.Readings.{first-of, first_read, first_test}
 use Rattle.deal.specs.Hands.{words_of}
 use Rattle.deal.proofs.Thirteen.{thirteen-each}
 use Rattle.auction.specs.Position as Calls
 use Rattle.last_card.specs.declared.reading.Heading.{Heading}
-use Rattle.last_card.specs.declared.reading.Deal.{Deal}
-use Rattle.last_card.specs.declared.reading.Calls.{Calls}
+use Rattle.last_card.specs.declared.reading.Read.{Read}
+use Rattle.deal.specs.declared.given.Dealt.{Dealt}
+use Rattle.auction.specs.declared.Auction.{Auction}
 use Rattle.last_card.specs.declared.reached.Reached.{Reached}
 use Rattle.position.specs.History.{ThirteenEach}
 use Rattle.last_card.specs.Sections.{heading_of, deal_of, calls_of}
-use Rattle.last_card.specs.Reached.{OfCalls, after_calls, after_deal, none_reached, reached_of}
+use Rattle.last_card.specs.Reached.{OfCalls, after_calls, after_deal, reached_of}
+use Rattle.last_card.proofs.Told.{told-refused, told-found}
 use Rattle.last_card.proofs.Composing.{found-same, calls-next}
 
 -- ---- what a section that was read tells
@@ -61,7 +64,10 @@ deal-found bytes at {deal} q =
     (record { places = ap length (sym s.0) ∙ f.0; thirteen = thirteen-each deal none }, omega (arith, s.1, f.1))
 
 -- ---- from the heading on
-module _ (bytes : List ℕ) (t : Heading) (et : t ≡ heading_of (Judge.read_heading bytes 0)) where
+module _ (bytes : List ℕ) where
+  abbrev answer : Placed (Read Reached)
+  answer = reached_of (read_to_last_card bytes 0)
+
   abbrev rest : Judge.Heading → ℕ → Reading ToLastCard
   rest top at = onward (Judge.read_deal bytes at) (λ deal behind. after_deal top.board top.table deal bytes behind)
 
@@ -69,81 +75,77 @@ module _ (bytes : List ℕ) (t : Heading) (et : t ≡ heading_of (Judge.read_hea
   unfolding read_to_last_card after_deal after_calls
   by_parts = refl
 
-  heading_stops : (q : Reading Judge.Heading) → ((heading_of q).refusal ≡ 0 → ⊥) → none_reached (heading_of q).refusal ≡ reached_of (onward q rest)
-  heading_stops (refused n place) e = refl
-  heading_stops (found top at) e = absurd (e refl)
+  pub heading-refused : {n place : ℕ} → refused_at n place ≡ placed_in heading_of (Judge.read_heading bytes 0) → refused_at n place ≡ answer
+  heading-refused e =
+      let q = is-refused heading_of (Judge.read_heading bytes 0) e in
+      sym (ap reached_of (by_parts ∙ ap (λ (r : Reading Judge.Heading). onward r rest) q))
 
-  pub heading-refused : (t.refusal ≡ 0 → ⊥) → none_reached t.refusal ≡ reached_of (read_to_last_card bytes 0)
-  heading-refused e = rw (by_parts, et) (heading_stops (Judge.read_heading bytes 0) (rw et at e))
+  module _ {t : Heading} (et : given t ≡ placed_in heading_of (Judge.read_heading bytes 0)) where
+    abbrev deal_rest : Reading (List ℕ) → Reading ToLastCard
+    deal_rest r = onward r (λ deal behind. after_deal t.board t.table deal bytes behind)
 
-  abbrev deal_rest : Heading → Reading (List ℕ) → Reading ToLastCard
-  deal_rest top r = onward r (λ deal behind. after_deal top.board top.table deal bytes behind)
+    heading-read : read_to_last_card bytes 0 ≡ deal_rest (Judge.read_deal bytes 16)
+    heading-read =
+        let f = is-found heading_of (Judge.read_heading bytes 0) et in
+        by_parts
+        ∙ ap (λ (r : Reading Judge.Heading). onward r rest) f.2
+        ∙ ap (rest f.0) (heading_end bytes f.2)
+        ∙ ap (λ (x : Heading). onward (Judge.read_deal bytes 16) (λ deal behind. after_deal x.board x.table deal bytes behind)) (sym f.3)
 
-  heading-goes : (q : Reading Judge.Heading) → Judge.read_heading bytes 0 ≡ q → (heading_of q).refusal ≡ 0 → onward q rest
-      ≡ deal_rest (heading_of q) (Judge.read_deal bytes 16)
-  heading-goes (refused n place) q e = absurd (not_0 refl (subst (Fair refuses_to_last_card) q (fair_heading bytes 0)) e)
-  heading-goes (found top at) q e = ap (rest top) (heading_end bytes q)
+    abbrev dealt_as : List ℕ → Dealt
+    dealt_as deal = record { holders = deal; hands = words_of deal }
 
-  module _ (ot : t.refusal ≡ 0) (d : Deal) (ed : d ≡ deal_of (Judge.read_deal bytes 16)) where
-    heading-read : read_to_last_card bytes 0 ≡ deal_rest t (Judge.read_deal bytes 16)
-    heading-read = by_parts ∙ heading-goes (Judge.read_heading bytes 0) refl (rw et at ot) ∙ ap (λ (x : Heading). deal_rest x (Judge.read_deal bytes 16)) (sym et)
+    pub deal-refused : {n place : ℕ} → refused_at n place ≡ deal_of (Judge.read_deal bytes 16) → refused_at n place ≡ answer
+    deal-refused e =
+        let q = is-refused dealt_as (Judge.read_deal bytes 16) e in
+        sym (ap reached_of (heading-read ∙ ap deal_rest q))
 
-    deal_stops : (q : Reading (List ℕ)) → ((deal_of q).refusal ≡ 0 → ⊥) → none_reached (deal_of q).refusal ≡ reached_of (deal_rest t q)
-    deal_stops (refused n place) e = refl
-    deal_stops (found deal at) e = absurd (e refl)
+    module _ {d : Dealt} (ed : given d ≡ deal_of (Judge.read_deal bytes 16)) where
+      dealt : (deal : List ℕ) × (at : ℕ) × (Judge.read_deal bytes 16 ≡ found deal at) × (d ≡ dealt_as deal)
+      dealt = is-found dealt_as (Judge.read_deal bytes 16) ed
 
-    pub deal-refused : (d.refusal ≡ 0 → ⊥) → none_reached d.refusal ≡ reached_of (read_to_last_card bytes 0)
-    deal-refused e = rw (heading-read, ed) (deal_stops (Judge.read_deal bytes 16) (rw ed at e))
+      holders_are : d.holders ≡ dealt.0
+      holders_are = ap (λ (x : Dealt). x.holders) dealt.3
 
-    deal-goes : (q : Reading (List ℕ)) → Judge.read_deal bytes 16 ≡ q → (deal_of q).refusal ≡ 0
-        → ThirteenEach (deal_of q).holders × (deal_rest t q ≡ after_deal t.board t.table (deal_of q).holders bytes 120)
-    deal-goes (refused n place) q e = absurd (not_0 refl (subst (Fair refuses_to_last_card) q (fair_deal bytes 16)) e)
-    deal-goes (found deal at) q e =
-        let f = deal-found bytes 16 q in
-        let s : at ≡ 120 = omega (arith, f.1) in
-        (f.0, ap (after_deal t.board t.table deal bytes) s)
+      pub hands_are : d.hands ≡ words_of d.holders
+      hands_are = ap (λ (x : Dealt). x.hands) dealt.3 ∙ ap words_of (sym holders_are)
 
-    module _ (od : d.refusal ≡ 0) (seat : ℕ) (es : seat ≡ dealer t.board) (c : Calls) (ec : c ≡ calls_of seat (Judge.read_calls seat bytes 120)) where
-      deal-read : ThirteenEach d.holders × (deal_rest t (Judge.read_deal bytes 16) ≡ after_deal t.board t.table d.holders bytes 120)
-      deal-read = rw ed (deal-goes (Judge.read_deal bytes 16) refl (rw ed at od))
+      pub thirteen_are : ThirteenEach d.holders
+      thirteen_are = rw holders_are (deal-found bytes 16 dealt.2).0
 
-      abbrev call_rest : Reading (List ℕ) → Reading ToLastCard
-      call_rest r = onward r (λ h behind. after_calls t.board t.table d.holders h bytes behind)
+      deal-read : read_to_last_card bytes 0 ≡ after_deal t.board t.table d.holders bytes 120
+      deal-read =
+          let s : dealt.1 ≡ 120 = omega (arith, (deal-found bytes 16 dealt.2).1) in
+          heading-read
+          ∙ ap deal_rest dealt.2
+          ∙ ap (after_deal t.board t.table dealt.0 bytes) s
+          ∙ ap (λ (l : List ℕ). after_deal t.board t.table l bytes 120) (sym holders_are)
 
-      from-calls : read_to_last_card bytes 0 ≡ call_rest (Judge.read_calls seat bytes 120)
-      unfolding after_deal
-      from-calls = heading-read ∙ deal-read.1 ∙ ap (λ (s : ℕ). call_rest (Judge.read_calls s bytes 120)) (sym es)
+      module _ (seat : ℕ) (es : seat ≡ dealer t.board) where
+        abbrev calls : Reading (List ℕ)
+        calls = Judge.read_calls seat bytes 120
 
-      calls_stop : (q : Reading (List ℕ)) → ((calls_of seat q).refusal ≡ 0 → ⊥) → none_reached (calls_of seat q).refusal ≡ reached_of (call_rest q)
-      calls_stop (refused n place) e = refl
-      calls_stop (found h at) e = absurd (e refl)
+        abbrev call_rest : Reading (List ℕ) → Reading ToLastCard
+        call_rest r = onward r (λ h behind. after_calls t.board t.table d.holders h bytes behind)
 
-      pub calls-refused : (c.refusal ≡ 0 → ⊥) → none_reached c.refusal ≡ reached_of (read_to_last_card bytes 0)
-      calls-refused e = rw (from-calls, ec) (calls_stop (Judge.read_calls seat bytes 120) (rw ec at e))
+        from-calls : read_to_last_card bytes 0 ≡ call_rest calls
+        unfolding after_deal
+        from-calls = deal-read ∙ ap (λ (s : ℕ). call_rest (Judge.read_calls s bytes 120)) (sym es)
 
-      calls_end : (q : Reading (List ℕ)) → Judge.read_calls seat bytes 120 ≡ q → (calls_of seat q).refusal ≡ 0 → (8 ≤ (calls_of seat q).next)
-          × ((calls_of seat q).next < 16384)
-      calls_end (refused n place) q e = absurd (not_0 refl (subst (Fair refuses_to_last_card) q (fair_calls seat bytes 120)) e)
-      calls_end (found h at) q e = let n = calls-next seat bytes 120 q in (omega arith, omega arith)
+        pub calls-refused : {n place : ℕ} → refused_at n place ≡ calls_of seat calls → refused_at n place ≡ answer
+        calls-refused e = sym (ap reached_of (from-calls ∙ ap call_rest (told-refused (Calls.position_of seat) calls e)))
 
-      hands_go : (q : Reading (List ℕ)) → Judge.read_deal bytes 16 ≡ q → (deal_of q).refusal ≡ 0 → (deal_of q).hands ≡ words_of (deal_of q).holders
-      hands_go (refused n place) q e = absurd (not_0 refl (subst (Fair refuses_to_last_card) q (fair_deal bytes 16)) e)
-      hands_go (found deal at) q e = refl
+        module _ {c : Read Auction} (ec : given c ≡ calls_of seat calls) where
+          called : (h : List ℕ) × (calls ≡ found h c.next) × (c.value ≡ Calls.position_of seat h)
+          called = told-found (Calls.position_of seat) calls ec
 
-      pub calls_bound : c.refusal ≡ 0 → (8 ≤ c.next) × (c.next < 16384) × (d.hands ≡ words_of d.holders) × ThirteenEach d.holders
-      calls_bound e =
-          let n = rw (← ec) at (calls_end (Judge.read_calls seat bytes 120) refl (rw ec at e)) in
-          (n.0, n.1, rw ed (hands_go (Judge.read_deal bytes 16) refl (rw ed at od)), deal-read.0)
+          pub calls_bound : (8 ≤ c.next) × (c.next < 16384)
+          calls_bound =
+              let n = calls-next seat bytes 120 called.1 in
+              (omega (arith, n.0), omega (arith, n.1))
 
-      module _ (r : Reached) where
-        -- the answer, given any calls that this position is of
-        abbrev Tells : Calls → Type 0
-        Tells x = (h : List ℕ) → OfCalls t.board x.after d.holders h → r ≡ reached_of (after_calls t.board t.table d.holders h bytes x.next)
-
-        calls_go : (q : Reading (List ℕ)) → Judge.read_calls seat bytes 120 ≡ q → (calls_of seat q).refusal ≡ 0 → Tells (calls_of seat q) → r
-            ≡ reached_of (call_rest q)
-        calls_go (refused n place) q e f = absurd (not_0 refl (subst (Fair refuses_to_last_card) q (fair_calls seat bytes 120)) e)
-        calls_go (found h at) q e f = f h (record { deal_of_lem = deal-read.0; position = ap (λ (s : ℕ). Calls.position_of s h) es })
-
-        pub calls-read : c.refusal ≡ 0 → Tells c → r ≡ reached_of (read_to_last_card bytes 0)
-        calls-read e f = rw from-calls (calls_go (Judge.read_calls seat bytes 120) refl (rw ec at e) (subst (λ (x : Calls). Tells x) ec f))
+          pub calls-read : {r : Placed (Read Reached)}
+              → ((h : List ℕ) → OfCalls t.board c.value d.holders h → r ≡ reached_of (after_calls t.board t.table d.holders h bytes c.next)) → r ≡ answer
+          calls-read f =
+              f called.0 (record { deal_of_lem = thirteen_are; position = called.2 ∙ ap (λ (s : ℕ). Calls.position_of s called.0) es })
+              ∙ sym (ap reached_of (from-calls ∙ ap call_rest called.1))

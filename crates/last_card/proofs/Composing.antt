@@ -1,21 +1,20 @@
 -- The sections one after the other: what a reading that succeeds tells, and the whole from its parts. Assumes nothing.
-use Prim.Native.Nat.{ℕ, zero, suc, ◌≤◌, ◌<◌, ◌+◌, ◌-◌, ◌*◌}
+use Prim.Native.Nat.{ℕ, zero, suc, ◌≤◌, ◌<◌, ◌+◌, ◌*◌}
 use native.Mathlib.Nat.{mul-zero, mul-suc}
 use native.Mathlib.Omega.{arith}
-use mathlib.Core.Path.{◌≡◌, refl, ap, ◌∙◌, subst}
+use mathlib.Core.Path.{◌≡◌, refl, sym, ap, ◌∙◌, subst}
 use mathlib.Core.Bool.{Bool, not}
 use mathlib.Core.List.{List, [], ◌∷◌}
 use borrow.Author.Tests.{eqb-true, not-false}
 use lib.Dec.{eqb}
-use Rattle.laws.specs.Reading.{Reading, Reading.refused, Reading.found, onward, number_at, read_each}
-use Rattle.laws.specs.Refusals.{refuses_to_last_card, auction_unfinished}
+use Rattle.laws.specs.Reading.{Reading, Reading.found, onward, number_at, read_each}
+use Rattle.laws.specs.Refusals.{refused_at, given, auction_unfinished}
 use Rattle.laws.specs.CallRefusal.{call_refusal, call_place}
 use Rattle.laws.specs.Events.{Event}
 use Rattle.laws.specs.Law2.{dealer}
 use Rattle.laws.specs.Auction as Law
 use Rattle.laws.specs.Judge as Judge
 use Rattle.laws.proofs.Bits.{number_lt}
-use Rattle.laws.proofs.Numbered.{Fair, not_0, fair_cards}
 use Rattle.laws.proofs.Histories.{Clean}
 use Rattle.laws.proofs.Readings.{first-of, first_read, first_test}
 use Rattle.laws.specs.Cards.{clockwise}
@@ -25,10 +24,12 @@ use Rattle.auction.specs.declared.Contract.{Contract}
 use Rattle.auction.specs.Asked.{passed_out_of, contract_of, as_law}
 use Rattle.auction.proofs.History.{passed_out_is}
 use Rattle.auction.proofs.Laws.{contract-is}
-use Rattle.last_card.specs.declared.plays.Cards.{Cards}
-use Rattle.last_card.specs.declared.reached.Reached.{Reached}
+use Rattle.position.specs.declared.table.Table.{Table}
+use Rattle.position.specs.History.{position_of}
+use Rattle.last_card.specs.declared.reading.Read.{Read}
 use Rattle.last_card.specs.Sections.{cards_by, cards_of}
-use Rattle.last_card.specs.Reached.{OfCalls, after_calls, none_reached, reached_of}
+use Rattle.last_card.specs.Reached.{OfCalls, after_calls, reached_of}
+use Rattle.last_card.proofs.Told.{told-refused, told-found}
 
 -- ---- a reading of codes that succeeds: none was refused, and the bit behind them
 pub found-same : {A : Type 0} {h g : A} {at e : ℕ} → ◌≡◌ {A = Reading A} (found h at) (found g e) → (h ≡ g) × (at ≡ e)
@@ -96,27 +97,17 @@ module _ (board table : ℕ) (a : Auction) (deal h : List ℕ) (told : OfCalls b
   unfolding after_calls
   whole = rw cards_law
 
-  -- a refusal of the cards is not 0
-  fair : Fair refuses_to_last_card (cards_by out k.strain opening deal bytes at)
-  fair = rw cards_law (fair_cards (dealer board) deal h bytes at)
+  abbrev cards : Reading (List Event)
+  cards = cards_by out k.strain opening deal bytes at
 
-  module _ (c : Cards) (ec : c ≡ cards_of deal k.strain opening (cards_by out k.strain opening deal bytes at)) where
-    stopped : (r : Reading (List Event)) → ((cards_of deal k.strain opening r).refusal ≡ 0 → ⊥) → none_reached (cards_of deal k.strain opening r).refusal
-        ≡ reached_of (rest r)
-    stopped (refused n place) e = refl
-    stopped (found g next) e = absurd (e refl)
+  pub cards-refused : {n place : ℕ} → refused_at n place ≡ cards_of deal k.strain opening cards
+      → refused_at n place ≡ reached_of (after_calls board table deal h bytes at)
+  cards-refused e = sym (ap reached_of (whole ∙ ap rest (told-refused (position_of deal k.strain opening) cards e)))
 
-    pub cards-refused : (c.refusal ≡ 0 → ⊥) → none_reached c.refusal ≡ reached_of (after_calls board table deal h bytes at)
-    cards-refused e = rw (whole, ec) (stopped (cards_by out k.strain opening deal bytes at) (rw ec at e))
-
-    -- the answer with the position that the cards led to
-    abbrev answer : Cards → Reached
-    answer x = record { refusal = 0; board = board; table = table; out = out; contract = k; next = x.next; after = x.after }
-
-    goes_on : (q : Reading (List Event)) → Fair refuses_to_last_card q → (cards_of deal k.strain opening q).refusal ≡ 0
-        → answer (cards_of deal k.strain opening q) ≡ reached_of (rest q)
-    goes_on (refused n place) f o = absurd (not_0 refl f o)
-    goes_on (found g next) f o = rw (← passed, ← trumped, ← led, ek ∙ ap contract_of told.position)
-
-    pub cards-read : c.refusal ≡ 0 → answer c ≡ reached_of (after_calls board table deal h bytes at)
-    cards-read e = rw (whole, ec) (goes_on (cards_by out k.strain opening deal bytes at) fair (rw ec at e))
+  -- the answer with the position that the cards led to
+  pub cards-read : {x : Read Table} → given x ≡ cards_of deal k.strain opening cards
+      → given (record { value = record { board = board; table = table; out = out; contract = k; after = x.value }; next = x.next })
+      ≡ reached_of (after_calls board table deal h bytes at)
+  cards-read {x} e =
+      let f = told-found (position_of deal k.strain opening) cards e in
+      sym (ap reached_of (whole ∙ ap rest f.1) ∙ rw (← passed, ← trumped, ← led, ← told.position, ← ek, ← f.2))

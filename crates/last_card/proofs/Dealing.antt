@@ -16,7 +16,8 @@ use Rattle.laws.proofs.Tests.{by_test}
 use Rattle.laws.proofs.Readings.{read_is, read_short}
 use Rattle.deal.specs.Hands.{words_of, not_thirteen_from}
 use Rattle.deal.proofs.Thirteen.{by_hands}
-use Rattle.last_card.specs.Sections.{row_at, fours_of, no_deal, deal_of}
+use Rattle.last_card.specs.Sections.{row_at, fours_of, deal_of}
+use Rattle.laws.specs.Refusals.{refused_at, given, record_ends, not_thirteen}
 
 -- ---- a holder: two bits of its byte
 two-bits : (b m : ℕ) → m < 4 → b / 2 ^ (7 - 2 * m) % 2 * 2 + b / 2 ^ (6 - 2 * m) % 2 ≡ b / 2 ^ (6 - 2 * m) % 4
@@ -88,7 +89,7 @@ module _ (bytes : List ℕ) where
       (λ (q : ltb (length bytes) 2 ≡ true). none-there (ltb-true (length bytes) 2 q))
       (λ (q : ltb (length bytes) 2 ≡ false). row-short bytes 2 52 16 (omega (arith, ltb-false (length bytes) 2 q)) (omega arith))
 
-  pub deal-short : length bytes < 15 → no_deal 2 0 ≡ deal_of (read_deal bytes 16)
+  pub deal-short : length bytes < 15 → refused_at record_ends 0 ≡ deal_of (read_deal bytes 16)
   unfolding read_deal
   deal-short h = rw (row_missing h)
 
@@ -97,10 +98,10 @@ module _ (bytes : List ℕ) where
     es : seat ≡ seat_without_thirteen row
     es = eq ∙ ap (not_thirteen_from 0) eh ∙ by_hands row
 
-    pub deal-uneven : (seat ≡ 4 → ⊥) → no_deal 4 seat ≡ deal_of (read_deal bytes 16)
+    pub deal-uneven : (seat ≡ 4 → ⊥) → refused_at not_thirteen seat ≡ deal_of (read_deal bytes 16)
     unfolding read_deal refuse
     deal-uneven n = rw (row_reads bytes 2 52 16 (omega arith), ← er, ← es, ne_eqb seat 4 n)
 
-    pub deal-read : seat ≡ 4 → record { refusal = 0; holders = row; hands = hands } ≡ deal_of (read_deal bytes 16)
+    pub deal-read : seat ≡ 4 → given (record { holders = row; hands = hands }) ≡ deal_of (read_deal bytes 16)
     unfolding read_deal refuse
     deal-read e = rw (row_reads bytes 2 52 16 (omega arith), ← er, ← es, eq-eqb seat 4 e, ← eh)

@@ -1,12 +1,12 @@
 -- The loop over cards with codes among them: what the reading comes to from a turn on is what it comes to in all. Assumes nothing.
 use Prim.Native.Nat.{ℕ, zero, suc, ◌≤◌, ◌<◌, ◌+◌, ◌-◌}
 use native.Mathlib.Omega.{arith}
-use mathlib.Core.Path.{◌≡◌, refl, sym, ap, ◌∙◌, subst}
-use mathlib.Core.Bool.{true, false, not}
+use mathlib.Core.Path.{◌≡◌, refl, sym, ap, ◌∙◌}
+use mathlib.Core.Bool.{true, false}
 use mathlib.Core.List.{List, ◌∷◌}
 use borrow.Author.Tests.{eq-eqb, ne_eqb, leb-true, leb-false}
 use lib.Dec.{eqb, leb}
-use Rattle.laws.specs.Refusals.{accepted, refuses_to_last_card, too_many_codes}
+use Rattle.laws.specs.Refusals.{Placed, refused_at, given, too_many_codes}
 use Rattle.laws.specs.Law44.{cards_played}
 use Rattle.laws.specs.Events.{Event, played, begins_code, cards_of, codes_of}
 use Rattle.laws.specs.CardRefusal.{card_refusal}
@@ -16,24 +16,24 @@ use Rattle.laws.specs.Reading.{Reading, Reading.refused, Reading.found, onward, 
 use Rattle.laws.specs.Plays.{play_place, refuse_by, read_code, read_plays}
 use Rattle.laws.proofs.Tests.{by_test}
 use Rattle.laws.proofs.Readings.{first_test}
-use Rattle.laws.proofs.Numbered.{Fair, at_place, fair_test, not_0, fair_code}
 use Rattle.laws.proofs.CodesRead.{code_turn, code_found}
-use Rattle.play.specs.Position.{verdict_of, verdict_number}
+use Rattle.play.specs.Position.{refusal_of}
 use Rattle.position.specs.declared.table.Table.{Table}
 use Rattle.penalty.specs.Position.{after_card}
 use Rattle.position.specs.Table.{after_play}
 use Rattle.position.specs.History.{position_of}
 use Rattle.position.proofs.Refusing.{card_law}
-use Rattle.last_card.specs.declared.plays.Cards.{Cards}
+use Rattle.last_card.specs.declared.reading.Read.{Read}
 use Rattle.position.specs.History.{OfEvents}
-use Rattle.last_card.specs.Sections.{no_cards, code_by, plays_by, cards_of as told}
+use Rattle.last_card.specs.Sections.{code_by, plays_by, cards_of as told}
+use Rattle.last_card.proofs.Told.{told-refused, told-found}
 
 -- ---- one turn of the reading, with a card to come
 module _ (deal : List ℕ) (trump opening : ℕ) (bytes : List ℕ) (n : ℕ) (e : List Event) (here : ℕ) where
   abbrev plays : ℕ → ℕ → List Event → ℕ → Reading (List Event)
   plays m left d at = read_plays trump opening deal m left d bytes at
 
-  pub turn_short : (left : ℕ) → read 6 bytes here ≡ refused 2 0 → plays (suc n) left e here ≡ refused 2 0
+  pub turn_short : (left : ℕ) {m place : ℕ} → read 6 bytes here ≡ refused m place → plays (suc n) left e here ≡ refused m place
   unfolding read_plays
   turn_short zero q = rw q
   turn_short (suc left) q = rw q
@@ -59,7 +59,7 @@ module _ (deal : List ℕ) (trump opening : ℕ) (bytes : List ℕ) (count : ℕ
     next-is : count - play_place e ≡ suc (count - suc (play_place e))
     next-is = omega arith
 
-    from-short : read 6 bytes here ≡ refused 2 0 → from e here ≡ refused 2 0
+    from-short : {m at : ℕ} → read 6 bytes here ≡ refused m at → from e here ≡ refused m at
     unfolding plays_by
     from-short q = rw next-is (turn_short deal trump opening bytes _ e here (most_codes - codes_of e) q)
 
@@ -111,90 +111,72 @@ pub record Turned (deal : List ℕ) (trump opening : ℕ) (bytes : List ℕ) (co
   pub same : plays_by trump opening deal count events bytes here ≡ plays_by trump opening deal count first bytes at
 
 module _ (deal : List ℕ) (trump opening : ℕ) (bytes : List ℕ) (count : ℕ) (first : List Event) (at : ℕ) where
-  abbrev whole : Cards
+  abbrev whole : Placed (Read Table)
   whole = told deal trump opening (plays_by trump opening deal count first bytes at)
 
   pub turns_begin : (t : Table) (place : ℕ) → OfEvents deal trump opening first t place → Turned deal trump opening bytes count first at t at place
   turns_begin t place o = record { events = first; of_events = o; same = refl }
 
   module _ {t : Table} {here i : ℕ} (r : Turned deal trump opening bytes count first at t here i) where
-    pub turns_end : count ≤ i → record { refusal = 0; next = here; after = t } ≡ whole
+    pub turns_end : count ≤ i → given (record { value = t; next = here }) ≡ whole
     unfolding plays_by read_plays
     turns_end h =
         let none : count - play_place r.events ≡ 0 = omega (arith, r.of_events.many) in
-        ap (λ (x : Table). record { refusal = 0; next = here; after = x }) r.of_events.position
+        ap (λ (x : Table). given (record { value = x; next = here })) r.of_events.position
         ∙ ap (told deal trump opening) (rw none at r.same)
 
     module _ (few : count ≤ 52) (more : i < count) where
       place_lt : play_place r.events < count
       place_lt = omega (arith, r.of_events.many)
 
-      pub turns_short : read 6 bytes here ≡ refused 2 0 → no_cards 2 0 ≡ whole
+      pub turns_short : {m place : ℕ} → read 6 bytes here ≡ refused m place → refused_at m place ≡ whole
       turns_short q =
           ap (told deal trump opening) (sym (from-short deal trump opening bytes count r.events place_lt here q) ∙ r.same)
 
       module _ (c : ℕ) (q : read 6 bytes here ≡ found c (here + 6)) where
         -- a code
-        module _ (i-code : begins_code c ≡ true) (coded : Cards)
-            (law : coded ≡ told deal trump opening (code_by trump opening deal c r.events bytes (here + 6))) where
-          after_code : onward (code_by trump opening deal c r.events bytes (here + 6)) (λ after m. plays_by trump opening deal count after bytes m)
-              ≡ plays_by trump opening deal count first bytes at
+        module _ (i-code : begins_code c ≡ true) where
+          abbrev coded : Reading (List Event)
+          coded = code_by trump opening deal c r.events bytes (here + 6)
+
+          after_code : onward coded (λ after m. plays_by trump opening deal count after bytes m) ≡ plays_by trump opening deal count first bytes at
           after_code = sym (from_code deal trump opening bytes count r.events place_lt here c q i-code) ∙ r.same
 
-          stopped : (x : Reading (List Event))
-              → onward x (λ after m. plays_by trump opening deal count after bytes m) ≡ plays_by trump opening deal count first bytes at
-              → ((told deal trump opening x).refusal ≡ 0 → ⊥) → told deal trump opening x ≡ whole
-          stopped (refused n place) s z = ap (told deal trump opening) s
-          stopped (found after m) s z = absurd (z refl)
+          pub code_stops : {m place : ℕ} → refused_at m place ≡ told deal trump opening coded → refused_at m place ≡ whole
+          code_stops e = ap (told deal trump opening) (rw (told-refused (position_of deal trump opening) coded e) at after_code)
 
-          pub code_stops : (coded.refusal ≡ 0 → ⊥) → coded ≡ whole
-          code_stops z = law ∙ stopped (code_by trump opening deal c r.events bytes (here + 6)) after_code (rw law at z)
-
-          code_fair : Fair refuses_to_last_card (code_by trump opening deal c r.events bytes (here + 6))
+          pub code_goes : {x : Read Table} → given x ≡ told deal trump opening coded → Turned deal trump opening bytes count first at x.value x.next i
           unfolding code_by
-          code_fair =
-              fair_test refuses_to_last_card too_many_codes (play_place r.events) (codes_full r.events) bytes (here + 6) _
-              (λ t. at_place refl (omega (arith, place_lt)))
-              (fair_code trump opening deal c r.events bytes (here + 6) (omega (arith, place_lt)))
-
-          goes : (x : Reading (List Event)) → code_by trump opening deal c r.events bytes (here + 6) ≡ x
-              → onward x (λ after m. plays_by trump opening deal count after bytes m) ≡ plays_by trump opening deal count first bytes at
-              → (told deal trump opening x).refusal ≡ 0
-              → Turned deal trump opening bytes count first at (told deal trump opening x).after (told deal trump opening x).next i
-          unfolding code_by
-          goes (refused n place) f s z = absurd (not_0 refl (subst (Fair refuses_to_last_card) f code_fair) z)
-          goes (found after m) f s z =
-              let room = first_test too_many_codes (play_place r.events) (codes_full r.events) bytes (here + 6) _ f in
+          code_goes {x} e =
+              let f = told-found (position_of deal trump opening) coded e in
+              let room = first_test too_many_codes (play_place r.events) (codes_full r.events) bytes (here + 6) _ f.1 in
               let k = code_found trump opening deal c r.events bytes (here + 6) room.1 in
               let o = r.of_events in
               record {
-                events = after;
+                events = f.0;
                 of_events = record {
                   deal_of_lem = o.deal_of_lem;
                   seat = o.seat;
-                  position = refl;
+                  position = f.2;
                   none_refused = k.stands room.0 o.none_refused;
                   many = o.many ∙ sym (ap cards_played k.cards);
                 };
-                same = s;
+                same = rw f.1 at after_code;
               }
 
-          pub code_goes : coded.refusal ≡ 0 → Turned deal trump opening bytes count first at coded.after coded.next i
-          code_goes z = rw law (goes (code_by trump opening deal c r.events bytes (here + 6)) refl after_code (rw law at z))
-
         -- a card
-        module _ (no_code : begins_code c ≡ false) (f : ℕ) (ef : f ≡ verdict_number (verdict_of t.play c)) where
+        module _ (no_code : begins_code c ≡ false) (f : ℕ) (ef : f ≡ refusal_of t.play c) where
           card_is : f ≡ card_refusal trump opening deal (cards_of r.events) c
           card_is =
               let o = r.of_events in
-              ef ∙ ap (λ (x : Table). verdict_number (verdict_of x.play c)) o.position
+              ef ∙ ap (λ (x : Table). refusal_of x.play c) o.position
               ∙ card_law deal trump opening o.deal_of_lem.places o.deal_of_lem.thirteen o.seat r.events o.none_refused c
 
           after-card : onward (refuse_by f r.events bytes (here + 6)) (λ u m. plays_by trump opening deal count (played c ∷ r.events) bytes m)
               ≡ plays_by trump opening deal count first bytes at
           after-card = rw card_is (sym (from-card deal trump opening bytes count r.events place_lt here c q no_code) ∙ r.same)
 
-          pub card_stops : (f ≡ 0 → ⊥) → no_cards f i ≡ whole
+          pub card_stops : (f ≡ 0 → ⊥) → refused_at f i ≡ whole
           unfolding refuse
           card_stops z = rw (o_many) (ap (told deal trump opening) (rw (ne_eqb f 0 z) at after-card))
             where

@@ -9,7 +9,7 @@ use Rattle.laws.specs.Refusals.{record_ends}
 use Rattle.laws.proofs.Bits.{number-add, number-within}
 use Rattle.laws.proofs.Bytes.{number_byte}
 use Rattle.laws.proofs.Readings.{read_is, read_short}
-use Rattle.field.proofs.ThreeBytes.{Byte}
+use Rattle.field.specs.Field.{Byte}
 
 -- two bytes as one number
 number-two : (bytes : List ℕ) (q : ℕ) {a b : ℕ} → Byte bytes q a → Byte bytes (q + 1) b → a * 256 + b ≡ number_at bytes (8 * q) 16

@@ -1,40 +1,43 @@
--- What the structs of the code say of a section's reading: a refusal by its number, or 0 and what was read, with positions for histories.
+-- What the code says of a section's reading: a refusal with its place, or what was read, with positions for histories.
 -- Assumes nothing.
-use Rattle.std.specs.Prelude.{ℕ, zero, suc, ◌+◌, ◌-◌, ◌/◌, Bool, ◌&&◌, ◌||◌, List, [], ◌∷◌, ◌++◌, eqb, ltb, get_or, replicate, if◌then◌else◌}
-use Rattle.laws.specs.Refusals.{refusal_number, too_many_cards, too_many_codes}
-use Rattle.laws.specs.Events.{Event, codes_of}
+use Rattle.std.specs.Prelude.{ℕ, zero, suc, ◌+◌, ◌-◌, ◌/◌, ◌≡◌, ◌≤◌, Bool, true, false, ◌&&◌, ◌||◌, None}
+use Rattle.std.specs.Prelude.{List, [], ◌∷◌, ◌++◌, ltb, get_or, if◌then◌else◌}
+use Rattle.std.specs.Result.{is_ok, result_err}
+use Rattle.std.specs.Option.{option_map}
+use Rattle.laws.specs.Refusals.{Placed, refused_at, given, too_many_cards, too_many_codes}
+use Rattle.laws.specs.Refused.{number, placed_in}
+use Rattle.laws.specs.declared.Refusal.{Refusal}
+use Rattle.laws.specs.Events.{Event, begins_code, codes_of}
 use Rattle.laws.specs.CodeRefusal.{most_codes, codes_full}
 use Rattle.laws.specs.Plays.{play_place, read_code, read_plays}
 use Rattle.laws.specs.Reading.{Reading, Reading.refused, Reading.found, Reader, ◌>>=◌, ◌>>◌, number_at, read, refuse}
 use Rattle.laws.specs.Judge as Law
-use Rattle.auction.specs.Position as Auction
+use Rattle.auction.specs.declared.Auction.{Auction}
+use Rattle.auction.specs.Position as Calls
+use Rattle.deal.specs.declared.given.Dealt.{Dealt}
 use Rattle.deal.specs.Hands.{words_of}
 use Rattle.play.specs.declared.Play.{Play}
-use Rattle.play.specs.Position.{start_of, step, verdict_of, verdict_number}
+use Rattle.play.specs.Position.{step, verdict_of}
 use Rattle.position.specs.declared.table.Table.{Table}
 use Rattle.position.specs.Table.{table_with}
-use Rattle.position.specs.History.{position_of}
+use Rattle.position.specs.History.{OfEvents, position_of}
+use Rattle.last_card.specs.declared.reading.Read.{Read}
 use Rattle.last_card.specs.declared.reading.Heading.{Heading}
-use Rattle.last_card.specs.declared.reading.Calls.{Calls}
-use Rattle.last_card.specs.declared.reading.Deal.{Deal}
-use Rattle.last_card.specs.declared.plays.Cards.{Cards}
 use Rattle.last_card.specs.declared.runs.Run.{Run}
+use Rattle.last_card.specs.declared.runs.NotPlayed.{NotPlayed}
+
+-- what is answered where a value is read, with the bit behind it
+abbrev pub placed_read : {A B : Type 0} → (A → B) → Reading A → Placed (Read B)
+placed_read f (refused n place) = refused_at n place
+placed_read f (found a at) = given (record { value = f a; next = at })
 
 -- ---- board and table
-abbrev pub no_heading : ℕ → ℕ → Heading
-no_heading n place = record { refusal = refusal_number n place; board = 0; table = 0 }
-
-abbrev pub heading_of : Reading Law.Heading → Heading
-heading_of (refused n place) = no_heading n place
-heading_of (found top at) = record { refusal = 0; board = top.board; table = top.table }
+abbrev pub heading_of : Law.Heading → Heading
+heading_of top = record { board = top.board; table = top.table }
 
 -- ---- calls
-abbrev pub no_calls : ℕ → ℕ → Calls
-no_calls n place = record { refusal = refusal_number n place; next = 0; after = Auction.position_of 0 [] }
-
-abbrev pub calls_of : ℕ → Reading (List ℕ) → Calls
-calls_of dealer (refused n place) = no_calls n place
-calls_of dealer (found h at) = record { refusal = 0; next = at; after = Auction.position_of dealer h }
+abbrev pub calls_of : ℕ → Reading (List ℕ) → Placed (Read Auction)
+calls_of dealer r = placed_read (Calls.position_of dealer) r
 
 -- ---- deal
 -- n fields of w bits from a bit on
@@ -47,24 +50,16 @@ unfoldable pub fours_of : List ℕ → ℕ → List ℕ
 fours_of bytes zero = []
 fours_of bytes (suc n) = fours_of bytes n ++ (get_or bytes (2 + n / 4) 0 ∷ [])
 
-abbrev pub no_deal : ℕ → ℕ → Deal
-no_deal n place = record { refusal = refusal_number n place; holders = replicate 52 0; hands = replicate 4 0 }
-
-abbrev pub deal_of : Reading (List ℕ) → Deal
-deal_of (refused n place) = no_deal n place
-deal_of (found deal at) = record { refusal = 0; holders = deal; hands = words_of deal }
+abbrev pub deal_of : Reading (List ℕ) → Placed Dealt
+deal_of r = placed_in (λ (deal : List ℕ). record { holders = deal; hands = words_of deal }) r
 
 -- ---- cards, and the codes before them
--- what stands for a position where there is none
-abbrev pub no_table : Table
-no_table = table_with (start_of (replicate 52 0) (replicate 4 0) 0 0) 0
+abbrev pub cards_of : List ℕ → ℕ → ℕ → Reading (List Event) → Placed (Read Table)
+cards_of deal trump opening r = placed_read (position_of deal trump opening) r
 
-abbrev pub no_cards : ℕ → ℕ → Cards
-no_cards n place = record { refusal = refusal_number n place; next = 0; after = no_table }
-
-abbrev pub cards_of : List ℕ → ℕ → ℕ → Reading (List Event) → Cards
-cards_of deal trump opening (refused n place) = no_cards n place
-cards_of deal trump opening (found e at) = record { refusal = 0; next = at; after = position_of deal trump opening e }
+-- a code was taken before a card: so many codes are given, and the bits of one at most are read
+abbrev pub CodeTaken : Table → ℕ → ℕ → Read Table → Type 0
+CodeTaken t at codes r = (r.value.penalty.codes ≡ codes) × (at ≤ r.next) × (r.next ≤ at + 7)
 
 -- what follows a code, where there is room for it
 unfoldable pub code_by : ℕ → ℕ → List ℕ → ℕ → List Event → Reader (List Event)
@@ -78,16 +73,21 @@ plays_by trump opening deal count e = read_plays trump opening deal (count - pla
 
 -- a run of n cards from a bit and a place on: it stops at the first that is refused
 unfoldable pub run_of : List ℕ → Play → ℕ → ℕ → ℕ → Run
-run_of bytes p here i zero = record { refusal = 0; code = 0; place = i; next = here; play = p }
+run_of bytes p here i zero = record { play = p; place = i; next = here; stopped = None }
 run_of bytes p here i (suc n) =
-    if eqb (verdict_number (verdict_of p (number_at bytes here 6))) 0 then run_of bytes (step p (number_at bytes here 6)) (here + 6) (i + 1) n
+    if is_ok (verdict_of p (number_at bytes here 6)) then run_of bytes (step p (number_at bytes here 6)) (here + 6) (i + 1) n
     else record {
-      refusal = verdict_number (verdict_of p (number_at bytes here 6));
-      code = number_at bytes here 6;
+      play = p;
       place = i;
       next = here;
-      play = p;
+      stopped = option_map (λ (r : Refusal). record { code = number_at bytes here 6; refusal = r }) (result_err (verdict_of p (number_at bytes here 6)));
     }
+
+-- the cards from where a run stopped on: with the codes among them where one stands there, and else the refusal of what stands there
+pub record Stopping (bytes : List ℕ) (run : Run) (at : NotPlayed) (opening count : ℕ) (answer : Placed (Read Table)) : Type 0 where
+  pub no_code : begins_code at.code ≡ false → answer ≡ refused_at (number at.refusal) run.place
+  pub code : begins_code at.code ≡ true → (deal : List ℕ) (trump opens : ℕ) (e : List Event) → OfEvents deal trump opens e (table_with run.play opening) run.place
+      → answer ≡ cards_of deal trump opens (plays_by trump opens deal count e bytes run.next)
 
 -- the Laws' section by what it takes of the calls: whether they passed the board out, the trump and the opening leader
 unfoldable pub cards_by : Bool → ℕ → ℕ → List ℕ → Reader (List Event)

@@ -1,63 +1,77 @@
 // The cards, read in order and judged each on those before it, as the Laws' section of that name is; from the first code on, with the codes among them.
-ghost use Rattle.std.specs.Prelude.{◌≡◌, [], ◌<◌, ◌≤◌, if◌then◌else◌};
+ghost use Rattle.std.specs.Prelude.{◌≡◌, [], ◌+◌, ◌*◌, ◌<◌, ◌≤◌, if◌then◌else◌};
 ghost use Rattle.laws.specs.CodeRefusal.{most_codes};
 ghost use Rattle.laws.specs.Plays.{read_plays};
+ghost use Rattle.laws.specs.Refused.{placed_of};
 ghost use Rattle.deal.specs.Hands.{words_of};
 ghost use Rattle.position.specs.History.{ThirteenEach};
-ghost use Rattle.last_card.specs.Sections.{cards_of, cards_by};
+ghost use Rattle.last_card.specs.Sections.{cards_of, cards_by, Stopping};
 
 use crate::codes::whole_codes;
-use crate::plays::{Cards, no_cards, read_plays};
-use crate::reading::narrow;
-use crate::runs::read_run;
-use field::Field;
-use laws::{RECORD_ENDS, TOO_MANY_CARDS};
+use crate::plays::read_plays;
+use crate::reading::Read;
+use crate::runs::{NotPlayed, Run, read_run};
+use deal::Dealt;
+use laws::{Refusal, Refused};
 use penalty::begins_code;
 use play::Play;
 use position::Table;
 
-// So many cards from a bit on, each judged on those before it; `hands` are those of the deal.
+// The cards from where the run stopped on, up to so many.
+fn read_stopped(
+    bytes: &[u8],
+    run: Run,
+    at: NotPlayed,
+    opening: u8,
+    count: u16,
+) -> Result<Read<Table>, Refused>
+    requires to { run.next < 32768 }
+    requires place { run.place ≤ count }
+    requires few { count ≤ 52 }
+    ensures { Stopping bytes.now run at opening count (placed_of result) }
+{
+    if begins_code(at.code) {
+        let table = Table::after_cards(run.play, opening);
+        return read_plays(bytes, table, run.next, run.place, count);
+    }
+    Err(at.refusal.at(run.place))
+}
+
+// So many cards from a bit on, each judged on those before it.
 fn read_each_card(
     bytes: &[u8],
-    deal: [u8; 52],
-    hands: [u64; 4],
+    dealt: Dealt,
     trump: u8,
     opening: u8,
     at: usize,
-    count: u8,
-) -> Cards
-    requires { (8 ≤ at) × (at < 32000) × (count ≤ 52) × (hands ≡ words_of deal) × ThirteenEach deal × (opening < 4) }
-    ensures { result ≡ cards_of deal trump opening (read_plays trump opening deal count most_codes [] bytes.now at) }
+    count: u16,
+) -> Result<Read<Table>, Refused>
+    requires from { 8 ≤ at }
+    requires to { at < 32000 }
+    requires few { count ≤ 52 }
+    requires hands { dealt.hands ≡ words_of dealt.holders }
+    requires thirteen { ThirteenEach dealt.holders }
+    requires seat { opening < 4 }
+    ensures { placed_of result
+        ≡ cards_of dealt.holders trump opening (read_plays trump opening dealt.holders count most_codes [] bytes.now at) }
 {
-    let whole = whole_codes(bytes, at, count as u16);
-    let first = Play::new(deal, hands, trump, opening);
-    let run = read_run(bytes, first, at, 0, whole);
-    let p = run.play;
-    if run.refusal != 0 {
-        if begins_code(run.code) {
-            return read_plays(
-                bytes,
-                Table::after_cards(p, opening),
-                run.next,
-                run.place,
-                count,
-            );
-        }
-        return no_cards(run.refusal, run.place as u16);
+    let whole = whole_codes(bytes, at, count);
+    let first = Play::new(dealt.holders, dealt.hands, trump, opening);
+    let run = read_run(bytes, first, at, whole);
+    if let Some(stop) = run.stopped {
+        return read_stopped(bytes, run, stop, opening, count);
     }
-    if whole < count as u64 {
-        return no_cards(RECORD_ENDS, 0);
+    if whole < count {
+        return Err(Refusal::RecordEnds.at(0));
     }
-    let after = Table::after_cards(p, opening);
-    Cards {
-        refusal: 0,
+    Ok(Read {
+        value: Table::after_cards(run.play, opening),
         next: run.next,
-        after,
-    }
+    })
 }
 
 // The most cards that may be played: none on a board that was passed out.
-fn most_cards(out: bool) -> u8
+fn most_cards(out: bool) -> u16
     ensures { result ≡ (if out then 0 else 52) }
 {
     if out { 0 } else { 52 }
@@ -66,22 +80,23 @@ fn most_cards(out: bool) -> u8
 // The cards, from their count on; `out` says that the board was passed out.
 pub(crate) fn read_cards(
     bytes: &[u8],
-    deal: [u8; 52],
-    hands: [u64; 4],
+    dealt: Dealt,
     out: bool,
     trump: u8,
     opening: u8,
     at: usize,
-) -> Cards
-    requires { (8 ≤ at) × (at < 16384) × (hands ≡ words_of deal) × ThirteenEach deal × (opening < 4) }
-    ensures { result ≡ cards_of deal trump opening (cards_by out trump opening deal bytes.now at) }
+) -> Result<Read<Table>, Refused>
+    requires from { 8 ≤ at }
+    requires to { at < 16384 }
+    requires hands { dealt.hands ≡ words_of dealt.holders }
+    requires thirteen { ThirteenEach dealt.holders }
+    requires seat { opening < 4 }
+    ensures { placed_of result
+        ≡ cards_of dealt.holders trump opening (cards_by out trump opening dealt.holders bytes.now at) }
 {
-    let Field::Value(count) = field::read(bytes, at, 6) else {
-        return no_cards(RECORD_ENDS, 0);
-    };
-    let n = narrow(count);
-    if most_cards(out) < n {
-        return no_cards(TOO_MANY_CARDS, n as u16);
+    let count = field::read(bytes, at, 6)?;
+    if most_cards(out) < count {
+        return Err(Refusal::TooManyCards.at(count));
     }
-    read_each_card(bytes, deal, hands, trump, opening, at + 6, n)
+    read_each_card(bytes, dealt, trump, opening, at + 6, count)
 }

@@ -9,3 +9,4 @@ mod reading;
 mod runs;
 
 pub use reached::{Reached, read_to_last_card};
+pub use reading::Read;

@@ -3,144 +3,82 @@ ghost use Rattle.std.specs.Prelude.{◌≡◌, [], ◌+◌, ◌*◌, ◌<◌, �
 ghost use Rattle.laws.specs.CallRefusal.{call_refusal, call_place};
 ghost use Rattle.laws.specs.Reading.{read_each};
 ghost use Rattle.laws.specs.Judge.{read_heading, read_deal, read_calls};
-ghost use Rattle.last_card.specs.Sections.{no_heading, heading_of, no_calls, calls_of, no_deal, deal_of, row_at, fours_of};
+ghost use Rattle.laws.specs.Refused.{placed_of, placed_in};
+ghost use Rattle.last_card.specs.Sections.{heading_of, calls_of, deal_of, row_at, fours_of};
 
 use crate::codes::{code_ending, whole_codes};
 use auction::Auction;
-use field::Field;
-use laws::{AUCTION_UNFINISHED, NO_BOARD_OR_TABLE, NOT_THIRTEEN, RECORD_ENDS, refusal_number};
+use deal::Dealt;
+use laws::{Refusal, Refused};
 
-// Board and table; or the number of their refusal, 0 where there is none.
+// What was read, and the bit behind it.
 #[derive(Clone, Copy)]
+pub struct Read<T> {
+    pub value: T,
+    pub next: usize,
+}
+
+// Board and table.
+#[derive(Clone, Copy, Debug, PartialEq, Eq)]
 pub struct Heading {
-    pub refusal: u32,
     pub board: u8,
     pub table: u16,
 }
 
-// The position after the calls and the bit behind them; or the number of their refusal, 0 where there is none.
-#[derive(Clone, Copy)]
-pub struct Calls {
-    pub refusal: u32,
-    pub next: usize,
-    pub after: Auction,
-}
-
-// The holders of the cards and the hands of the four seats; or the number of the refusal, 0 where there is none.
-#[derive(Clone, Copy)]
-pub struct Deal {
-    pub refusal: u32,
-    pub holders: [u8; 52],
-    pub hands: [u64; 4],
-}
-
-pub(crate) fn narrow(x: u16) -> u8
-    requires { x < 256 }
-    ensures { result ≡ x }
-{
-    x as u8
-}
-
-fn no_heading(refusal: u8, place: u16) -> Heading
-    ensures { result ≡ no_heading refusal place }
-{
-    Heading {
-        refusal: refusal_number(refusal, place),
-        board: 0,
-        table: 0,
-    }
-}
-
 // Board and table, from the first bit on.
-pub(crate) fn read_heading(bytes: &[u8]) -> Heading
-    ensures { result ≡ heading_of (read_heading bytes.now 0) }
+pub(crate) fn read_heading(bytes: &[u8]) -> Result<Heading, Refused>
+    ensures { placed_of result ≡ placed_in heading_of (read_heading bytes.now 0) }
 {
-    let Field::Value(board) = field::read(bytes, 0, 7) else {
-        return no_heading(RECORD_ENDS, 0);
-    };
-    let Field::Value(table) = field::read(bytes, 7, 9) else {
-        return no_heading(RECORD_ENDS, 0);
-    };
+    let board = field::read(bytes, 0, 7)?;
+    let table = field::read(bytes, 7, 9)?;
     if board == 0 {
-        return no_heading(NO_BOARD_OR_TABLE, 0);
+        return Err(Refusal::NoBoardOrTable.at(0));
     }
     if table == 0 {
-        return no_heading(NO_BOARD_OR_TABLE, 1);
+        return Err(Refusal::NoBoardOrTable.at(1));
     }
-    Heading {
-        refusal: 0,
-        board: narrow(board),
+    Ok(Heading {
+        board: board as u8,
         table,
-    }
-}
-
-fn no_calls(refusal: u8, place: u16) -> Calls
-    ensures { result ≡ no_calls refusal place }
-{
-    let after = Auction::new(0);
-    Calls {
-        refusal: refusal_number(refusal, place),
-        next: 0,
-        after,
-    }
+    })
 }
 
 // So many calls from a bit on, each judged on those before it.
-fn read_each_call(bytes: &[u8], dealer: u8, at: usize, count: u16) -> Calls
-    requires { (8 ≤ at) × (at < 65536) × (count < 512) }
-    ensures { result ≡ calls_of dealer (read_each 6 (call_place dealer) (call_refusal dealer) count [] bytes.now at) }
+fn read_each_call(bytes: &[u8], dealer: u8, at: usize, count: u16) -> Result<Read<Auction>, Refused>
+    requires from { 8 ≤ at }
+    requires to { at < 65536 }
+    requires count { count < 512 }
+    ensures { placed_of result ≡ calls_of dealer (read_each 6 (call_place dealer) (call_refusal dealer) count [] bytes.now at) }
 {
     let whole = whole_codes(bytes, at, count);
-    let mut a = Auction::new(dealer);
-    let mut here = at;
-    let mut i: u64 = 0;
-    while i < whole {
-        let c = code_ending(bytes, here + 5);
-        let f = a.refusal(c);
-        if f != 0 {
-            return no_calls(f, auction::place_of(f, i as u16));
-        }
-        a = a.call(c);
-        here += 6;
-        i += 1;
+    let mut auction = Auction::new(dealer);
+    let mut next = at;
+    for i in 0..whole {
+        auction = auction.take(code_ending(bytes, next + 5), i)?;
+        next += 6;
     }
-    if whole < count as u64 {
-        return no_calls(RECORD_ENDS, 0);
+    if whole < count {
+        return Err(Refusal::RecordEnds.at(0));
     }
-    Calls {
-        refusal: 0,
-        next: here,
-        after: a,
-    }
+    Ok(Read {
+        value: auction,
+        next,
+    })
 }
 
 // The calls, from their count on.
-pub(crate) fn read_calls(bytes: &[u8], dealer: u8, at: usize) -> Calls
-    requires { (8 ≤ at) × (at < 32768) }
-    ensures { result ≡ calls_of dealer (read_calls dealer bytes.now at) }
+pub(crate) fn read_calls(bytes: &[u8], dealer: u8, at: usize) -> Result<Read<Auction>, Refused>
+    requires from { 8 ≤ at }
+    requires to { at < 32768 }
+    ensures { placed_of result ≡ calls_of dealer (read_calls dealer bytes.now at) }
 {
-    let Field::Value(count) = field::read(bytes, at, 9) else {
-        return no_calls(RECORD_ENDS, 0);
-    };
-    let called = read_each_call(bytes, dealer, at + 9, count);
-    if called.refusal != 0 {
-        return called;
-    }
-    let after = called.after;
+    let count = field::read(bytes, at, 9)?;
+    let calls = read_each_call(bytes, dealer, at + 9, count)?;
+    let after = calls.value;
     if !after.is_over() {
-        return no_calls(AUCTION_UNFINISHED, count);
+        return Err(Refusal::AuctionUnfinished.at(count));
     }
-    called
-}
-
-fn no_deal(refusal: u8, place: u16) -> Deal
-    ensures { result ≡ no_deal refusal place }
-{
-    Deal {
-        refusal: refusal_number(refusal, place),
-        holders: [0u8; 52],
-        hands: [0u64; 4],
-    }
+    Ok(calls)
 }
 
 // For each card the byte that has its holder; four cards share one, from the third byte on.
@@ -149,10 +87,8 @@ fn bytes_of_cards(bytes: &[u8]) -> [u8; 52]
     ensures { result ≡ fours_of bytes.now 52 }
 {
     let mut row = [0u8; 52];
-    let mut i: usize = 0;
-    while i < 52 {
+    for i in 0..52 {
         row[i] = bytes[2 + i / 4];
-        i += 1;
     }
     row
 }
@@ -164,31 +100,26 @@ fn holders(bytes: &[u8]) -> [u8; 52]
 {
     let fours = bytes_of_cards(bytes);
     let mut row = [0u8; 52];
-    let mut i: usize = 0;
-    while i < 52 {
-        let behind = 6 - 2 * (i % 4);
-        row[i] = (fours[i] >> behind) % 4;
-        i += 1;
+    for i in 0..52 {
+        row[i] = (fours[i] >> (6 - 2 * (i % 4))) % 4;
     }
     row
 }
 
 // The deal, which stands behind board and table.
-pub(crate) fn read_deal(bytes: &[u8]) -> Deal
-    ensures { result ≡ deal_of (read_deal bytes.now 16) }
+pub(crate) fn read_deal(bytes: &[u8]) -> Result<Dealt, Refused>
+    ensures { placed_of result ≡ deal_of (read_deal bytes.now 16) }
 {
     if bytes.len() < 15 {
-        return no_deal(RECORD_ENDS, 0);
+        return Err(Refusal::RecordEnds.at(0));
     }
     let row = holders(bytes);
     let hands = deal::hands(row);
-    let seat = deal::seat_without_thirteen(hands);
-    if seat != 4 {
-        return no_deal(NOT_THIRTEEN, seat as u16);
-    }
-    Deal {
-        refusal: 0,
-        holders: row,
-        hands,
+    match deal::seat_without_thirteen(hands) {
+        Some(seat) => Err(Refusal::NotThirteen.at(seat as u16)),
+        None => Ok(Dealt {
+            holders: row,
+            hands,
+        }),
     }
 }

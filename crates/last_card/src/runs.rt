@@ -3,47 +3,54 @@ ghost use Rattle.std.specs.Prelude.{◌≡◌, ◌-◌, ◌*◌, ◌<◌, ◌≤
 ghost use Rattle.last_card.specs.Sections.{run_of};
 
 use crate::codes::code_ending;
+use laws::Refusal;
 use play::Play;
 
-// The position after the run, the bit and the place behind it; and where it stopped, the code there and the number that it is refused with as a card, else 0.
-#[derive(Clone, Copy)]
-pub struct Run {
-    pub refusal: u8,
+// A code, and what it is refused with as a card.
+#[derive(Clone, Copy, Debug, PartialEq, Eq)]
+pub struct NotPlayed {
     pub code: u8,
-    pub place: u64,
-    pub next: usize,
-    pub play: Play,
+    pub refusal: Refusal,
 }
 
-// The run of the cards from a place on, up to another, all of which lie whole within the bytes.
-pub(crate) fn read_run(bytes: &[u8], first: Play, at: usize, place: u64, end: u64) -> Run
-    requires { (8 ≤ at) × (at < 65536) × (place ≤ end) × (end ≤ 52) × (6 * (end - place) ≤ 8 * length bytes.now - at) }
-    ensures { result ≡ run_of bytes.now first at place (end - place) }
+// The position after the run, the place and the bit behind it, and what it stopped at, where it did.
+#[derive(Clone, Copy, Debug, PartialEq, Eq)]
+pub struct Run {
+    pub play: Play,
+    pub place: u16,
+    pub next: usize,
+    pub stopped: Option<NotPlayed>,
+}
+
+// The run of so many cards from a bit on, all of which lie whole within the bytes.
+pub(crate) fn read_run(bytes: &[u8], first: Play, at: usize, count: u16) -> Run
+    requires from { 8 ≤ at }
+    requires to { at < 65536 }
+    requires few { count ≤ 52 }
+    requires whole { 6 * count ≤ 8 * length bytes.now - at }
+    ensures { result ≡ run_of bytes.now first at 0 count }
 {
-    let mut p = first;
-    let mut here = at;
-    let mut i = place;
-    while i < end {
-        let c = code_ending(bytes, here + 5);
-        let f = p.refusal(c);
-        if f != 0 {
-            return Run {
-                refusal: f,
-                code: c,
-                place: i,
-                next: here,
-                play: p,
-            };
+    let mut play = first;
+    let mut next = at;
+    for place in 0..count {
+        let code = code_ending(bytes, next + 5);
+        match play.take(code) {
+            Ok(after) => play = after,
+            Err(refusal) => {
+                return Run {
+                    play,
+                    place,
+                    next,
+                    stopped: Some(NotPlayed { code, refusal }),
+                };
+            }
         }
-        p = p.play(c);
-        here += 6;
-        i += 1;
+        next += 6;
     }
     Run {
-        refusal: 0,
-        code: 0,
-        place: i,
-        next: here,
-        play: p,
+        play,
+        place: count,
+        next,
+        stopped: None,
     }
 }

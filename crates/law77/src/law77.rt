@@ -3,8 +3,8 @@ ghost use Rattle.std.specs.Prelude.{◌≡◌, ◌+◌, ◌-◌, ◌*◌, ◌<�
 ghost use Rattle.laws.specs.Law77;
 ghost use Rattle.law77.specs.Scoring.{stake_of, made_points};
 
-// What a contract is played for.
-#[derive(Clone, Copy)]
+// What a contract is played for. Strain and doubling are numbers: the clauses of what is public here speak of every value of a field.
+#[derive(Clone, Copy, Debug, PartialEq, Eq)]
 pub struct Stake {
     pub level: u8,
     pub strain: u8,
@@ -21,20 +21,11 @@ fn by_vulnerability(s: Stake, not: u32, yes: u32) -> u32
 fn by_doubling(s: Stake, undoubled: u32, doubled: u32, redoubled: u32) -> u32
     ensures { result ≡ Law77.by_doubling (stake_of s) undoubled doubled redoubled }
 {
-    if s.doubling == 0 {
-        return undoubled;
+    match s.doubling {
+        0 => undoubled,
+        1 => doubled,
+        _ => redoubled,
     }
-    if s.doubling == 1 {
-        return doubled;
-    }
-    redoubled
-}
-
-// What is left of a, or 0.
-fn less(a: u8, b: u8) -> u32
-    ensures { result ≡ a - b }
-{
-    if a < b { 0 } else { (a - b) as u32 }
 }
 
 fn trick_value(strain: u8) -> u32
@@ -55,7 +46,8 @@ fn first_trick_value(strain: u8) -> u32
 pub fn trick_points(s: Stake) -> u32
     ensures { result ≡ Law77.trick_points (stake_of s) }
 {
-    let odd_tricks = first_trick_value(s.strain) + less(s.level, 1) * trick_value(s.strain);
+    let odd_tricks = first_trick_value(s.strain)
+        + s.level.saturating_sub(1) as u32 * trick_value(s.strain);
     odd_tricks * by_doubling(s, 1, 2, 4)
 }
 
@@ -91,10 +83,8 @@ pub fn undertricks(s: Stake, n: u32) -> u64
     ensures { result ≡ Law77.undertricks (stake_of s) n }
 {
     let mut points: u64 = 0;
-    let mut k: u32 = 0;
-    while k < n {
-        k += 1;
-        points += undertrick_value(s, k) as u64;
+    for k in 0..n {
+        points += undertrick_value(s, k + 1) as u64;
     }
     points
 }

@@ -1,4 +1,6 @@
 pub mod Tests
+pub mod RefusalNumbers
+pub mod Answered
 pub mod Scores
 pub mod Integers
 pub mod Counts
@@ -70,3 +72,4 @@ pub mod PbnPlace
 pub mod PbnRecord
 pub mod PbnSame
 pub mod PbnNumbers
+pub mod NamedBack

@@ -1,6 +1,7 @@
 pub mod Choice
 pub mod Padded
 pub mod Refusals
+pub mod Refused
 pub mod Fitting
 pub mod Cards
 pub mod Law2

@@ -12,17 +12,23 @@ use Rattle.laws.specs.Choice.{how_many}
 use Rattle.laws.specs.Refusals.{refused_at, given, placed}
 use Rattle.laws.specs.Law77.{valid_score}
 use Rattle.laws.specs.Law78.{same_score, occurrences, ew_matchpoints, matchpoints}
-use Rattle.laws.specs.Tally.{Result, given_refusal, asked}
+use Rattle.laws.specs.Tally.{Result, Refusal, given_refusal, asked}
 use Rattle.laws.proofs.Tests.{by_test}
 use Rattle.laws.proofs.TallyRules.{scores_on, given-allowed}
 use Rattle.laws.proofs.Comparisons.{lower, ns-counts, below_equal}
-use Rattle.tally.specs.declared.refusals.Held.{Held}
+use Rattle.std.specs.Prelude as Std
+use Rattle.laws.specs.Refused.{number}
+use Rattle.laws.specs.declared.Refused.{Refused}
+use Rattle.laws.proofs.RefusalNumbers.{number_not_none}
+use Rattle.tally.specs.declared.Size.{Size}
 use Rattle.tally.specs.declared.Entry.{Entry}
 use Rattle.matchpoints.specs.declared.points.Standing.{Standing}
 use Rattle.tally.specs.declared.Tally.{Tally}
 use Rattle.tally.specs.Entries.{score, entry, expand}
 use Rattle.tally.specs.Tallies.{entries_in, scores_in, results_in, well_formed}
-use Rattle.tally.specs.Steps.{held}
+use Rattle.tally.specs.Steps.{check_of, ruled, given_by}
+use Rattle.tally.proofs.Refusing.{given_law}
+use Rattle.tally.proofs.Checking.{checked, unchecked, size_results}
 use Rattle.tally.specs.Points.{matchpoints_of}
 use Rattle.matchpoints.specs.Points.{below_of, equal_of, standing_of}
 use Rattle.tally.proofs.Ordered.{in_entries, sum_of}
@@ -125,19 +131,38 @@ module _ (t : Tally) (s : ℤ) (w : well_formed t ≡ true) (v : valid_score s �
 
 -- ---- the answer to a result
 module _ (t : Tally) (r : Result) where
-  pub points_malformed : well_formed t ≡ false → refused_at 17 0 ≡ matchpoints_of t r
+  points-malformed : well_formed t ≡ false → refused_at 17 0 ≡ matchpoints_of t r
   unfolding matchpoints_of
-  points_malformed e = rw e
+  points-malformed e = rw e
 
-  module _ (w : well_formed t ≡ true) (q : Held) (e : q ≡ held (given_refusal (results_in t) r)) where
-    pub points-refused : (q.number ≡ 0 → ⊥) → refused_at q.number q.place ≡ matchpoints_of t r
+  pub points_malformed : (e : Refused) → Std.Err e ≡ check_of t → refused_at (number e.refusal) e.place ≡ matchpoints_of t r
+  points_malformed e q =
+      let p = unchecked t e q in
+      ap (λ (x : Refused). refused_at (number x.refusal) x.place) p.1 ∙ points-malformed p.0
+
+  module _ (x : Size) (ok : Std.Ok x ≡ check_of t) where
+    w : well_formed t ≡ true
+    w = (checked t x ok).0
+
+    abbrev by_deal : Refusal
+    by_deal = given_by t.deal x.results r.score r.deal
+
+    by-law : by_deal ≡ given_refusal (results_in t) r
+    by-law = given_law t.deal x.results r.score r.deal (scores_in t) (size_results t x (checked t x ok).1)
+
+    pub points-refused : (e : Refused) → ruled e ≡ by_deal → refused_at (number e.refusal) e.place ≡ matchpoints_of t r
     unfolding matchpoints_of asked
-    points-refused h = rw (e, w) (rw (ne_eqb (given_refusal (results_in t) r).number 0 (λ z. h (ap (λ (x : Held). x.number) e ∙ z))))
+    points-refused e q =
+        let k = q ∙ by-law in
+        rw w (rw (← k) (rw (ne_eqb (number e.refusal) 0 (number_not_none e.refusal))))
 
-    pub score-valid : q.number ≡ 0 → valid_score r.score ≡ true
-    score-valid z = (given-allowed (results_in t) r (sym (ap (λ (x : Held). x.number) e) ∙ z)).0
+    module _ (z : by_deal.number ≡ 0) where
+      pub none : (given_refusal (results_in t) r).number ≡ 0
+      none = sym (ap (λ (q : Refusal). q.number) by-law) ∙ z
 
-    pub points-asked : q.number ≡ 0 → placed (matchpoints (scores_in t) r.score) ≡ matchpoints_of t r
-    unfolding matchpoints_of asked
-    points-asked z =
-        rw (w, eq-eqb (given_refusal (results_in t) r).number 0 (sym (ap (λ (x : Held). x.number) e) ∙ z), scores_on t.deal (scores_in t))
+      pub score-valid : valid_score r.score ≡ true
+      score-valid = (given-allowed (results_in t) r none).0
+
+      pub points-asked : placed (matchpoints (scores_in t) r.score) ≡ matchpoints_of t r
+      unfolding matchpoints_of asked
+      points-asked = rw (w, eq-eqb (given_refusal (results_in t) r).number 0 none, scores_on t.deal (scores_in t))

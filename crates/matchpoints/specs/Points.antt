@@ -1,20 +1,21 @@
 -- What the answer of matchpoints stands for, and how a tally's results stand to a score.
 -- Assumes nothing.
-use Rattle.std.specs.Prelude.{ℕ, ℤ, length, if◌then◌else◌}
+use Rattle.std.specs.Prelude.{ℕ, ℤ, length, Result, Ok, Err, if◌then◌else◌}
 use Rattle.std.specs.Int.Signed.{lt_z}
 use Rattle.laws.specs.Choice.{how_many}
 use Rattle.laws.specs.Refusals.{Placed, refused_at, given}
-use Rattle.laws.specs.Law78.{same_score, occurrences, Points as BothSides}
+use Rattle.laws.specs.Law78.{same_score, occurrences, Points}
 use Rattle.tally.specs.declared.Tally.{Tally}
 use Rattle.tally.specs.Tallies.{scores_in}
-use Rattle.matchpoints.specs.declared.points.MatchpointAnswer.{MatchpointAnswer}
-use Rattle.matchpoints.specs.declared.points.MatchpointAnswer.TheVariants.{Refused, Points}
+use Rattle.laws.specs.Refused.{number}
+use Rattle.laws.specs.declared.Refused.{Refused}
+use Rattle.matchpoints.specs.declared.points.BothSides.{BothSides}
 use Rattle.matchpoints.specs.declared.points.Standing.{Standing}
 
 -- what an answer to a result stands for: a refusal by its number and its place, or the matchpoints of both sides
-abbrev pub points_answer : MatchpointAnswer → Placed BothSides
-points_answer (Refused n place) = refused_at n place
-points_answer (Points ns ew) = given (record { ns = ns.0; ew = ew.0 })
+abbrev pub points_answer : Result BothSides Refused → Placed Points
+points_answer (Ok p) = given (record { ns = p.ns.0; ew = p.ew.0 })
+points_answer (Err e) = refused_at (number e.refusal) e.place
 
 -- the results of an entry that are below a score
 unfoldable pub below_of : ℤ → ℤ → ℕ → ℕ

@@ -3,4 +3,4 @@
 
 mod points;
 
-pub use points::{MatchpointAnswer, matchpoints};
+pub use points::{BothSides, matchpoints};

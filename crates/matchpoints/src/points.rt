@@ -7,16 +7,15 @@ ghost use Rattle.tally.specs.Tallies.{scores_in, well_formed};
 ghost use Rattle.tally.specs.Points.{matchpoints_of};
 ghost use Rattle.matchpoints.specs.Points.{points_answer, below_of, equal_of, standing_of};
 
-use deal::take;
-use laws::{ACCEPTED, MALFORMED_TALLY, SCORE_NOT_IN_TALLY};
+use laws::{Refusal, Refused};
 use score::Matchpoints;
 use tally::{Tally, check, given_refusal};
 
-// What is answered to a result: a refusal and its place, or the matchpoints of both sides for one result of its score.
-#[derive(Clone, Copy)]
-pub enum MatchpointAnswer {
-    Refused(u8, u8),
-    Points { ns: Matchpoints, ew: Matchpoints },
+// The matchpoints of both sides for one result.
+#[derive(Clone, Copy, Debug, PartialEq, Eq)]
+pub struct BothSides {
+    pub ns: Matchpoints,
+    pub ew: Matchpoints,
 }
 
 // How many results of a tally are below a score, how many are equal to it, and how many there are.
@@ -31,20 +30,14 @@ struct Standing {
 fn below(score: i16, other: i16, count: u8) -> u8
     ensures { result ≡ below_of score other count }
 {
-    if other < score {
-        return count;
-    }
-    0
+    if other < score { count } else { 0 }
 }
 
 // The results of an entry that are equal to a score.
 fn equal(score: i16, other: i16, count: u8) -> u8
     ensures { result ≡ equal_of score other count }
 {
-    if score == other {
-        return count;
-    }
-    0
+    if score == other { count } else { 0 }
 }
 
 // How the results of a tally that is well formed stand to a score.
@@ -55,70 +48,49 @@ fn standing_of(t: Tally, score: i16) -> Standing
     let mut lower: u8 = 0;
     let mut same: u8 = 0;
     let mut results: u8 = 0;
-    let mut i: usize = 0;
-    while i < 128 {
+    for i in 0..128 {
         let c = t.counts[i];
         if c == 0 {
             return Standing {
                 below: lower,
                 equal: same,
-                results: results,
+                results,
             };
         }
         let s = t.scores[i];
         lower += below(score, s, c);
         same += equal(score, s, c);
         results += c;
-        i += 1;
     }
     Standing {
         below: lower,
         equal: same,
-        results: results,
+        results,
     }
 }
 
-// A count as a number of matchpoints is added up.
-fn wide(n: u8) -> u32
-    ensures { result ≡ n }
-{
-    n as u32
-}
-
 // Law 78A's matchpoints of both sides for one result of a valid score; 21.
-fn points_in(t: Tally, score: i16) -> MatchpointAnswer
+fn points_in(t: Tally, score: i16) -> Result<BothSides, Refused>
     requires { (well_formed t ≡ true) × (valid_score score ≡ true) }
     ensures { points_answer result ≡ placed (Law78.matchpoints (scores_in t) score) }
 {
     let s = standing_of(t, score);
     if s.equal == 0 {
-        return MatchpointAnswer::Refused(SCORE_NOT_IN_TALLY, 0);
+        return Err(Refusal::ScoreNotInTally.at(0));
     }
-    let n = wide(s.results);
-    let ns = 2 * wide(s.below) + wide(s.equal) - 1;
-    let ew = 2 * (n - 1) - ns;
-    MatchpointAnswer::Points {
+    let ns = 2 * u32::from(s.below) + u32::from(s.equal) - 1;
+    let ew = 2 * (u32::from(s.results) - 1) - ns;
+    Ok(BothSides {
         ns: Matchpoints(ns),
         ew: Matchpoints(ew),
-    }
+    })
 }
 
 // Law 78A's matchpoints of both sides for one result: a score with the holders of the cards that were played; 17, 20, 4, 28 or 21.
-pub fn matchpoints(t: Tally, score: i16, holders: &[u8]) -> MatchpointAnswer
+pub fn matchpoints(t: Tally, score: i16, holders: &[u8]) -> Result<BothSides, Refused>
     ensures { points_answer result ≡ matchpoints_of t (record { score = score; deal = holders.now }) }
 {
-    let checked = check(t);
-    if !checked.good {
-        return MatchpointAnswer::Refused(MALFORMED_TALLY, 0);
-    }
-    let x = checked.size;
-    let carried = t.deal;
-    let dealt = take(holders);
-    let given = given_refusal(carried, x.results, score, dealt);
-    let number = given.number;
-    let place = given.place;
-    if number != ACCEPTED {
-        return MatchpointAnswer::Refused(number, place);
-    }
+    let x = check(t)?;
+    given_refusal(t.deal, x.results, score, holders)?;
     points_in(t, score)
 }

@@ -6,23 +6,24 @@ use mathlib.Core.Bool.{true, false}
 use mathlib.Core.List.{List, [], ◌∷◌, ◌++◌}
 use lib.IntN.{ℤ}
 use lib.ListN.{length}
+use Rattle.std.specs.Prelude as Std
 use Rattle.laws.specs.Refusals.{fouled_board}
-use Rattle.laws.specs.Tally.{Result, leaves, Refusal, refusal, refusal_if, fouled_refusal, boards_refusal, room_refusal, given_refusal}
+use Rattle.laws.specs.declared.Refused.{Refused}
+use Rattle.laws.specs.Tally.{Result, ◌or_else◌, leaves, Refusal, refusal, refusal_if, fouled_refusal, boards_refusal, room_refusal, given_refusal}
 use Rattle.laws.specs.Tally.{fresh_refusal, add_refusal, merge_refusal, AllValid}
 use Rattle.laws.specs.Padded.{padded}
-use Rattle.laws.proofs.TallyRules.{length_on, given-allowed, add-allowed, merge-allowed}
-use Rattle.tally.specs.declared.refusals.Held.{Held}
+use Rattle.laws.proofs.TallyRules.{or_second, none_or, length_on, given-allowed, add-allowed, merge-allowed}
 use Rattle.tally.specs.declared.Size.{Size}
 use Rattle.tally.specs.declared.Tally.{Tally}
 use Rattle.tally.specs.Entries.{entries, expand, enter, entries_of}
 use Rattle.tally.specs.Tallies.{tally_with, tally_for, tally_of, entries_in, scores_in, results_in, well_formed}
 use Rattle.tally.specs.Tallies.{refused_with, accepting, answer_of, add_of, merge_of}
-use Rattle.tally.specs.Steps.{size_of, apart, kept_deal, held, first_held}
+use Rattle.tally.specs.Steps.{size_of, check_of, apart, kept_deal, ruled, given_by}
 use Rattle.merging.specs.Joins.{Joinable}
 use Rattle.tally.proofs.Formed.{formed, places_formed, carried, placed-tally}
-use Rattle.tally.proofs.Refusing.{first-of, fouled_lists}
+use Rattle.tally.proofs.Refusing.{some-refusal, refused_first, fouled_lists, given_law}
 use Rattle.tally.proofs.Dealing.{tally-add, tally-merge}
-use Rattle.tally.proofs.Checking.{size_results}
+use Rattle.tally.proofs.Checking.{checked, unchecked, size_results}
 
 -- ---- an answer by its refusal
 leaves-given : {A : Type 0} (n : ℕ) (made given : A) → (n ≡ 0 → ⊥) → given ≡ leaves n made given
@@ -43,12 +44,8 @@ pub answer-accepted : (r : Refusal) (made : Tally) → r.number ≡ 0 → accept
 unfolding answer_of
 answer-accepted r made e = leaves_made r.number (accepting made) (refused_with r) e
 
--- a refusal that the code holds
-pub held-refused : (q : Held) (r : Refusal) → q ≡ held r → refused_with (record { number = q.number; place = q.place }) ≡ refused_with r
-held-refused q r e = ap (λ (x : Held). refused_with (record { number = x.number; place = x.place })) e
-
-pub held_number : (q : Held) (r : Refusal) → q ≡ held r → q.number ≡ r.number
-held_number q r e = ap (λ (x : Held). x.number) e
+pub err_answer : (e : Refused) (r : Refusal) (made : Tally) → ruled e ≡ r → refused_with (ruled e) ≡ answer_of r made
+err_answer e r made q = ap refused_with q ∙ answer-refused r made (some-refusal e r q)
 
 -- ---- a tally of one result
 one_result : (b : ℕ) (d : List ℕ) (s : ℤ) → scores_in (tally_for b d (s ∷ [])) ≡ s ∷ []
@@ -81,20 +78,45 @@ module _ (t : Tally) (r : Result) where
   unfolding add_of answer_of leaves
   add_malformed e = rw e
 
-  module _ (w : well_formed t ≡ true) (x : Size) (ex : x ≡ size_of t) where
-    pub add-number : (given full q : Held) → given ≡ held (given_refusal (results_in t) r) → full ≡ held (room_refusal x.results 1)
-        → q ≡ first_held given full → q ≡ held (add_refusal (results_in t) r)
-    unfolding add_refusal
-    add-number given full q eg ef eq =
-        let n : x.results ≡ length (results_in t) = size_results t x ex ∙ sym (length_on t.deal (scores_in t)) in
-        first-of (given_refusal (results_in t) r) (room_refusal (length (results_in t)) 1) _ _ q eg (ef ∙ ap (λ (k : ℕ). held (room_refusal k 1)) n) eq
+  pub add_unchecked : (e : Refused) → Std.Err e ≡ check_of t → refused_with (ruled e) ≡ add_of t r
+  add_unchecked e q = let p = unchecked t e q in ap (λ (x : Refused). refused_with (ruled x)) p.1 ∙ add_malformed p.0
 
-    pub add-refused : (q : Held) → q ≡ held (add_refusal (results_in t) r) → (q.number ≡ 0 → ⊥)
-        → refused_with (record { number = q.number; place = q.place }) ≡ add_of t r
+  module _ (x : Size) (ok : Std.Ok x ≡ check_of t) where
+    w : well_formed t ≡ true
+    w = (checked t x ok).0
+
+    ex : x ≡ size_of t
+    ex = (checked t x ok).1
+
+    -- the refusals of the code, as the rules have them
+    abbrev by_deal : Refusal
+    by_deal = given_by t.deal x.results r.score r.deal
+
+    by-law : by_deal ≡ given_refusal (results_in t) r
+    by-law = given_law t.deal x.results r.score r.deal (scores_in t) (size_results t x ex)
+
+    by-room : room_refusal x.results 1 ≡ room_refusal (length (results_in t)) 1
+    by-room = ap (λ (k : ℕ). room_refusal k 1) (size_results t x ex ∙ sym (length_on t.deal (scores_in t)))
+
+    add_err : (e : Refused) → ruled e ≡ add_refusal (results_in t) r → refused_with (ruled e) ≡ add_of t r
     unfolding add_of
-    add-refused q e h =
-        let f = add_refusal (results_in t) r in
-        held-refused q f e ∙ rw w (answer-refused f (tally_of t.board (results_in t ++ (r ∷ []))) (λ z. h (held_number q f e ∙ z)))
+    add_err e q = rw w (err_answer e (add_refusal (results_in t) r) (tally_of t.board (results_in t ++ (r ∷ []))) q)
+
+    pub add_not_given : (e : Refused) → ruled e ≡ by_deal → refused_with (ruled e) ≡ add_of t r
+    unfolding add_refusal
+    add_not_given e q = add_err e (refused_first e (given_refusal (results_in t) r) _ (q ∙ by-law))
+
+    module _ (z : by_deal.number ≡ 0) where
+      lawful : (given_refusal (results_in t) r).number ≡ 0
+      lawful = sym (ap (λ (q : Refusal). q.number) by-law) ∙ z
+
+      pub add-full : (e : Refused) → ruled e ≡ room_refusal x.results 1 → refused_with (ruled e) ≡ add_of t r
+      unfolding add_refusal
+      add-full e q = add_err e (q ∙ (by-room ∙ sym (or_second (given_refusal (results_in t) r) _ lawful)))
+
+      pub add-passes : (room_refusal x.results 1).number ≡ 0 → (add_refusal (results_in t) r).number ≡ 0
+      unfolding add_refusal
+      add-passes q = none_or (given_refusal (results_in t) r) _ lawful (sym (ap (λ (q : Refusal). q.number) by-room) ∙ q)
 
     module _ (row : List ℕ) (none one : Tally) (en : none ≡ tally_for t.board row []) (eo : one ≡ tally_for none.board none.deal (r.score ∷ []))
         (e : (add_refusal (results_in t) r).number ≡ 0) where
@@ -135,59 +157,92 @@ module _ (a b : Tally) where
   unfolding merge_of answer_of leaves
   first_malformed e = rw e
 
-  module _ (v : well_formed a ≡ true) where
-    pub second_malformed : well_formed b ≡ false → refused_with (refusal 17) ≡ merge_of a b
-    unfolding merge_of answer_of leaves
-    second_malformed e = rw (v, e)
+  pub second_malformed : well_formed a ≡ true → well_formed b ≡ false → refused_with (refusal 17) ≡ merge_of a b
+  unfolding merge_of answer_of leaves
+  second_malformed v e = rw (v, e)
 
-    module _ (w : well_formed b ≡ true) where
+  pub merge_first_unchecked : (e : Refused) → Std.Err e ≡ check_of a → refused_with (ruled e) ≡ merge_of a b
+  merge_first_unchecked e q = let p = unchecked a e q in ap (λ (x : Refused). refused_with (ruled x)) p.1 ∙ first_malformed p.0
+
+  module _ (x : Size) (okx : Std.Ok x ≡ check_of a) where
+    v : well_formed a ≡ true
+    v = (checked a x okx).0
+
+    ex2 : x ≡ size_of a
+    ex2 = (checked a x okx).1
+
+    pub merge_second_unchecked : (e : Refused) → Std.Err e ≡ check_of b → refused_with (ruled e) ≡ merge_of a b
+    merge_second_unchecked e q = let p = unchecked b e q in ap (λ (x : Refused). refused_with (ruled x)) p.1 ∙ second_malformed v p.0
+
+    module _ (y : Size) (oky : Std.Ok y ≡ check_of b) where
+      w2 : well_formed b ≡ true
+      w2 = (checked b y oky).0
+
+      ey : y ≡ size_of b
+      ey = (checked b y oky).1
+
       -- the refusal of the two
       abbrev pub both_refusal : Refusal
       both_refusal = merge_refusal a.board (results_in a) b.board (results_in b)
 
-      pub merge-refused : (q : Held) → q ≡ held both_refusal → (q.number ≡ 0 → ⊥)
-          → refused_with (record { number = q.number; place = q.place }) ≡ merge_of a b
+      -- the refusals of the code, as the rules have them
+      abbrev by_deals : Refusal
+      by_deals = refusal_if (apart x.results y.results a.deal b.deal) fouled_board
+
+      by-fouls : by_deals ≡ fouled_refusal (results_in a) (results_in b)
+      by-fouls = fouled_lists x.results y.results a.deal (scores_in a) b.deal (scores_in b) (size_results a x ex2) (size_results b y ey)
+
+      by-both : room_refusal x.results y.results ≡ room_refusal (length (results_in a)) (length (results_in b))
+      by-both =
+          ap₂ room_refusal (size_results a x ex2 ∙ sym (length_on a.deal (scores_in a))) (size_results b y ey ∙ sym (length_on b.deal (scores_in b)))
+
+      merge_err : (e : Refused) → ruled e ≡ both_refusal → refused_with (ruled e) ≡ merge_of a b
       unfolding merge_of
-      merge-refused q e h =
-          held-refused q both_refusal e
-          ∙ rw (v, w) (answer-refused both_refusal (tally_of a.board (results_in a ++ results_in b)) (λ z. h (held_number q both_refusal e ∙ z)))
+      merge_err e q = rw (v, w2) (err_answer e both_refusal (tally_of a.board (results_in a ++ results_in b)) q)
 
-      module _ (x y : Size) (ex : x ≡ size_of a) (ey : y ≡ size_of b) where
-        pub merge-number : (boards fouls full later q : Held) → boards ≡ held (boards_refusal a.board b.board)
-            → fouls ≡ held (refusal_if (apart x.results y.results a.deal b.deal) fouled_board)
-            → full ≡ held (room_refusal x.results y.results) → later ≡ first_held fouls full → q ≡ first_held boards later → q ≡ held both_refusal
+      pub merge_two_boards : (e : Refused) → ruled e ≡ boards_refusal a.board b.board → refused_with (ruled e) ≡ merge_of a b
+      unfolding merge_refusal
+      merge_two_boards e q = merge_err e (refused_first e (boards_refusal a.board b.board) _ q)
+
+      module _ (zb : (boards_refusal a.board b.board).number ≡ 0) where
+        past-boards : both_refusal ≡ fouled_refusal (results_in a) (results_in b) or_else room_refusal (length (results_in a)) (length (results_in b))
         unfolding merge_refusal
-        merge-number boards fouls full later q eb ef eu el eq =
-            let n = size_results a x ex in
-            let m = size_results b y ey in
-            let n' : x.results ≡ length (results_in a) = n ∙ sym (length_on a.deal (scores_in a)) in
-            let m' : y.results ≡ length (results_in b) = m ∙ sym (length_on b.deal (scores_in b)) in
-            let k =
-            first-of (fouled_refusal (results_in a) (results_in b)) (room_refusal (length (results_in a)) (length (results_in b))) _ _ later
-            (ef ∙ ap held (fouled_lists x.results y.results a.deal (scores_in a) b.deal (scores_in b) n m))
-            (eu ∙ ap₂ (λ (i j : ℕ). held (room_refusal i j)) n' m') el in
-            first-of (boards_refusal a.board b.board) _ _ _ q eb k eq
+        past-boards = or_second (boards_refusal a.board b.board) _ zb
 
-        module _ (kept : List ℕ) (none : Tally) (en : none ≡ tally_for a.board kept []) (e : both_refusal.number ≡ 0) where
-          pub merge_joinable : Joinable none a x.used b y.used
-          merge_joinable =
-              let m = merge-allowed a.board (results_in a) b.board (results_in b) e in
-              record {
-                is_empty = own_empty none a.board kept en;
-                first = places_formed a v;
-                second = places_formed b w;
-                first_used = ap (λ (z : Size). z.used) ex;
-                second_used = ap (λ (z : Size). z.used) ey;
-                room = omega (arith, m.2, length_on a.deal (scores_in a), length_on b.deal (scores_in b));
-              }
+        pub merge_fouled : (e : Refused) → ruled e ≡ by_deals → refused_with (ruled e) ≡ merge_of a b
+        merge_fouled e q = merge_err e (refused_first e (fouled_refusal (results_in a) (results_in b)) _ (q ∙ by-fouls) ∙ sym past-boards)
 
-          pub merge-accepted : kept ≡ kept_deal x.results a.deal b.deal → (u : Tally)
-              → u ≡ tally_for none.board none.deal (scores_in a ++ scores_in b) → accepting u ≡ merge_of a b
-          unfolding merge_of
-          merge-accepted ek u eu =
-              let made : u ≡ tally_of a.board (results_in a ++ results_in b) =
-              eu ∙ own_made none a.board kept en (scores_in a ++ scores_in b)
-              ∙ ap (λ (d : List ℕ). tally_for a.board d (scores_in a ++ scores_in b))
-              (ek ∙ ap (λ (n : ℕ). kept_deal n a.deal b.deal) (size_results a x ex))
-              ∙ sym (tally-merge a.board a.deal (scores_in a) b.deal (scores_in b) (carried b w)) in
-              rw (v, w) (ap accepting made ∙ answer-accepted both_refusal (tally_of a.board (results_in a ++ results_in b)) e)
+        module _ (zf : by_deals.number ≡ 0) where
+          past-fouls : both_refusal ≡ room_refusal x.results y.results
+          past-fouls =
+              past-boards ∙ (or_second (fouled_refusal (results_in a) (results_in b)) _ (sym (ap (λ (q : Refusal). q.number) by-fouls) ∙ zf) ∙ sym by-both)
+
+          pub merge-full : (e : Refused) → ruled e ≡ room_refusal x.results y.results → refused_with (ruled e) ≡ merge_of a b
+          merge-full e q = merge_err e (q ∙ sym past-fouls)
+
+          pub merge-passes : (room_refusal x.results y.results).number ≡ 0 → both_refusal.number ≡ 0
+          merge-passes q = ap (λ (q : Refusal). q.number) past-fouls ∙ q
+
+      module _ (kept : List ℕ) (none : Tally) (en : none ≡ tally_for a.board kept []) (e : both_refusal.number ≡ 0) where
+        pub merge_joinable : Joinable none a x.used b y.used
+        merge_joinable =
+            let m = merge-allowed a.board (results_in a) b.board (results_in b) e in
+            record {
+              is_empty = own_empty none a.board kept en;
+              first = places_formed a v;
+              second = places_formed b w2;
+              first_used = ap (λ (z : Size). z.used) ex2;
+              second_used = ap (λ (z : Size). z.used) ey;
+              room = omega (arith, m.2, length_on a.deal (scores_in a), length_on b.deal (scores_in b));
+            }
+
+        pub merge-accepted : kept ≡ kept_deal x.results a.deal b.deal → (u : Tally)
+            → u ≡ tally_for none.board none.deal (scores_in a ++ scores_in b) → accepting u ≡ merge_of a b
+        unfolding merge_of
+        merge-accepted ek u eu =
+            let made : u ≡ tally_of a.board (results_in a ++ results_in b) =
+            eu ∙ own_made none a.board kept en (scores_in a ++ scores_in b)
+            ∙ ap (λ (d : List ℕ). tally_for a.board d (scores_in a ++ scores_in b))
+            (ek ∙ ap (λ (n : ℕ). kept_deal n a.deal b.deal) (size_results a x ex2))
+            ∙ sym (tally-merge a.board a.deal (scores_in a) b.deal (scores_in b) (carried b w2)) in
+            rw (v, w2) (ap accepting made ∙ answer-accepted both_refusal (tally_of a.board (results_in a ++ results_in b)) e)

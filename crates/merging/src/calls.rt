@@ -1,13 +1,11 @@
 // A result added to a tally, and two tallies merged: their refusals in order, and the tally made.
 ghost use Rattle.std.specs.Prelude.{◌≡◌, [], ◌∷◌};
-ghost use Rattle.tally.specs.Tallies.{tally_for, add_of, merge_of};
+ghost use Rattle.tally.specs.Tallies.{tally_for, tallied_of, add_of, merge_of};
 
 use super::joined;
-use deal::take;
-use laws::{ACCEPTED, MALFORMED_TALLY};
+use laws::Refused;
 use tally::{
-    Tallied, Tally, accept, boards_refusal, check, empty, first, fouled_refusal, given_refusal,
-    kept_deal, refuse, room_refusal,
+    Tally, boards_refusal, check, empty, fouled_refusal, given_refusal, kept_deal, room_refusal,
 };
 
 // One score in a tally without a result.
@@ -22,55 +20,29 @@ fn single(none: Tally, score: i16) -> Tally
 }
 
 // One more result: a score with the holders of the cards that were played; 17, 20, 4, 28 or 19.
-pub fn add(t: Tally, score: i16, holders: &[u8]) -> Tallied
-    ensures { result ≡ add_of t (record { score = score; deal = holders.now }) }
+pub fn add(t: Tally, score: i16, holders: &[u8]) -> Result<Tally, Refused>
+    ensures { tallied_of result ≡ add_of t (record { score = score; deal = holders.now }) }
 {
-    let checked = check(t);
-    if !checked.good {
-        return refuse(MALFORMED_TALLY, 0);
-    }
-    let x = checked.size;
-    let carried = t.deal;
-    let dealt = take(holders);
-    let given = given_refusal(carried, x.results, score, dealt);
-    let full = room_refusal(x.results, 1);
-    let refusal = first(given, full);
-    if refusal.number != ACCEPTED {
-        return refuse(refusal.number, refusal.place);
-    }
-    let row = dealt.holders;
+    let x = check(t)?;
+    let row = given_refusal(t.deal, x.results, score, holders)?;
+    room_refusal(x.results, 1)?;
     let none = empty(t.board, row);
     let one = single(none, score);
     let grown = joined(none, t, x.used, one, 1);
-    accept(grown)
+    Ok(grown)
 }
 
 // The results of two tallies of one board and one deal; 17, 18, 28 or 19.
-pub fn merge(a: Tally, b: Tally) -> Tallied
-    ensures { result ≡ merge_of a b }
+pub fn merge(a: Tally, b: Tally) -> Result<Tally, Refused>
+    ensures { tallied_of result ≡ merge_of a b }
 {
-    let first_checked = check(a);
-    if !first_checked.good {
-        return refuse(MALFORMED_TALLY, 0);
-    }
-    let second_checked = check(b);
-    if !second_checked.good {
-        return refuse(MALFORMED_TALLY, 0);
-    }
-    let x = first_checked.size;
-    let y = second_checked.size;
-    let first_deal = a.deal;
-    let second_deal = b.deal;
-    let boards = boards_refusal(a.board, b.board);
-    let fouled = fouled_refusal(first_deal, x.results, second_deal, y.results);
-    let full = room_refusal(x.results, y.results);
-    let later = first(fouled, full);
-    let refusal = first(boards, later);
-    if refusal.number != ACCEPTED {
-        return refuse(refusal.number, refusal.place);
-    }
-    let kept = kept_deal(x.results, first_deal, second_deal);
+    let x = check(a)?;
+    let y = check(b)?;
+    boards_refusal(a.board, b.board)?;
+    fouled_refusal(a.deal, x.results, b.deal, y.results)?;
+    room_refusal(x.results, y.results)?;
+    let kept = kept_deal(x.results, a.deal, b.deal);
     let none = empty(a.board, kept);
     let both = joined(none, a, x.used, b, y.used);
-    accept(both)
+    Ok(both)
 }

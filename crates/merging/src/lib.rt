@@ -20,14 +20,15 @@ struct Next {
 }
 
 // The entry at a place before `end`; from there on no result, of a score below every valid one.
-fn entry_at<'a>(scores: &'a [i16; 128], counts: &'a [u8; 128], i: usize, end: usize) -> Entry
+fn entry_at(scores: &[i16; 128], counts: &[u8; 128], i: usize, end: usize) -> Entry
     requires { end ≤ 128 }
     ensures { result ≡ entry_at scores.now counts.now i end }
 {
     if i < end {
-        let s = scores[i];
-        let c = counts[i];
-        return Entry { score: s, count: c };
+        return Entry {
+            score: scores[i],
+            count: counts[i],
+        };
     }
     Entry {
         score: -7601,
@@ -40,29 +41,25 @@ fn higher(x: Entry, y: Entry) -> Next
     requires { x.count + y.count ≤ 128 }
     ensures { result ≡ higher_of x y }
 {
-    let s = x.score;
-    let r = y.score;
-    let c = x.count;
-    let d = y.count;
-    if s == r {
+    if x.score == y.score {
         return Next {
-            score: s,
-            count: c + d,
+            score: x.score,
+            count: x.count + y.count,
             first: 1,
             second: 1,
         };
     }
-    if r < s {
+    if y.score < x.score {
         return Next {
-            score: s,
-            count: c,
+            score: x.score,
+            count: x.count,
             first: 1,
             second: 0,
         };
     }
     Next {
-        score: r,
-        count: d,
+        score: y.score,
+        count: y.count,
         first: 0,
         second: 1,
     }
@@ -72,14 +69,7 @@ fn higher(x: Entry, y: Entry) -> Next
 fn next_of(taken: usize, x: Entry, after: Entry) -> Entry
     ensures { result ≡ next_of taken x after }
 {
-    let s = x.score;
-    let c = x.count;
-    let r = after.score;
-    let d = after.count;
-    if taken == 0 {
-        return Entry { score: s, count: c };
-    }
-    Entry { score: r, count: d }
+    if taken == 0 { x } else { after }
 }
 
 // The results of two tallies in one, written into a tally without a result in a single pass over both. `n` and `m` are the ends of their entries. The entries
@@ -93,23 +83,19 @@ fn joined(none: Tally, a: Tally, n: usize, b: Tally, m: usize) -> Tally
     let mut y = entry_at(&b.scores, &b.counts, 0, m);
     let mut i: usize = 0;
     let mut j: usize = 0;
-    let mut k: usize = 0;
-    while k < 128 {
+    for k in 0..128 {
         let p = entry_at(&a.scores, &a.counts, i + 1, n);
         let q = entry_at(&b.scores, &b.counts, j + 1, m);
         let e = higher(x, y);
-        let s = e.score;
-        let c = e.count;
-        if c == 0 {
+        if e.count == 0 {
             return u;
         }
-        u.scores[k] = s;
-        u.counts[k] = c;
+        u.scores[k] = e.score;
+        u.counts[k] = e.count;
         x = next_of(e.first, x, p);
         y = next_of(e.second, y, q);
         i += e.first;
         j += e.second;
-        k += 1;
     }
     u
 }

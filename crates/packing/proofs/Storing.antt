@@ -1,6 +1,6 @@
 -- Bytes stored from a place on, and a field put: what the code computes is what the definitions say. Assumes nothing.
 use Prim.Native.Nat.{ℕ, ◌+◌, ◌-◌, ◌*◌, ◌/◌, ◌%◌, ◌^◌, ◌≤◌, ◌<◌, min}
-use native.Mathlib.Nat.{mod-lt, div-one, lt_of_lt_of_le, mul-le-mul_left}
+use native.Mathlib.Nat.{div-one, mod-eq_of_lt, one-mul}
 use native.Mathlib.Numerals.{add-one}
 use native.Mathlib.Omega.{arith}
 use mathlib.Core.Path.{◌≡◌, sym, ap, ◌∙◌}
@@ -9,7 +9,7 @@ use mathlib.Core.List.{List}
 use borrow.Author.Tests.{le-leb, lt-leb, ltb-true, ltb-false}
 use lib.Dec.{ltb}
 use lib.ListN.{length, set, length-set}
-use lib.Pow.{pow_pos, pow_mono}
+use lib.Pow.{pow-lt}
 use lib.Seq.{sets, set_out}
 use Rattle.laws.specs.Record.{field, bytes_of}
 use Rattle.laws.proofs.Tests.{by_test}
@@ -50,15 +50,9 @@ module _ (out : List ℕ) (at number : ℕ) where
       let stores : left ≡ set (set out at a) (at + 1) b = j ∙ rw i (second a b n) in
       (omega arith, stores ∙ rw (e, f, g, add-one at, div-one number))
 
--- the number of the bits that wait and of a field behind them fits 25 bits
-pub joined_lt : (a b v c : ℕ) → a < 256 → b ≤ 65536 → 0 < c → c ≤ 65536 → a * b + v % c < 2 ^ 25
-joined_lt a b v c h s p l =
-    let most : a * b ≤ a * 65536 = mul-le-mul_left a s in
-    omega (arith, mod-lt v p)
-
--- fewer than eight bits are less than a byte
-pub rest_lt : (x n : ℕ) {m : ℕ} → m ≡ 2 ^ (n % 8) → x % m < 256
-rest_lt x n e = rw e (lt_of_lt_of_le (mod-lt x (pow_pos (n % 8))) (pow_mono {j = 8} (omega arith)))
+-- of a power of two that 64 bits hold nothing is shifted out
+pub power_kept : (w : ℕ) → w ≤ 16 → 1 * 2 ^ w % 2 ^ 64 ≡ 2 ^ w
+power_kept w h = rw (one-mul (2 ^ w)) (mod-eq_of_lt (pow-lt {j = 64} (omega arith)))
 
 module _ (out : List ℕ) (p : Packer) (w v : ℕ) where
   -- what putting a field leaves
@@ -70,7 +64,7 @@ module _ (out : List ℕ) (p : Packer) (w v : ℕ) where
   put_wide h = (simp (lt-leb w 16 h), simp (lt-leb w 16 h))
 
   pub put_narrow : w ≤ 16 → {a b c m next d : ℕ} {left : List ℕ} → a ≡ p.pending → b ≡ 2 ^ w → c ≡ 2 ^ w → m ≡ 2 ^ ((p.count % 8 + w) % 8)
-      → Stored out p.at ((p.count % 8 + w) / 8) ((a * b + v % c) / m) next left → d ≡ (a * b + v % c) % m
+      → Stored out p.at ((p.count % 8 + w) / 8) ((a * b + v % c) / 2 ^ ((p.count % 8 + w) % 8)) next left → d ≡ (a * b + v % c) % m
       → Put (record { at = next; pending = d; count = (p.count % 8 + w) % 8 }) left
   unfolding packer_after bytes_after waiting joined
-  put_narrow h ea eb ec em s ed = (rw (le-leb w 16 h, s.0, ed, em, ea, eb, ec), rw (le-leb w 16 h, s.1, em, ea, eb, ec))
+  put_narrow h ea eb ec em s ed = (rw (le-leb w 16 h, s.0, ed, em, ea, eb, ec), rw (le-leb w 16 h, s.1, ea, eb, ec))

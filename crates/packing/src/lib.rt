@@ -1,38 +1,17 @@
 // Bit fields written one after the other over the front of a lent buffer, the most significant bit first, by whole bytes.
 #![tactic(auto)]
 
-ghost use Rattle.std.specs.Prelude.{◌≡◌, ◌+◌, ◌-◌, ◌^◌, ◌≤◌, ◌<◌, min, length, set};
+ghost use Rattle.std.specs.Prelude.{◌≡◌, ◌+◌, ◌-◌, ◌≤◌, min, length, set};
 ghost use Rattle.std.proofs.lemmas.List.Edits.{sets};
 ghost use Rattle.laws.specs.Record.{field, row, bytes_of};
 ghost use Rattle.packing.specs.Packed.{new_packer, packer_after, bytes_after, packer_after_all, bytes_after_all, bytes_finished};
 
 // How many bytes are stored, and the bits that wait for the rest of their byte: as a number, and how many they are.
-#[derive(Clone, Copy)]
+#[derive(Clone, Copy, Debug, PartialEq, Eq)]
 pub struct Packer {
     pub at: usize,
     pub pending: u8,
     pub count: usize,
-}
-
-fn wide(x: u8) -> u64
-    ensures { (result ≡ x) × (result < 256) }
-{
-    x as u64
-}
-
-fn narrow(x: u64) -> u8
-    requires { x < 256 }
-    ensures { result ≡ x }
-{
-    x as u8
-}
-
-// 2 to the power n.
-fn pow2(n: usize) -> u64
-    requires { n ≤ 16 }
-    ensures { (result ≡ 2 ^ n) × (0 < result) × (result ≤ 65536) }
-{
-    1u64 << n
 }
 
 // Stores a byte at a place where the buffer has that place. The answer is the place behind what is stored.
@@ -57,10 +36,10 @@ fn store_last(out: &mut [u8], at: usize, bytes: usize, number: u64) -> usize
         return at;
     }
     if bytes == 1 {
-        return store(out, at, narrow(number % 256));
+        return store(out, at, (number % 256) as u8);
     }
-    let next = store(out, at, narrow(number / 256 % 256));
-    store(out, next, narrow(number % 256))
+    let next = store(out, at, (number / 256 % 256) as u8);
+    store(out, next, (number % 256) as u8)
 }
 
 impl Packer {
@@ -83,14 +62,14 @@ impl Packer {
         if 16 < width {
             return self;
         }
-        let number = wide(self.pending) * pow2(width) + value % pow2(width);
+        let span = 1u64 << width;
+        let number = u64::from(self.pending) * span + value % span;
         let waiting = self.count % 8 + width;
         let rest = waiting % 8;
-        let below = pow2(rest);
-        let at = store_last(out, self.at, waiting / 8, number / below);
+        let at = store_last(out, self.at, waiting / 8, number >> rest);
         Self {
             at,
-            pending: narrow(number % below),
+            pending: (number % (1 << rest)) as u8,
             count: rest,
         }
     }
@@ -100,10 +79,8 @@ impl Packer {
         ensures packer { result ≡ packer_after_all (length out.old) self (row width values.now) }
         ensures bytes { out.new ≡ bytes_after_all self (row width values.now) out.old }
     {
-        let mut i: usize = 0;
-        while i < values.len() {
-            self = self.put(out, width, wide(values[i]));
-            i += 1;
+        for value in values {
+            self = self.put(out, width, u64::from(*value));
         }
         self
     }

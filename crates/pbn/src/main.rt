@@ -4,7 +4,6 @@
 
 use std::io;
 use std::io::Write;
-use text::Outcome;
 
 fn main(rt: HostRuntime) -> io::Result<()> {
     let mut input = [0u8; 65537];
@@ -12,7 +11,7 @@ fn main(rt: HostRuntime) -> io::Result<()> {
     let n = filling::fill(&mut stdin, &mut input)?;
     let mut record = [0u8; 505];
     match pbn_output::write(&input[..n], &mut record) {
-        Outcome::Written(length) => rt.stdout().write_all(&record[..length]),
-        Outcome::TooShort => Ok(()),
+        Some(length) => rt.stdout().write_all(&record[..length]),
+        None => Ok(()),
     }
 }

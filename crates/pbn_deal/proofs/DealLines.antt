@@ -1,25 +1,26 @@
 -- The Deal line: it is read as the seat and the holders that it says, where it is their line. Assumes nothing.
+use Rattle.std.specs.Prelude.{Option, Some, None, leb}
 use Rattle.std.specs.Prelude.{if◌then◌else◌}
-use Prim.Native.Nat.{ℕ, zero, suc, ◌+◌, ◌-◌, ◌≤◌, ◌<◌}
+use Prim.Native.Nat.{ℕ, ◌+◌, ◌-◌, ◌≤◌, ◌<◌}
 use native.Mathlib.Numerals.{add-one}
 use native.Mathlib.Omega.{arith}
-use mathlib.Core.Path.{◌≡◌, refl, sym, ap, ap₂, ◌∙◌}
+use mathlib.Core.Path.{◌≡◌, sym, ap, ap₂, ◌∙◌}
 use mathlib.Core.Bool.{Bool, true, false, not, ◌&&◌}
 use mathlib.Core.List.{List, [], ◌∷◌, ◌++◌}
-use borrow.Author.Tests.{eq-eqb, lt-ltb, le-ltb}
-use lib.Dec.{eqb, ltb}
-use lib.ListN.{length, get_or, take, drop, replicate, drop_of_length-le, length-append}
+use borrow.Author.Tests.{leb-true, leb-false, eq-eqb, lt-ltb, le-ltb}
+use lib.Dec.{ltb}
+use lib.ListN.{length, get_or, take, drop, drop_of_length-le, length-append}
 use lib.Seq.{drop-cons}
 use Rattle.laws.specs.Choice.{some}
-use Rattle.laws.specs.Cards.{no_seat, clockwise, clubs, diamonds, hearts, spades}
+use Rattle.laws.specs.Cards.{clockwise, clubs, diamonds, hearts, spades}
 use Rattle.laws.specs.Contents.{are_seats}
 use Rattle.laws.specs.PbnText.{letter_of, seat_letters, space, dot, deal_tag, tag_end, ranks_held, hand_and, hands_and, deal_line}
-use Rattle.laws.specs.PbnReading.{same_bytes, held_by, first_in, hands_in, holders_in, is_deal_line}
+use Rattle.laws.specs.PbnReading.{same_bytes, first_in, hands_in, holders_in, is_deal_line}
 use Rattle.laws.proofs.Tests.{by_test}
 use Rattle.laws.proofs.PbnDeal.{deal_sound}
 use Rattle.pbn_deal.specs.Walks.{follows}
 use Rattle.pbn_deal.specs.declared.deal_line.Deal.{Deal}
-use Rattle.pbn_deal.specs.DealOn.{no_deal, deal_on}
+use Rattle.pbn_deal.specs.DealOn.{deal_on}
 use Rattle.pbn_words.proofs.TagLines.{same_append}
 
 -- ---- each card has a holder
@@ -46,20 +47,26 @@ module _ (holders : List ℕ) where
 
 -- ---- the line of a seat and holders
 module _ (line : List ℕ) (first : ℕ) (holders : List ℕ) where
-  pub as_walk : (tag : Bool) (letter : ℕ) → tag ≡ same_bytes deal_tag (take 7 line) → letter ≡ letter_of seat_letters first
-      → same_bytes (deal_line first holders) line ≡ follows line tag 7 (letter ∷ 58 ∷ hands_and first holders tag_end)
-  unfolding deal_line follows
-  as_walk tag letter e f =
-      same_append deal_tag (letter_of seat_letters first ∷ 58 ∷ hands_and first holders tag_end) line
-      ∙ ap₂ (λ t l. t && same_bytes (l ∷ 58 ∷ hands_and first holders tag_end) (drop 7 line)) (sym e) (sym f)
+  split : same_bytes (deal_line first holders) line
+      ≡ (same_bytes deal_tag (take 7 line) && same_bytes (letter_of seat_letters first ∷ 58 ∷ hands_and first holders tag_end) (drop 7 line))
+  unfolding deal_line
+  split = same_append deal_tag (letter_of seat_letters first ∷ 58 ∷ hands_and first holders tag_end) line
 
-pub walk_fails : (line : List ℕ) (same : Bool) (at : ℕ) (t : List ℕ) → same ≡ false → follows line same at t ≡ false
-unfolding follows
-walk_fails line same at t e = rw e
+  pub no_tag : same_bytes deal_tag (take 7 line) ≡ false → false ≡ same_bytes (deal_line first holders) line
+  no_tag e = sym (split ∙ rw e)
 
-pub walk_goes : (line : List ℕ) (same : Bool) (at : ℕ) (t : List ℕ) → same ≡ true → follows line same at t ≡ same_bytes t (drop at line)
-unfolding follows
-walk_goes line same at t e = rw e
+  pub with_tag : same_bytes deal_tag (take 7 line) ≡ true
+      → same_bytes (deal_line first holders) line ≡ follows line (Some 7) (letter_of seat_letters first ∷ 58 ∷ hands_and first holders tag_end)
+  unfolding follows
+  with_tag e = split ∙ rw e
+
+-- the whole line was followed
+pub all_followed : (line : List ℕ) (at : ℕ) → leb (length line) at ≡ follows line (Some at) []
+unfolding follows same_bytes
+all_followed line at =
+    by_test (leb (length line) at)
+    (λ (q : leb (length line) at ≡ true). rw (q, drop_of_length-le line (leb-true _ _ q)))
+    (λ (q : leb (length line) at ≡ false). rw (q, drop-cons line at 0 (leb-false _ _ q)))
 
 -- ---- a Deal line has eleven bytes at least
 hand_longer : (holders : List ℕ) (seat : ℕ) (rest : List ℕ) → length rest ≤ length (hand_and holders seat rest)
@@ -92,11 +99,11 @@ long-line first holders =
 
 -- ---- what the line says
 module _ (line : List ℕ) where
-  no_line : is_deal_line line ≡ false → no_deal ≡ deal_on line
+  no_line : is_deal_line line ≡ false → None ≡ deal_on line
   unfolding deal_on
   no_line e = rw e
 
-  pub too_short : length line < 11 → no_deal ≡ deal_on line
+  pub too_short : length line < 11 → None ≡ deal_on line
   too_short h =
       no_line
       (by_test (is_deal_line line)
@@ -105,7 +112,7 @@ module _ (line : List ℕ) where
       absurd (omega (arith, long-line (first_in line) (holders_in line), ap length is)))
       (λ (q : is_deal_line line ≡ false). q))
 
-  pub no_seat_lem : first_in line ≡ 4 → no_deal ≡ deal_on line
+  pub no_seat_lem : first_in line ≡ 4 → None ≡ deal_on line
   unfolding is_deal_line
   no_seat_lem e =
       let others = are_seats (holders_in line) && same_bytes (deal_line (first_in line) (holders_in line)) line in
@@ -116,19 +123,19 @@ module _ (line : List ℕ) where
     unfolding is_deal_line
     tests = sym (ap₂ (λ f h. ltb f 4 && (are_seats h && same_bytes (deal_line f h) line)) ef eh)
 
-    pub not-held : first < 4 → are_seats holders ≡ false → no_deal ≡ deal_on line
+    pub not-held : first < 4 → are_seats holders ≡ false → None ≡ deal_on line
     not-held low e = no_line (tests ∙ rw (lt-ltb first 4 low, e))
 
-    pub not_line : first < 4 → are_seats holders ≡ true → same_bytes (deal_line first holders) line ≡ false → no_deal ≡ deal_on line
+    pub not_line : first < 4 → are_seats holders ≡ true → same_bytes (deal_line first holders) line ≡ false → None ≡ deal_on line
     not_line low e f = no_line (tests ∙ rw (lt-ltb first 4 low, e, f))
 
     pub is-line : first < 4 → are_seats holders ≡ true → same_bytes (deal_line first holders) line ≡ true
-        → ◌≡◌ {A = Deal} (record { first = first; holders = holders }) (deal_on line)
+        → ◌≡◌ {A = Option Deal} (Some (record { first = first; holders = holders })) (deal_on line)
     unfolding deal_on
     is-line low e f =
         let q : is_deal_line line ≡ true = tests ∙ rw (lt-ltb first 4 low, e, f) in
-        ap₂ (λ f h. record { first = f; holders = h }) ef eh
-        ∙ sym (ap (λ b. if b then record { first = first_in line; holders = holders_in line } else no_deal) q)
+        ap₂ (λ f h. Some (record { first = f; holders = h })) ef eh
+        ∙ sym (ap (λ b. if b then Some (record { first = first_in line; holders = holders_in line }) else None) q)
 
 -- the hands of a line, as they are cut out of it
 pub hands_cut : (line : List ℕ) (end : ℕ) → end ≡ length line - 2 → 11 ≤ length line → take (end - 9) (drop 9 line) ≡ hands_in line

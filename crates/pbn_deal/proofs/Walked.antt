@@ -1,40 +1,35 @@
 -- A line followed from its front: one byte more, and the ranks of a suit one after the other. Assumes nothing.
-use Rattle.std.specs.Prelude.{if◌then◌else◌}
+use Rattle.std.specs.Prelude.{Some, None}
 use Prim.Native.Nat.{ℕ, zero, suc, ◌+◌, ◌-◌, ◌*◌, ◌≤◌, ◌<◌}
 use native.Mathlib.Numerals.{add-one}
 use native.Mathlib.Omega.{arith}
 use mathlib.Core.Path.{◌≡◌, refl, sym, ap, ◌∙◌}
-use mathlib.Core.Bool.{Bool, true, false, ◌&&◌}
+use mathlib.Core.Bool.{false}
 use mathlib.Core.List.{List, [], ◌∷◌, ◌++◌}
 use borrow.Author.Tests.{eq-eqb, ne_eqb}
-use lib.Dec.{eqb}
-use lib.ListN.{length, get_or, drop, drop_of_length-le}
+use lib.ListN.{length, get_or, drop_of_length-le}
 use lib.Seq.{drop-cons}
 use Rattle.laws.specs.Cards.{no_seat, dealt_to}
 use Rattle.laws.specs.PbnText.{letter_of, rank_letters, ranks_held}
 use Rattle.laws.specs.PbnReading.{same_bytes}
 use Rattle.pbn_deal.specs.Walks.{follows}
 
-and-false : (b : Bool) → (b && false) ≡ false
-and-false true = refl
-and-false false = refl
-
-module _ (line : List ℕ) (same : Bool) (at byte : ℕ) (t : List ℕ) where
-  pub stopped : same ≡ false → follows line same at (byte ∷ t) ≡ follows line same at t
-  unfolding follows
-  stopped e = rw e
-
-  pub at_end : length line ≤ at → follows line same at (byte ∷ t) ≡ follows line false at t
+module _ (line : List ℕ) (at byte : ℕ) (t : List ℕ) where
+  pub at_end : length line ≤ at → follows line (Some at) (byte ∷ t) ≡ false
   unfolding follows same_bytes
-  at_end h = rw (drop_of_length-le line h) (and-false same)
+  at_end h = rw (drop_of_length-le line h)
 
-  pub other_byte : at < length line → (get_or line at 0 ≡ byte → ⊥) → follows line same at (byte ∷ t) ≡ follows line false at t
+  pub other_byte : at < length line → (get_or line at 0 ≡ byte → ⊥) → follows line (Some at) (byte ∷ t) ≡ false
   unfolding follows same_bytes
-  other_byte h e = rw (drop-cons line at 0 h, ne_eqb byte (get_or line at 0) (λ q. e (sym q))) (and-false same)
+  other_byte h e = rw (drop-cons line at 0 h, ne_eqb byte (get_or line at 0) (λ q. e (sym q)))
 
-  pub same_byte : same ≡ true → at < length line → get_or line at 0 ≡ byte → follows line same at (byte ∷ t) ≡ follows line true (at + 1) t
+  pub same_byte : at < length line → get_or line at 0 ≡ byte → follows line (Some at) (byte ∷ t) ≡ follows line (Some (at + 1)) t
   unfolding follows same_bytes
-  same_byte s h e = rw (s, add-one at, drop-cons line at 0 h, eq-eqb byte (get_or line at 0) (sym e))
+  same_byte h e = rw (add-one at, drop-cons line at 0 h, eq-eqb byte (get_or line at 0) (sym e))
+
+pub nowhere : (line t : List ℕ) → follows line None t ≡ false
+unfolding follows
+nowhere line t = refl
 
 -- ---- the ranks of a suit
 any_default : (l : List ℕ) (i d e : ℕ) → i < length l → get_or l i d ≡ get_or l i e

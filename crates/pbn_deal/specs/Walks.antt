@@ -1,13 +1,14 @@
 -- The Deal line. Who holds each card, byte by byte; and a line followed from its front: whether it was the same so far, and up to where. Assumes nothing.
-use Rattle.std.specs.Prelude.{ℕ, ◌+◌, ◌-◌, ◌*◌, Bool, ◌&&◌, List, eqb, set, drop, if◌then◌else◌}
+use Rattle.std.specs.Prelude.{ℕ, ◌+◌, ◌-◌, ◌*◌, Bool, false, List, Option, Some, None, eqb, set, drop, if◌then◌else◌}
 use Rattle.laws.specs.Cards.{clockwise, spades}
 use Rattle.laws.specs.PbnText.{rank_letters, space, dot}
 use Rattle.laws.specs.PbnReading.{same_bytes, place_among}
 use Rattle.pbn_deal.specs.declared.deal.Held.{Held}
 
--- the line was the same so far, and from a place on it is these bytes
-unfoldable pub follows : List ℕ → Bool → ℕ → List ℕ → Bool
-follows line same at bytes = same && same_bytes bytes (drop at line)
+-- the line was the same up to a place, and from there on it is these bytes
+unfoldable pub follows : List ℕ → Option ℕ → List ℕ → Bool
+follows line None bytes = false
+follows line (Some at) bytes = same_bytes bytes (drop at line)
 
 -- a rank goes to the seat
 unfoldable pub with_rank : Held → ℕ → Held

@@ -1,14 +1,13 @@
 -- Cards in columns brought into their order of play, a trick at a turn. Assumes nothing.
-use Prim.Native.Nat.{ℕ, zero, suc, ◌+◌, ◌-◌, ◌%◌, ◌≤◌, ◌<◌}
+use Prim.Native.Nat.{ℕ, suc, ◌+◌, ◌%◌, ◌≤◌, ◌<◌}
 use native.Mathlib.Omega.{arith}
 use mathlib.Core.Path.{◌≡◌, refl, sym, ap, ap₂, ◌∙◌}
 use mathlib.Core.List.{List, [], ◌∷◌, ◌++◌, append_assoc, append-nil, reverse}
-use lib.Dec.{lit<}
 use lib.ListN.{length, get_or, take, drop, set, replicate, length-set, length-append, length-take, drop_of_length-le}
 use lib.Seq.{drop-cons, take_all, take_at, sets-eq}
 use Rattle.laws.specs.Cards.{clockwise}
 use Rattle.laws.specs.Law44.{winner}
-use Rattle.laws.specs.PbnOrder.{places_to, card_of, relisted, order_from, order_of_play}
+use Rattle.laws.specs.PbnOrder.{places_to, relisted, order_from, order_of_play}
 use Rattle.laws.proofs.PbnOrder.{of-seat}
 
 -- so many cards are in order, and the others follow from the trick's leader on

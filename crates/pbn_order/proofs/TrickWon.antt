@@ -1,13 +1,12 @@
 -- The winner of a trick of four cards, card by card. Assumes nothing.
 use Rattle.std.specs.Prelude.{if◌then◌else◌}
-use Prim.Native.Nat.{ℕ, ◌+◌, ◌/◌, ◌%◌, ◌≤◌, ◌<◌, max}
-use native.Mathlib.Nat.{mod-lt}
+use Prim.Native.Nat.{ℕ, ◌+◌, ◌/◌, ◌%◌, ◌<◌, max}
 use native.Mathlib.Omega.{arith}
-use mathlib.Core.Path.{◌≡◌, refl, sym, ap, ◌∙◌}
-use mathlib.Core.Bool.{Bool, true, false}
+use mathlib.Core.Path.{◌≡◌, sym, ap, ◌∙◌}
+use mathlib.Core.Bool.{true, false}
 use mathlib.Core.List.{List, [], ◌∷◌}
 use borrow.Author.Tests.{eq-eqb, ne_eqb}
-use lib.Dec.{eqb, lit<}
+use lib.Dec.{eqb}
 use Rattle.laws.specs.Choice.{some}
 use Rattle.laws.specs.Cards.{clockwise}
 use Rattle.laws.specs.Law44.{cards_played, suit_led, is_of, highest, winning_card, player_of, winner}
@@ -16,16 +15,6 @@ use Rattle.laws.proofs.Tests.{by_test}
 -- the higher of a card and the best so far, where it is of the suit
 abbrev better : ℕ → ℕ → ℕ → ℕ
 better suit card best = if is_of suit card then max card best else best
-
-module _ (suit card best : ℕ) where
-  pub other-suit : (card / 13 ≡ suit → ⊥) → best ≡ better suit card best
-  other-suit h = rw (ne_eqb (card / 13) suit h)
-
-  pub lower : card / 13 ≡ suit → card < best → best ≡ better suit card best
-  lower h k = rw (eq-eqb (card / 13) suit h) (omega arith)
-
-  pub higher : card / 13 ≡ suit → best ≤ card → card ≡ better suit card best
-  higher h k = rw (eq-eqb (card / 13) suit h) (omega arith)
 
 module _ (a b c d : ℕ) where
   abbrev trick : List ℕ

@@ -3,4 +3,4 @@
 
 mod order;
 
-pub use order::{Cards, order_of_play};
+pub use order::order_of_play;

@@ -7,13 +7,11 @@ ghost use Rattle.laws.specs.PbnOrder.{places_to, order_of_play};
 fn higher(suit: u8, card: u8, best: u8) -> u8
     ensures { result ≡ (if is_of suit card then max card best else best) }
 {
-    if card / 13 != suit {
-        return best;
+    if card / 13 == suit {
+        card.max(best)
+    } else {
+        best
     }
-    if card < best {
-        return best;
-    }
-    card
 }
 
 // The highest card of a suit in a trick, 0 for none.
@@ -72,21 +70,15 @@ fn places_to(from: u8, seat: u8) -> usize
     ((seat + 4 - from) % 4) as usize
 }
 
-// The cards of a whole play.
-#[derive(Clone, Copy)]
-pub struct Cards {
-    pub cards: [u8; 52],
-}
-
 // The order of play of cards in columns from a seat, which leads first.
-fn order_of(cards: [u8; 52], trump: u8, first: u8) -> Cards
+fn order_of(cards: [u8; 52], trump: u8, first: u8) -> [u8; 52]
     requires { first < 4 }
-    ensures { result.cards ≡ order_of_play trump first cards }
+    ensures { result ≡ order_of_play trump first cards }
 {
     let mut order = [0u8; 52];
     let mut leader = first;
-    let mut at: usize = 0;
-    while at < 52 {
+    for trick in 0..13 {
+        let at = 4 * trick;
         let a = cards[at + places_to(first, leader)];
         let b = cards[at + places_to(first, (leader + 1) % 4)];
         let c = cards[at + places_to(first, (leader + 2) % 4)];
@@ -96,14 +88,13 @@ fn order_of(cards: [u8; 52], trump: u8, first: u8) -> Cards
         order[at + 2] = c;
         order[at + 3] = d;
         leader = winner(trump, leader, a, b, c, d);
-        at += 4;
     }
-    Cards { cards: order }
+    order
 }
 
 // The order of play of cards that are listed in columns from a seat, which leads first.
-pub fn order_of_play(cards: [u8; 52], trump: u8, seat: u8) -> Cards
-    ensures { result.cards ≡ order_of_play trump (seat % 4) cards }
+pub fn order_of_play(cards: [u8; 52], trump: u8, seat: u8) -> [u8; 52]
+    ensures { result ≡ order_of_play trump (seat % 4) cards }
 {
     order_of(cards, trump, seat % 4)
 }

@@ -1,18 +1,19 @@
 -- What is printed of an input, by the way out of the code, and how long it is. Assumes nothing.
-use Prim.Native.Nat.{ℕ, zero, suc, ◌+◌, ◌*◌, ◌/◌, ◌%◌, ◌≤◌, ◌<◌}
+use Prim.Native.Nat.{ℕ, suc, ◌+◌, ◌≤◌, ◌<◌}
 use native.Mathlib.Omega.{arith}
-use mathlib.Core.Path.{◌≡◌, refl, sym, ap, ap₂, ◌∙◌}
+use mathlib.Core.Path.{◌≡◌, refl, sym, ap, ◌∙◌}
 use mathlib.Core.Bool.{Bool, true, false, ◌&&◌}
 use mathlib.Core.List.{List, [], ◌∷◌, ◌++◌}
 use borrow.Author.Tests.{eqb-true, eq-eqb, ne_eqb, lt-ltb, le-ltb, leb-true, leb-false, le-leb, lt-leb}
 use lib.Dec.{eqb, ltb, leb, lit≤}
 use lib.ListN.{length, get_or, take, drop, length-append, length-take}
 use lib.Seq.{take_at}
-use Rattle.laws.specs.Refusals.{outside_subset, refuses_game}
+use Rattle.laws.specs.Refusals.{refused_at, given, outside_subset, refuses_game}
+use Rattle.writer.specs.Answer.{written_by}
 use Rattle.laws.specs.Decimal.{decimal, last_digits, starts_with, all_digits, is_number, value, value_after}
 use Rattle.laws.specs.Record.{Parts, encode}
 use Rattle.laws.specs.Judge.{Outcome, Outcome.refused as declined, Outcome.accepted}
-use Rattle.laws.specs.Writing.{write_by, number_of, record_left}
+use Rattle.laws.specs.Writing.{write_by, record_left}
 use Rattle.laws.specs.Lent.{◌over◌}
 use Rattle.laws.specs.Sheet.{newline}
 use Rattle.laws.specs.Slip.{refusal_line}
@@ -88,57 +89,48 @@ unfolding tells_table
 tables n h = eqb-true _ _ (every_below_lem 1000 tells_table all_told n (omega arith))
 
 -- ---- a text at a table
-from_1 : (n : ℕ) → refuses_game n ≡ true → 1 ≤ n
-from_1 zero e = not_both false e refl
-from_1 (suc n) e = omega arith
-
-module _ (t : List ℕ) (table n : ℕ) (en : n ≡ number_of (read_pbn t table 505)) where
+module _ (t : List ℕ) (table : ℕ) where
   abbrev said : Outcome
   said = pbn_outcome (parse t) table
 
-  fits : (p : Parts) → pbn_outcome (parse t) table ≡ accepted p → length (encode p) ≤ 505
-  fits p e = at_most_505 p (said-lawful t table e)
+  room-is : (p : Parts) → said ≡ accepted p → ltb 505 (length (encode p)) ≡ false
+  room-is p e = le-ltb 505 (length (encode p)) (at_most_505 p (said-lawful t table e))
 
-  pub as_refusal : 1024 ≤ n → printed (pbn_outcome (parse t) table) ≡ refusal_line (n / 1024) (n % 1024)
+  pub as_refusal : {k place : ℕ} → refused_at k place ≡ written_by (read_pbn t table 505) → printed said ≡ refusal_line k place
   unfolding printed read_pbn
-  as_refusal high = go said refl
+  as_refusal {k} {place} r = go said refl
     where
-      go : (o : Outcome) → pbn_outcome (parse t) table ≡ o → printed o ≡ refusal_line (n / 1024) (n % 1024)
-      go (declined k place) e =
-          let low = (said-refused t table e).place_lt in
-          let is : n ≡ k * 1024 + place = en ∙ ap (λ o. number_of (write_by o 505)) e in
-          let first : k ≡ n / 1024 = omega arith in
-          let second : place ≡ n % 1024 = omega arith in
-          ap₂ refusal_line first second
+      go : (o : Outcome) → said ≡ o → printed o ≡ refusal_line k place
+      go (declined m at) e =
+          let f : refused_at k place ≡ refused_at m at = r ∙ ap (λ o. written_by (write_by o 505)) e in
+          let same : (m ≡ k) × (at ≡ place) = (cc, cc) in
+          rw (same.0, same.1) refl
       go (accepted p) e =
-          let is : n ≡ length (encode p) = en ∙ ap (λ o. number_of (write_by o 505)) e ∙ rw (le-ltb 505 (length (encode p)) (fits p e)) in
-          absurd (omega (arith, fits p e))
+          let f : refused_at k place ≡ given (length (encode p)) = r ∙ ap (λ o. written_by (write_by o 505)) e ∙ rw (room-is p e) refl in
+          absurd cc
 
-  pub as_record : n < 1024 → (old left : List ℕ) → left ≡ record_left (read_pbn t table 505) old → printed (pbn_outcome (parse t) table) ≡ take n left
-  unfolding printed read_pbn record_left ◌over◌
-  as_record low old left el = go said refl
-    where
-      go : (o : Outcome) → pbn_outcome (parse t) table ≡ o → printed o ≡ take n left
-      go (declined k place) e =
-          let is : n ≡ k * 1024 + place = en ∙ ap (λ o. number_of (write_by o 505)) e in
-          absurd (omega (arith, from_1 k (said-refused t table e).number))
-      go (accepted p) e =
-          let room = le-ltb 505 (length (encode p)) (fits p e) in
-          let is : n ≡ length (encode p) = en ∙ ap (λ o. number_of (write_by o 505)) e ∙ rw room in
-          let l : left ≡ encode p ++ drop (length (encode p)) old = el ∙ ap (λ o. record_left (write_by o 505) old) e ∙ rw room in
-          rw l (sym (take_at (encode p) (drop (length (encode p)) old) n (sym is)))
+  module _ {n : ℕ} (en : given n ≡ written_by (read_pbn t table 505)) where
+    -- the parts that were written
+    parts : (p : Parts) × (said ≡ accepted p) × (n ≡ length (encode p))
+    unfolding read_pbn
+    parts = go said refl
+      where
+        go : (o : Outcome) → said ≡ o → (p : Parts) × (said ≡ accepted p) × (n ≡ length (encode p))
+        go (declined m at) e = absurd (let f = en ∙ ap (λ o. written_by (write_by o 505)) e in cc)
+        go (accepted p) e =
+            let f : given n ≡ given (length (encode p)) = en ∙ ap (λ o. written_by (write_by o 505)) e ∙ rw (room-is p e) refl in
+            (p, e, cc)
 
-  pub record_low : n < 1024 → n ≤ 505
-  unfolding read_pbn
-  record_low low = go said refl
-    where
-      go : (o : Outcome) → pbn_outcome (parse t) table ≡ o → n ≤ 505
-      go (declined k place) e =
-          let is : n ≡ k * 1024 + place = en ∙ ap (λ o. number_of (write_by o 505)) e in
-          absurd (omega (arith, from_1 k (said-refused t table e).number))
-      go (accepted p) e =
-          let is : n ≡ length (encode p) = en ∙ ap (λ o. number_of (write_by o 505)) e ∙ rw (le-ltb 505 (length (encode p)) (fits p e)) in
-          omega (arith, fits p e)
+    pub as_record : (old left : List ℕ) → left ≡ record_left (read_pbn t table 505) old → printed said ≡ take n left
+    unfolding printed read_pbn record_left ◌over◌
+    as_record old left el =
+        let p = parts.0 in
+        let l : left ≡ encode p ++ drop (length (encode p)) old
+        = el ∙ ap (λ o. record_left (write_by o 505) old) parts.1 ∙ rw (room-is p parts.1) refl in
+        rw (parts.1, l) (sym (take_at (encode p) (drop (length (encode p)) old) n (sym parts.2)))
+
+    pub record_low : n ≤ 505
+    record_low = omega (arith, parts.2, at_most_505 parts.0 (said-lawful t table parts.1))
 
 -- ---- the whole input
 module _ (s : List ℕ) where

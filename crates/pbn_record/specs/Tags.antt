@@ -1,19 +1,19 @@
 -- The checks of what stands in a text up to Play's tag, and what the code says of them.
 -- Assumes nothing.
-use Rattle.std.specs.Prelude.{ℕ, not, List, eqb, if◌then◌else◌}
-use Rattle.laws.specs.Refusals.{refusal_number, outside_subset}
-use Rattle.laws.specs.Cards.{no_seat}
+use Rattle.std.specs.Prelude.{ℕ, not, List, eqb, Option, Some, None}
+use Rattle.laws.specs.Refusals.{Placed, outside_subset}
+use Rattle.laws.specs.Refused.{placed_in}
 use Rattle.laws.specs.Law2.{dealer}
 use Rattle.laws.specs.Auction.{trump_after}
-use Rattle.laws.specs.Reading.{Reading, Reading.refused, Reading.found, Reader, ◌>>=◌, ◌>>◌, give, refuse}
+use Rattle.laws.specs.Reading.{Reading, Reader, ◌>>=◌, ◌>>◌, give, refuse}
 use Rattle.laws.specs.Contents.{take_heading, take_deal, take_calls}
 use Rattle.laws.specs.PbnText.{Listed, Game}
 use Rattle.laws.specs.Pbn.{play_line, play_stands}
-use Rattle.pbn_record.specs.declared.tags.Tags.{Tags}
 
 -- how many cards Play lists, by its seat
-unfoldable pub cards_in : ℕ → ℕ
-cards_in seat = if eqb seat no_seat then 0 else 52
+abbrev pub cards_in : Option ℕ → ℕ
+cards_in None = 0
+cards_in (Some seat) = 52
 
 -- the calls and Play's tag; the history of the calls
 unfoldable pub take_auction : ℕ → List ℕ → Listed → Reader (List ℕ)
@@ -30,11 +30,6 @@ take_tags x table = do
   take_deal x.holders
   take_auction (dealer x.board) x.calls x.play
 
--- a refusal by its number
-abbrev pub no_tags : ℕ → Tags
-no_tags n = record { refusal = n; trump = 0 }
-
--- the number of the refusal, 0 for none, and the trump after the calls
-abbrev pub tags_by : Reading (List ℕ) → Tags
-tags_by (refused n place) = no_tags (refusal_number n place)
-tags_by (found h at) = record { refusal = 0; trump = trump_after h }
+-- the trump after the calls, or the first refusal with its place
+abbrev pub trump_by : Reading (List ℕ) → Placed ℕ
+trump_by r = placed_in trump_after r

@@ -1,5 +1,5 @@
 -- The turns of reading a whole text, a line each. Assumes nothing.
-use Prim.Native.Nat.{ℕ, zero, suc, ◌+◌, ◌-◌, ◌≤◌, ◌<◌, min}
+use Prim.Native.Nat.{ℕ, suc, ◌+◌, ◌-◌, ◌≤◌, ◌<◌, min}
 use native.Mathlib.Omega.{arith}
 use mathlib.Core.Path.{◌≡◌, refl, sym, ap, ◌∙◌}
 use mathlib.Core.List.{List, [], ◌∷◌}
@@ -7,21 +7,21 @@ use lib.Dec.{lit≤}
 use lib.ListN.{length, take, drop, length-drop}
 use lib.Seq.{drop-drop}
 use Rattle.laws.specs.Sheet.{newline}
-use Rattle.laws.specs.PbnText.{columns, Game}
+use Rattle.laws.specs.PbnText.{Game}
 use Rattle.laws.specs.PbnReading.{Read, misses, reads, parted_by, Stage, board, deal, auction, first_calls, calls, calls_over, cards, State, start}
-use Rattle.laws.specs.PbnReading.{line_in, outside, end_in, after_line, parse_from, parse}
+use Rattle.laws.specs.PbnReading.{line_in, end_in, after_line, parse_from, parse}
 use Rattle.laws.specs.Pbn.{last_place}
 use Rattle.laws.proofs.PbnWords.{some_part}
 use Rattle.laws.proofs.PbnStages.{Fine}
 use Rattle.laws.proofs.PbnSteps.{step_sound}
 use Rattle.laws.proofs.PbnParse.{start_fine}
 use Rattle.pbn_text.specs.declared.state.Text.{Text}
-use Rattle.pbn_text.specs.declared.text.Parsed.{Parsed}
 use Rattle.pbn_words.specs.WordNumbers.{part_length}
-use Rattle.pbn_text.specs.TextOf.{stage_of, text_of, Stepped, Lists, StepsOn}
+use Rattle.pbn_text.specs.TextOf.{text_of, kept_after, Lists, StepsOn}
 use Rattle.pbn_text.specs.ParsedAs.{ParsedAs, EndsAs}
 use Rattle.pbn_words.proofs.PartsOf.{part_within, first_part, last_part}
-use Rattle.pbn_text.proofs.WholeText.{stage_is, stage_7}
+use Rattle.std.specs.Prelude.{Option, Some, None, Result, Err}
+use Rattle.std.proofs.lemmas.Option.{none-some, same_Some}
 
 -- lines were read up to a place, and what is left gives what the whole text gives
 pub record Reached (text : List ℕ) (t : Text) (line at : ℕ) : Type 0 where
@@ -74,7 +74,7 @@ module _ (text : List ℕ) (t : Text) (line at : ℕ) (r : Reached text t line a
   end_within = omega (arith, part_within 10 (drop at text), length-drop at text, r.within)
 
   -- no newline is left
-  pub ends : end ≡ length text → (p : Parsed) → EndsAs t line (end - at) p → ParsedAs (parse text) p
+  pub ends : end ≡ length text → (p : Result Text ℕ) → EndsAs t line (end - at) p → ParsedAs (parse text) p
   ends z p f =
       let rest = drop at text in
       let all : part_length 10 rest ≡ length rest = omega (arith, length-drop at text, r.within) in
@@ -99,30 +99,30 @@ module _ (text : List ℕ) (t : Text) (line at : ℕ) (r : Reached text t line a
       r.same ∙ ap (parse_from r.state r.number) parts
       ∙ line_first r.state r.number here (parted_by newline (drop (end + 1) text)) (some_part newline (drop (end + 1) text))
 
-  module _ (more : end ≡ length text → ⊥) (next : Text) (step : StepsOn t here next) where
-    stepped : Stepped (line_in r.state.stage r.state.game here) next
+  module _ (more : end ≡ length text → ⊥) (read : Option Text) (step : StepsOn t here read) where
+    stepped : read ≡ kept_after (line_in r.state.stage r.state.game here)
     stepped = step r.state.stage r.state.game r.kept (lists r.state.stage r.state.game r.fine)
 
-    pub stops : next.stage ≡ 7 → ParsedAs (parse text) (record { line = line; text = next })
+    pub stops : read ≡ None → ParsedAs (parse text) (Err line)
     stops z = go (line_in r.state.stage r.state.game here) stepped (goes more)
       where
-        go : (o : Read State) → Stepped o next
+        go : (o : Read State) → read ≡ kept_after o
             → parse text ≡ after_line r.number o (λ s. parse_from s (suc r.number) (parted_by newline (drop (end + 1) text)))
-            → ParsedAs (parse text) (record { line = line; text = next })
+            → ParsedAs (parse text) (Err line)
         go misses st q = rw q (r.line-is, r.from)
-        go (reads s) st q = absurd (stage_7 s.stage (sym (stage_is next s st) ∙ z))
+        go (reads s) st q = absurd (none-some _ (sym z ∙ st))
 
-    pub on : (next.stage ≡ 7 → ⊥) → (k : ℕ) → k ≡ min (suc line) last_place → Reached text next k (end + 1)
-    on z k f = go (line_in r.state.stage r.state.game here) refl stepped (goes more)
+    pub on : (next : Text) → read ≡ Some next → (k : ℕ) → k ≡ min (line + 1) last_place → Reached text next k (end + 1)
+    on next z k f = go (line_in r.state.stage r.state.game here) refl stepped (goes more)
       where
-        go : (o : Read State) → line_in r.state.stage r.state.game here ≡ o → Stepped o next
+        go : (o : Read State) → line_in r.state.stage r.state.game here ≡ o → read ≡ kept_after o
             → parse text ≡ after_line r.number o (λ s. parse_from s (suc r.number) (parted_by newline (drop (end + 1) text))) → Reached text next k (end + 1)
-        go misses i st q = absurd (z st)
+        go misses i st q = absurd (none-some next (sym st ∙ z))
         go (reads s) i st q =
             record {
               state = s;
               number = suc r.number;
-              kept = st;
+              kept = same_Some _ _ (sym z ∙ st);
               fine = (step_sound r.state.stage r.state.game here s r.fine i).fine;
               line-is = omega (arith, f, r.line-is);
               from = omega arith;

@@ -1,34 +1,36 @@
--- What the code keeps of what was read of a text: the stage as a number, calls and cards as far as there is room. Assumes nothing.
-use Rattle.std.specs.Prelude.{ℕ, ◌≡◌, List, []}
-use Rattle.laws.specs.Cards.{no_seat}
+-- What the code keeps of what was read of a text: its stage, calls and cards as far as there is room. Assumes nothing.
+use Rattle.std.specs.Prelude.{ℕ, ◌≡◌, List, [], Option, Some, None}
 use Rattle.laws.specs.PbnText.{Listed, absent, columns, Game}
-use Rattle.laws.specs.PbnReading.{Read, misses, reads, Stage, board, deal, auction, first_calls, calls, calls_over, cards, State, line_in}
+use Rattle.laws.specs.PbnReading.{Read, misses, reads, board, deal, auction, first_calls, calls, calls_over, cards, State, line_in}
+use Rattle.laws.specs.PbnReading as Reading
+use Rattle.pbn_text.specs.declared.state.Stage.{Stage}
+use Rattle.pbn_text.specs.declared.state.Stage.TheVariants.{Board, Deal, Auction, FirstCalls, Calls, CallsOver, Cards}
 use Rattle.pbn_text.specs.declared.state.Text.{Text}
 use Rattle.pbn_text.specs.Kept.{kept_of}
 
--- the stage, and the lines of cards that are left
-abbrev pub stage_of : Stage → ℕ
-stage_of board = 0
-stage_of deal = 1
-stage_of auction = 2
-stage_of first_calls = 3
-stage_of calls = 4
-stage_of calls_over = 5
-stage_of (cards n) = 6
+-- the stage as the code has it, and the stage that the code means
+abbrev pub stage_of : Reading.Stage → Stage
+stage_of board = Board
+stage_of deal = Deal
+stage_of auction = Auction
+stage_of first_calls = FirstCalls
+stage_of calls = Calls
+stage_of calls_over = CallsOver
+stage_of (cards n) = Cards n
 
-abbrev pub rows_of : Stage → ℕ
-rows_of board = 0
-rows_of deal = 0
-rows_of auction = 0
-rows_of first_calls = 0
-rows_of calls = 0
-rows_of calls_over = 0
-rows_of (cards n) = n
+abbrev pub stage_in : Stage → Reading.Stage
+stage_in Board = board
+stage_in Deal = deal
+stage_in Auction = auction
+stage_in FirstCalls = first_calls
+stage_in Calls = calls
+stage_in CallsOver = calls_over
+stage_in (Cards n) = cards n
 
--- Play's seat, no seat where there is no Play, and its cards
-abbrev pub seat_of : Listed → ℕ
-seat_of absent = no_seat
-seat_of (columns seat listed) = seat
+-- Play's seat, none where there is no Play, and its cards
+abbrev pub seat_of : Listed → Option ℕ
+seat_of absent = None
+seat_of (columns seat listed) = Some seat
 
 abbrev pub listed_of : Listed → List ℕ
 listed_of absent = []
@@ -38,7 +40,6 @@ unfoldable pub text_of : State → Text
 text_of s =
     record {
       stage = stage_of s.stage;
-      rows = rows_of s.stage;
       board = s.game.board;
       caller = s.game.caller;
       seat = seat_of s.game.play;
@@ -47,31 +48,13 @@ text_of s =
       cards = kept_of (listed_of s.game.play);
     }
 
--- the stage of a text whose reading stopped
-abbrev pub stopped : ℕ
-stopped = 7
-
 -- what is kept after a line
-abbrev pub Stepped : Read State → Text → Type 0
-Stepped misses t = t.stage ≡ stopped
-Stepped (reads s) t = t ≡ text_of s
-
--- a text with another stage
-abbrev pub at_stage : Text → ℕ → ℕ → Text
-at_stage t stage rows =
-    record {
-      stage = stage;
-      rows = rows;
-      board = t.board;
-      caller = t.caller;
-      seat = t.seat;
-      holders = t.holders;
-      calls = t.calls;
-      cards = t.cards;
-    }
+abbrev pub kept_after : Read State → Option Text
+kept_after misses = None
+kept_after (reads s) = Some (text_of s)
 
 -- at a line of cards Play lists some
-abbrev pub Lists : Stage → Game → Type 0
+abbrev pub Lists : Reading.Stage → Game → Type 0
 Lists board x = Unit {0}
 Lists deal x = Unit {0}
 Lists auction x = Unit {0}
@@ -81,6 +64,6 @@ Lists calls_over x = Unit {0}
 Lists (cards n) x = (seat : ℕ) × (listed : List ℕ) × (x.play ≡ columns seat listed)
 
 -- what the code keeps after a line of any stage
-abbrev pub StepsOn : Text → List ℕ → Text → Type 0
+abbrev pub StepsOn : Text → List ℕ → Option Text → Type 0
 StepsOn t line r =
-    (stage : Stage) (x : Game) → t ≡ text_of (record { stage = stage; game = x }) → Lists stage x → Stepped (line_in stage x line) r
+    (stage : Reading.Stage) (x : Game) → t ≡ text_of (record { stage = stage; game = x }) → Lists stage x → r ≡ kept_after (line_in stage x line)

@@ -4,6 +4,7 @@ ghost use Rattle.pbn_text.specs.Kept.{kept_of};
 
 use pbn_words::Row;
 
+// They stand in an array with their count beside: a rule of the project (no heap, fixed memory).
 #[derive(Clone, Copy)]
 pub struct Numbers {
     pub count: usize,
@@ -15,27 +16,21 @@ pub(crate) fn no_numbers() -> Numbers
 {
     Numbers {
         count: 0,
-        numbers: [0u8; 511],
+        numbers: [0; 511],
     }
 }
 
 // One number more.
-fn with_number(kept: Numbers, number: u8) -> Numbers
+fn with_number(mut kept: Numbers, number: u8) -> Numbers
     ensures { (l : List ℕ) → kept ≡ kept_of l → result ≡ kept_of (l ++ (number ∷ [])) }
 {
-    let count = kept.count;
-    let mut numbers = kept.numbers;
-    if 511 <= count {
-        return Numbers {
-            count: 512,
-            numbers,
-        };
+    if 511 <= kept.count {
+        kept.count = 512;
+        return kept;
     }
-    numbers[count] = number;
-    Numbers {
-        count: count + 1,
-        numbers,
-    }
+    kept.numbers[kept.count] = number;
+    kept.count += 1;
+    kept
 }
 
 // The numbers of a row more.
@@ -43,12 +38,9 @@ pub(crate) fn with_row(kept: Numbers, row: Row) -> Numbers
     requires { row.count ≤ 4 }
     ensures { (l : List ℕ) → kept ≡ kept_of l → result ≡ kept_of (l ++ take row.count row.numbers) }
 {
-    let numbers = row.numbers;
     let mut all = kept;
-    let mut i: usize = 0;
-    while i < row.count {
-        all = with_number(all, numbers[i]);
-        i += 1;
+    for number in &row.numbers[..row.count] {
+        all = with_number(all, *number);
     }
     all
 }

@@ -1,191 +1,123 @@
-// What was read of a text, line by line.
+// What was read of a text, line by line. A line where the reading stops leaves nothing.
 ghost use Rattle.std.specs.Prelude.{◌≡◌, List, ℕ};
 ghost use Rattle.laws.specs.PbnText.{columns, Game};
-ghost use Rattle.laws.specs.PbnReading.{Stage, board, deal, auction, cards, calls_in, play_in, line_in};
-ghost use Rattle.pbn_text.specs.TextOf.{text_of, at_stage, Stepped};
+ghost use Rattle.laws.specs.PbnReading.{Stage as Laws, board, deal, auction, cards, calls_in, play_in, line_in};
+ghost use Rattle.pbn_text.specs.TextOf.{text_of, kept_after};
 
 use crate::numbers::{Numbers, no_numbers, with_row};
 use pbn_deal::deal_in;
-use pbn_words::{NO_NUMBER, board_in, row_in, seat_in};
+use pbn_words::{board_in, row_in, seat_in};
 
-// The stage: 0 to 2 for Board, Deal and Auction, 3 before the first line of calls, 4 after full lines of them, 5 after a last one of fewer, 6 for lines of
-// cards, of which `rows` are left, and 7 where the reading stopped. Play's seat is 4 where there is no Play.
+// What the next line is: Board, Deal or Auction; the first line of calls, one after full lines of them, or what follows a last one of fewer; or a line of
+// cards, of which so many are left.
+#[derive(Clone, Copy, Debug, PartialEq, Eq)]
+pub(crate) enum Stage {
+    Board,
+    Deal,
+    Auction,
+    FirstCalls,
+    Calls,
+    CallsOver,
+    Cards { rows: usize },
+}
+
+// What was read so far; no seat where there is no Play.
 #[derive(Clone, Copy)]
 pub(crate) struct Text {
-    pub stage: u8,
-    pub rows: usize,
+    pub stage: Stage,
     pub board: u32,
     pub caller: u8,
-    pub seat: u8,
+    pub seat: Option<u8>,
     pub holders: [u8; 52],
     pub calls: Numbers,
     pub cards: Numbers,
 }
 
-// The text with another stage.
-fn at_stage(t: Text, stage: u8, rows: usize) -> Text
-    ensures { result ≡ at_stage t stage rows }
-{
-    let holders = t.holders;
-    let calls = t.calls;
-    let cards = t.cards;
-    Text {
-        stage,
-        rows,
-        board: t.board,
-        caller: t.caller,
-        seat: t.seat,
-        holders,
-        calls,
-        cards,
-    }
-}
-
 // The Board line.
-pub(crate) fn board_line(t: Text, line: &[u8]) -> Text
-    ensures { (x : Game) → t ≡ text_of (record { stage = board; game = x }) → Stepped (line_in board x line.now) result }
+pub(crate) fn board_line(t: Text, line: &[u8]) -> Option<Text>
+    ensures { (x : Game) → t ≡ text_of (record { stage = board; game = x }) → result ≡ kept_after (line_in board x line.now) }
 {
-    let board = board_in(line);
-    if board == 0 {
-        return at_stage(t, 7, 0);
-    }
-    let holders = t.holders;
-    let calls = t.calls;
-    let cards = t.cards;
-    Text {
-        stage: 1,
-        rows: 0,
+    let board = board_in(line)?;
+    Some(Text {
+        stage: Stage::Deal,
         board,
-        caller: t.caller,
-        seat: t.seat,
-        holders,
-        calls,
-        cards,
-    }
+        ..t
+    })
 }
 
 // The Deal line.
-pub(crate) fn deal_line(t: Text, line: &[u8]) -> Text
-    ensures { (x : Game) → t ≡ text_of (record { stage = deal; game = x }) → Stepped (line_in deal x line.now) result }
+pub(crate) fn deal_line(t: Text, line: &[u8]) -> Option<Text>
+    ensures { (x : Game) → t ≡ text_of (record { stage = deal; game = x }) → result ≡ kept_after (line_in deal x line.now) }
 {
-    let dealt = deal_in(line);
-    if dealt.first == 4 {
-        return at_stage(t, 7, 0);
-    }
+    let dealt = deal_in(line)?;
     let holders = dealt.holders;
-    let calls = t.calls;
-    let cards = t.cards;
-    Text {
-        stage: 2,
-        rows: 0,
-        board: t.board,
-        caller: t.caller,
-        seat: t.seat,
+    Some(Text {
+        stage: Stage::Auction,
         holders,
-        calls,
-        cards,
-    }
+        ..t
+    })
 }
 
 // The Auction tag.
-pub(crate) fn auction_line(t: Text, line: &[u8]) -> Text
-    ensures { (x : Game) → t ≡ text_of (record { stage = auction; game = x }) → Stepped (line_in auction x line.now) result }
+pub(crate) fn auction_line(t: Text, line: &[u8]) -> Option<Text>
+    ensures { (x : Game) → t ≡ text_of (record { stage = auction; game = x }) → result ≡ kept_after (line_in auction x line.now) }
 {
-    let caller = seat_in(line, b"[Auction \"");
-    if caller == NO_NUMBER {
-        return at_stage(t, 7, 0);
-    }
-    let holders = t.holders;
-    let calls = t.calls;
-    let cards = t.cards;
-    Text {
-        stage: 3,
-        rows: 0,
-        board: t.board,
+    let caller = seat_in(line, b"[Auction \"")?;
+    Some(Text {
+        stage: Stage::FirstCalls,
         caller,
-        seat: t.seat,
-        holders,
-        calls,
-        cards,
-    }
+        ..t
+    })
 }
 
 // The Play tag.
-pub(crate) fn play_line(t: Text, line: &[u8]) -> Text
-    ensures { (stage : Stage) (x : Game) → t ≡ text_of (record { stage = stage; game = x }) → Stepped (play_in x line.now) result }
+pub(crate) fn play_line(t: Text, line: &[u8]) -> Option<Text>
+    ensures { (stage : Laws) (x : Game) → t ≡ text_of (record { stage = stage; game = x }) → result ≡ kept_after (play_in x line.now) }
 {
-    let seat = seat_in(line, b"[Play \"");
-    if seat == NO_NUMBER {
-        return at_stage(t, 7, 0);
-    }
-    let holders = t.holders;
-    let calls = t.calls;
-    let cards = no_numbers();
-    Text {
-        stage: 6,
-        rows: 13,
-        board: t.board,
-        caller: t.caller,
-        seat,
-        holders,
-        calls,
-        cards,
-    }
+    let seat = seat_in(line, b"[Play \"")?;
+    Some(Text {
+        stage: Stage::Cards { rows: 13 },
+        seat: Some(seat),
+        cards: no_numbers(),
+        ..t
+    })
 }
 
 // A line of calls.
-pub(crate) fn calls_line(t: Text, line: &[u8]) -> Text
-    ensures { (stage : Stage) (x : Game) → t ≡ text_of (record { stage = stage; game = x }) → Stepped (calls_in x line.now) result }
+pub(crate) fn calls_line(t: Text, line: &[u8]) -> Option<Text>
+    ensures { (stage : Laws) (x : Game) → t ≡ text_of (record { stage = stage; game = x }) → result ≡ kept_after (calls_in x line.now) }
 {
-    let row = row_in(line, false);
-    if row.count == 0 {
-        return at_stage(t, 7, 0);
-    }
-    let before = t.calls;
-    let holders = t.holders;
-    let calls = with_row(before, row);
-    let cards = t.cards;
-    let next = Text {
-        stage: 5,
-        rows: 0,
-        board: t.board,
-        caller: t.caller,
-        seat: t.seat,
-        holders,
-        calls,
-        cards,
-    };
+    let row = row_in(line, false)?;
+    let calls = with_row(t.calls, row);
     if row.count == 4 {
-        return at_stage(next, 4, 0);
+        return Some(Text {
+            stage: Stage::Calls,
+            calls,
+            ..t
+        });
     }
-    next
+    Some(Text {
+        stage: Stage::CallsOver,
+        calls,
+        ..t
+    })
 }
 
-// A line of cards.
-pub(crate) fn cards_line(t: Text, line: &[u8]) -> Text
-    ensures { (n : ℕ) (x : Game) (seat : ℕ) (l : List ℕ) → t ≡ text_of (record { stage = cards n; game = x }) → x.play ≡ columns seat l
-        → Stepped (line_in (cards n) x line.now) result }
+// A line of cards, of which so many are left.
+pub(crate) fn cards_line(t: Text, rows: usize, line: &[u8]) -> Option<Text>
+    ensures { (x : Game) (seat : ℕ) (l : List ℕ) → t ≡ text_of (record { stage = cards rows; game = x }) → x.play ≡ columns seat l
+        → result ≡ kept_after (line_in (cards rows) x line.now) }
 {
-    let rows = t.rows;
     if rows == 0 {
-        return at_stage(t, 7, 0);
+        return None;
     }
-    let row = row_in(line, true);
+    let row = row_in(line, true)?;
     if row.count != 4 {
-        return at_stage(t, 7, 0);
+        return None;
     }
-    let before = t.cards;
-    let holders = t.holders;
-    let calls = t.calls;
-    let cards = with_row(before, row);
-    Text {
-        stage: 6,
-        rows: rows - 1,
-        board: t.board,
-        caller: t.caller,
-        seat: t.seat,
-        holders,
-        calls,
-        cards,
-    }
+    Some(Text {
+        stage: Stage::Cards { rows: rows - 1 },
+        cards: with_row(t.cards, row),
+        ..t
+    })
 }

@@ -1,95 +1,70 @@
 // A whole text, line by line.
 ghost use Rattle.std.specs.Prelude.{◌≡◌, suc, min};
-ghost use Rattle.laws.specs.PbnText.{Game};
-ghost use Rattle.laws.specs.PbnReading.{Stage, start, may_end, parse};
-ghost use Rattle.laws.specs.Pbn.{last_place};
-ghost use Rattle.pbn_text.specs.TextOf.{text_of};
+ghost use Rattle.laws.specs.PbnReading.{start, may_end, parse};
+ghost use Rattle.pbn_text.specs.TextOf.{stage_in, text_of};
 ghost use Rattle.pbn_text.specs.ParsedAs.{ParsedAs, EndsAs};
 
 use crate::lines::line_in;
 use crate::numbers::no_numbers;
-use crate::state::Text;
+use crate::state::{Stage, Text};
 use pbn_words::part_end;
-
-// The line where the reading stopped, at most 1023; 0 where the text was read whole.
-#[derive(Clone, Copy)]
-pub(crate) struct Parsed {
-    pub line: u32,
-    pub text: Text,
-}
 
 fn start_text() -> Text
     ensures { result ≡ text_of start }
 {
-    let calls = no_numbers();
-    let cards = no_numbers();
     Text {
-        stage: 0,
-        rows: 0,
+        stage: Stage::Board,
         board: 1,
         caller: 0,
-        seat: 4,
-        holders: [0u8; 52],
-        calls,
-        cards,
+        seat: None,
+        holders: [0; 52],
+        calls: no_numbers(),
+        cards: no_numbers(),
     }
 }
 
-fn may_end(t: Text) -> bool
-    ensures { (stage : Stage) (x : Game) → t ≡ text_of (record { stage = stage; game = x }) → result ≡ may_end stage }
+fn may_end(stage: Stage) -> bool
+    ensures { result ≡ may_end (stage_in stage) }
 {
-    if t.stage == 4 {
-        return true;
+    match stage {
+        Stage::Calls | Stage::CallsOver => true,
+        Stage::Cards { rows } => rows == 0,
+        _ => false,
     }
-    if t.stage == 5 {
-        return true;
-    }
-    if t.stage == 6 {
-        return t.rows == 0;
-    }
-    false
 }
 
-fn next_line(line: u32) -> u32
-    ensures { result ≡ min (suc line) last_place }
-{
-    if 1023 <= line {
-        return 1023;
-    }
-    line + 1
-}
-
-// The text ends here, with so many bytes after its last newline.
-fn ended(t: Text, line: u32, rest: usize) -> Parsed
+// The text ends here, with so many bytes after its last newline: what was read, or the line where it stopped.
+fn ended(t: Text, line: u32, rest: usize) -> Result<Text, u32>
     ensures { EndsAs t line rest result }
 {
     if rest != 0 {
-        return Parsed { line, text: t };
+        return Err(line);
     }
-    if may_end(t) {
-        return Parsed { line: 0, text: t };
+    if may_end(t.stage) {
+        return Ok(t);
     }
-    Parsed { line, text: t }
+    Err(line)
 }
 
-// What stands in a text.
-pub(crate) fn read_text(text: &[u8]) -> Parsed
+// What stands in a text, or the line where the reading stopped, at most 1023.
+pub(crate) fn read_text(text: &[u8]) -> Result<Text, u32>
     ensures { ParsedAs (parse text.now) result }
 {
     let mut t = start_text();
     let mut line: u32 = 1;
     let mut at: usize = 0;
+    // `part_end` tells where each line ends: no place is counted by hand.
     while at <= text.len() {
-        let end = part_end(text, at, 10);
+        let end = part_end(text, at, b'\n');
         if end == text.len() {
             return ended(t, line, end - at);
         }
-        t = line_in(t, &text[at..end]);
-        if t.stage == 7 {
-            return Parsed { line, text: t };
-        }
+        let Some(next) = line_in(t, &text[at..end]) else {
+            return Err(line);
+        };
+        t = next;
         at = end + 1;
-        line = next_line(line);
+        line = (line + 1).min(1023);
     }
-    Parsed { line, text: t }
+    Err(line)
 }

@@ -1,21 +1,20 @@
 -- The Board line: its digits say the board whose line it is. Assumes nothing.
-use Rattle.std.specs.Prelude.{if◌then◌else◌}
-use Prim.Native.Nat.{ℕ, zero, suc, ◌+◌, ◌-◌, ◌*◌, ◌/◌, ◌%◌, ◌≤◌, ◌<◌}
+use Prim.Native.Nat.{ℕ, zero, suc, ◌+◌, ◌*◌, ◌/◌, ◌%◌, ◌≤◌, ◌<◌}
 use native.Mathlib.Omega.{arith}
 use mathlib.Core.Path.{◌≡◌, refl, sym, ap, ap₂, ◌∙◌}
-use mathlib.Core.Bool.{Bool, true, false, ◌&&◌}
+use mathlib.Core.Bool.{true, false, ◌&&◌}
 use mathlib.Core.List.{List, [], ◌∷◌, ◌++◌}
 use borrow.Author.Tests.{eqb-true, lt-ltb, le-ltb, ne_eqb}
 use lib.Dec.{eqb}
-use lib.ListN.{length, get_or, take, drop}
+use lib.ListN.{length, take, drop}
 use Rattle.laws.specs.Decimal.{digit, last_digits, decimal}
 use Rattle.laws.specs.PbnText.{board_tag, tag_end, board_line}
-use Rattle.laws.specs.PbnReading.{Read, misses, reads, on_read, same_bytes, number_of, board_in}
+use Rattle.laws.specs.PbnReading.{Read, misses, reads, same_bytes, number_of, board_in}
 use Rattle.laws.proofs.Counts.{every_below, every_below_lem}
 use Rattle.laws.proofs.PbnWords.{reads_same, first_read, number_sound, number-whole, same_true, same_self}
 use Rattle.laws.proofs.PbnLines.{boards-apart}
-use Rattle.laws.proofs.Tests.{not_both}
-use Rattle.pbn_words.specs.WordNumbers.{read_or, value_at, board_said}
+use Rattle.std.specs.Prelude.{Some, None}
+use Rattle.pbn_words.specs.WordNumbers.{if_read, value_at, board_said}
 use Rattle.pbn_words.proofs.TagLines.{same_append}
 
 -- ---- what the digits say
@@ -102,17 +101,17 @@ is-line line n e =
     rw (← z) (sym (ap board_said k.1 ∙ same), omega arith, k.0, k.1)
 
 module _ (line : List ℕ) (n : ℕ) (e : n ≡ board_said line) where
-  pub none : (1 ≤ n → n ≤ 999 → same_bytes (board_line n) line ≡ true → ⊥) → 0 ≡ read_or 0 (board_in line)
+  pub none : (1 ≤ n → n ≤ 999 → same_bytes (board_line n) line ≡ true → ⊥) → None ≡ if_read (board_in line)
   none h = go (board_in line) refl
     where
-      go : (r : Read ℕ) → board_in line ≡ r → 0 ≡ read_or 0 r
+      go : (r : Read ℕ) → board_in line ≡ r → None ≡ if_read r
       go misses q = refl
       go (reads k) q =
           let w = is-line line k q in
           let same : n ≡ k = e ∙ sym w.0 in
           absurd (h (omega (arith, w.1)) (omega (arith, w.2)) (rw (w.3, same) (same_self (board_line k))))
 
-pub found : (line : List ℕ) (n : ℕ) → (n ≡ 0 → ⊥) → n ≤ 999 → same_bytes (board_line n) line ≡ true → n ≡ read_or 0 (board_in line)
+pub found : (line : List ℕ) (n : ℕ) → (n ≡ 0 → ⊥) → n ≤ 999 → same_bytes (board_line n) line ≡ true → Some n ≡ if_read (board_in line)
 unfolding board_in
 found line zero some to q = absurd (some refl)
 found line (suc m) some to q =

@@ -1,35 +1,21 @@
 -- The parts of bytes between those that part them: the first part, and the parts after it. Assumes nothing.
-use Rattle.std.specs.Prelude.{if◌then◌else◌}
-use Prim.Native.Nat.{ℕ, zero, suc, ◌+◌, ◌≤◌, ◌<◌}
-use native.Mathlib.Numerals.{add-one}
+use Prim.Native.Nat.{ℕ, suc, ◌≤◌, ◌<◌}
 use native.Mathlib.Omega.{arith}
-use mathlib.Core.Path.{◌≡◌, refl, sym, ap, ◌∙◌}
+use mathlib.Core.Path.{◌≡◌, refl, ◌∙◌}
 use mathlib.Core.Bool.{true, false}
 use mathlib.Core.List.{List, [], ◌∷◌}
-use borrow.Author.Tests.{eq-eqb, ne_eqb}
-use lib.Dec.{eqb}
-use lib.ListN.{length, get_or, take, drop, drop_of_length-le}
-use lib.Seq.{drop-cons}
+use borrow.Author.Tests.{ltb-false}
+use lib.Dec.{eqb, ltb}
+use lib.ListN.{length, take, drop, drop_of_length-le}
 use Rattle.laws.specs.Sheet.{before}
 use Rattle.laws.specs.PbnReading.{parted_by}
 use Rattle.laws.proofs.Tests.{by_test}
+use Rattle.std.specs.List.{position_or_len}
+use Rattle.std.specs.Prelude.{Option, Some, None, cond}
+use Rattle.std.specs.Option.{unwrap_or}
 use Rattle.pbn_words.specs.WordNumbers.{part_length}
 
 module _ (byte : ℕ) where
-  -- ---- the end of a part, looked for from a place on
-  module _ (s : List ℕ) (i : ℕ) where
-    pub at_byte : i < length s → get_or s i 0 ≡ byte → part_length byte (drop i s) ≡ 0
-    unfolding part_length
-    at_byte h e = rw (drop-cons s i 0 h, eq-eqb (get_or s i 0) byte e)
-
-    pub past : i < length s → (get_or s i 0 ≡ byte → ⊥) → part_length byte (drop i s) ≡ 1 + part_length byte (drop (i + 1) s)
-    unfolding part_length
-    past h f = rw (add-one i, drop-cons s i 0 h, ne_eqb (get_or s i 0) byte f) (omega arith)
-
-    pub at_end : length s ≤ i → part_length byte (drop i s) ≡ 0
-    unfolding part_length
-    at_end h = rw (drop_of_length-le s h)
-
   -- a part ends within the bytes
   pub part_within : (s : List ℕ) → part_length byte s ≤ length s
   unfolding part_length
@@ -38,6 +24,29 @@ module _ (byte : ℕ) where
       by_test (eqb b byte)
       (λ (q : eqb b byte ≡ true). rw q (omega arith))
       (λ (q : eqb b byte ≡ false). rw q (omega (arith, part_within s)))
+
+  -- ---- the end of a part: the place of the first such byte
+  pub first_place : (s : List ℕ) → position_or_len (λ (b : ℕ). eqb b byte) s ≡ part_length byte s
+  unfolding part_length
+  first_place [] = refl
+  first_place (b ∷ s) =
+      by_test (eqb b byte)
+      (λ (q : eqb b byte ≡ true). rw q)
+      (λ (q : eqb b byte ≡ false). rw q (omega (arith, first_place s)))
+
+  pub place_or_end : (s : List ℕ) {r : Option ℕ} {n : ℕ}
+      → r ≡ cond (ltb (position_or_len (λ (b : ℕ). eqb b byte) s) (length s)) (Some (position_or_len (λ (b : ℕ). eqb b byte) s)) None
+      → n ≡ unwrap_or r (length s) → n ≡ part_length byte s
+  place_or_end s {r} {n} e u =
+      by_test (ltb (position_or_len (λ (b : ℕ). eqb b byte) s) (length s))
+      (λ (q : ltb (position_or_len (λ (b : ℕ). eqb b byte) s) (length s) ≡ true). u ∙ rw (e, q) (first_place s))
+      (λ (q : ltb (position_or_len (λ (b : ℕ). eqb b byte) s) (length s) ≡ false).
+      let some = ltb-false _ _ q in
+      u ∙ rw (e, q) (omega (arith, first_place s, part_within s)))
+
+  pub behind_end : (s : List ℕ) (i : ℕ) → length s ≤ i → part_length byte (drop i s) ≡ 0
+  unfolding part_length
+  behind_end s i h = rw (drop_of_length-le s h)
 
   -- ---- the first part, and the others
   pub first_part : (s : List ℕ) → part_length byte s < length s

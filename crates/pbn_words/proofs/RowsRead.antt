@@ -1,20 +1,21 @@
 -- A line of words read word by word: what was read so far with what the rest of the line gives is what the whole line gives. Assumes nothing.
-use Rattle.std.specs.Prelude.{if◌then◌else◌}
-use Prim.Native.Nat.{ℕ, zero, suc, ◌+◌, ◌-◌, ◌≤◌, ◌<◌}
+use Prim.Native.Nat.{ℕ, suc, ◌+◌, ◌-◌, ◌≤◌, ◌<◌}
 use native.Mathlib.Omega.{arith}
 use mathlib.Core.Path.{◌≡◌, refl, sym, ap, ap₂, ◌∙◌}
 use mathlib.Core.Bool.{Bool, true, false}
-use mathlib.Core.List.{List, [], ◌∷◌, ◌++◌, append_assoc, append-nil}
+use mathlib.Core.List.{List, [], ◌∷◌, ◌++◌, append_assoc}
 use borrow.Author.Tests.{le-ltb, lt-ltb, eqb-true, eqb-false}
-use lib.Dec.{ltb, eqb, lit<}
+use lib.Dec.{ltb, eqb}
 use lib.ListN.{length, take, drop, set, replicate, length-append, length-drop}
 use lib.Seq.{set_at, drop-drop, take_all}
 use Rattle.laws.specs.PbnText.{space}
-use Rattle.laws.specs.PbnReading.{Read, misses, reads, on_read, number_of, numbers_of, parted_by}
+use Rattle.laws.specs.PbnReading.{Read, misses, reads, on_read, numbers_of}
 use Rattle.laws.proofs.Tests.{by_test}
-use Rattle.laws.proofs.PbnWords.{number_sound, row_sound}
-use Rattle.pbn_words.specs.WordNumbers.{no_number, read_or, word_of, words, word_in, part_length}
-use Rattle.pbn_words.specs.RowNumbers.{row_on, no_row, row_by}
+use Rattle.laws.proofs.PbnWords.{row_sound}
+use Rattle.std.specs.Prelude.{Option, Some, None}
+use Rattle.std.proofs.lemmas.Option.{none-some, same_Some}
+use Rattle.pbn_words.specs.WordNumbers.{if_read, word_of, words, word_in, part_length}
+use Rattle.pbn_words.specs.RowNumbers.{row_on, row_by}
 use Rattle.pbn_words.specs.declared.rows.Row.{Row}
 use Rattle.pbn_words.proofs.PartsOf.{part_within, first_part, last_part}
 
@@ -39,24 +40,14 @@ pub begins : (line : List ℕ) (cards : Bool) → Reached line cards (replicate 
 begins line cards =
     record { before = []; as_many = refl; few = omega arith; padded = refl; within = omega arith; same = prefixed_none (row_on cards line) }
 
--- ---- what a word says: a number below 63, or nothing
-words-few : (cards : Bool) → words cards < no_number
-words-few true = lit< tt
-words-few false = lit< tt
+-- ---- what is read, as the code answers it
+pub says_nothing : {A : Type 0} (o : Read A) {r : Option A} → r ≡ if_read o → r ≡ None → o ≡ misses
+says_nothing misses e z = refl
+says_nothing (reads k) e z = absurd (none-some k (sym z ∙ e))
 
-pub says_nothing : (cards : Bool) (word : List ℕ) (n : ℕ) → n ≡ read_or no_number (word_in cards word) → n ≡ no_number → word_in cards word ≡ misses
-says_nothing cards word n e z = go (word_in cards word) refl e
-  where
-    go : (r : Read ℕ) → word_in cards word ≡ r → n ≡ read_or no_number r → word_in cards word ≡ misses
-    go misses q e = q
-    go (reads k) q e = absurd (omega (arith, (number_sound (word_of cards) (words cards) word k q).0, words-few cards))
-
-pub says : (cards : Bool) (word : List ℕ) (n : ℕ) → n ≡ read_or no_number (word_in cards word) → (n ≡ no_number → ⊥) → word_in cards word ≡ reads n
-says cards word n e z = go (word_in cards word) refl e
-  where
-    go : (r : Read ℕ) → word_in cards word ≡ r → n ≡ read_or no_number r → word_in cards word ≡ reads n
-    go misses q e = absurd (z e)
-    go (reads k) q e = q ∙ ap reads (sym e)
+pub says : {A : Type 0} (o : Read A) {r : Option A} {a : A} → r ≡ if_read o → r ≡ Some a → o ≡ reads a
+says misses {r} {a} e z = absurd (none-some a (sym e ∙ z))
+says (reads k) {r} {a} e z = ap reads (same_Some k a (sym e ∙ z))
 
 -- ---- the first word of what is left of the line
 module _ (line : List ℕ) (cards : Bool) (at end : ℕ) (inside : at ≤ length line) (e : end ≡ at + part_length space (drop at line)) where
@@ -106,29 +97,30 @@ module _ (line : List ℕ) (cards : Bool) (numbers : List ℕ) (count at : ℕ) 
   some_number : (s row : List ℕ) → row_on cards s ≡ reads row → 1 ≤ length row
   some_number s row e = (row_sound (word_of cards) (words cards) s row e).1
 
-  pub too_many : (count < 4 → ⊥) → no_row ≡ row_by (row_on cards line)
+  pub too_many : (count < 4 → ⊥) → None ≡ row_by (row_on cards line)
   unfolding row_by
   too_many h = go (row_on cards (drop at line)) refl r.same
     where
-      go : (o : Read (List ℕ)) → row_on cards (drop at line) ≡ o → row_on cards line ≡ prefixed r.before o → no_row ≡ row_by (row_on cards line)
+      go : (o : Read (List ℕ)) → row_on cards (drop at line) ≡ o → row_on cards line ≡ prefixed r.before o → None ≡ row_by (row_on cards line)
       go misses q w = rw w
       go (reads row) q w =
           let many : 4 < length (r.before ++ row)
           = omega (arith, length-append r.before row, some_number (drop at line) row q, r.as_many, r.few, r.within) in
           rw (w, lt-ltb 4 (length (r.before ++ row)) many)
 
-  module _ (end n : ℕ) (e : end ≡ at + part_length space (drop at line)) (ne : n ≡ read_or no_number (word_in cards (take (end - at) (drop at line)))) where
+  module _ (end : ℕ) (e : end ≡ at + part_length space (drop at line)) {said_by : Option ℕ}
+      (ne : said_by ≡ if_read (word_in cards (take (end - at) (drop at line)))) where
     abbrev here : List ℕ
     here = take (end - at) (drop at line)
 
-    pub stops : n ≡ no_number → no_row ≡ row_by (row_on cards line)
+    pub stops : said_by ≡ None → None ≡ row_by (row_on cards line)
     unfolding row_by
     stops z =
-        let nothing = nothing_here line cards at end r.within e (says_nothing cards here n ne z) in
+        let nothing = nothing_here line cards at end r.within e (says_nothing (word_in cards here) ne z) in
         let all : row_on cards line ≡ misses = r.same ∙ ap (prefixed r.before) nothing in
         rw all
 
-    module _ (some : n ≡ no_number → ⊥) (room : count < 4) where
+    module _ {n : ℕ} (some : said_by ≡ Some n) (room : count < 4) where
       abbrev next : List ℕ
       next = r.before ++ (n ∷ [])
 
@@ -143,9 +135,9 @@ module _ (line : List ℕ) (cards : Bool) (numbers : List ℕ) (count at : ℕ) 
           ∙ sym (append_assoc r.before (n ∷ []) (replicate (4 - (count + 1)) 0))
 
       said : word_in cards here ≡ reads n
-      said = says cards here n ne some
+      said = says (word_in cards here) ne some
 
-      pub ends : end ≡ length line → ◌≡◌ {A = Row} (record { count = count + 1; numbers = set numbers count n }) (row_by (row_on cards line))
+      pub ends : end ≡ length line → ◌≡◌ {A = Option Row} (Some (record { count = count + 1; numbers = set numbers count n })) (row_by (row_on cards line))
       unfolding row_by
       ends z =
           let all : row_on cards line ≡ reads next
@@ -155,7 +147,7 @@ module _ (line : List ℕ) (cards : Bool) (numbers : List ℕ) (count at : ℕ) 
           (record { count = count + 1; numbers = set numbers count n })
           (record { count = length next; numbers = next ++ replicate (4 - length next) 0 })
           = ap₂ (λ c l. record { count = c; numbers = l }) (sym next-many) (put ∙ ap (λ m. next ++ replicate (4 - m) 0) (sym next-many)) in
-          rw (all, few) whole
+          rw (all, few) (ap Some whole)
 
       pub goes : (end ≡ length line → ⊥) → Reached line cards (set numbers count n) (count + 1) (end + 1)
       goes z =

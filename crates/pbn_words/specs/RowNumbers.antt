@@ -1,5 +1,5 @@
 -- What the function that reads a line of words answers. Assumes nothing.
-use Rattle.std.specs.Prelude.{ℕ, ◌-◌, Bool, List, ◌++◌, ltb, length, replicate, if◌then◌else◌}
+use Rattle.std.specs.Prelude.{ℕ, ◌-◌, Bool, List, ◌++◌, ltb, length, replicate, Option, Some, None, if◌then◌else◌}
 use Rattle.laws.specs.PbnReading.{Read, misses, reads, row_in}
 use Rattle.pbn_words.specs.WordNumbers.{word_of, words}
 use Rattle.pbn_words.specs.declared.rows.Row.{Row}
@@ -8,10 +8,7 @@ use Rattle.pbn_words.specs.declared.rows.Row.{Row}
 abbrev pub row_on : Bool → List ℕ → Read (List ℕ)
 row_on cards line = row_in (word_of cards) (words cards) line
 
-abbrev pub no_row : Row
-no_row = record { count = 0; numbers = replicate 4 0 }
-
 -- one to four numbers; more are none
-unfoldable pub row_by : Read (List ℕ) → Row
-row_by misses = no_row
-row_by (reads row) = if ltb 4 (length row) then no_row else record { count = length row; numbers = row ++ replicate (4 - length row) 0 }
+unfoldable pub row_by : Read (List ℕ) → Option Row
+row_by misses = None
+row_by (reads row) = if ltb 4 (length row) then None else Some (record { count = length row; numbers = row ++ replicate (4 - length row) 0 })

@@ -1,16 +1,12 @@
 -- What the functions that read words answer. Assumes nothing.
-use Rattle.std.specs.Prelude.{ℕ, suc, ◌+◌, ◌-◌, ◌*◌, Bool, true, false, List, [], ◌∷◌, eqb, length, get_or, if◌then◌else◌}
+use Rattle.std.specs.Prelude.{ℕ, suc, ◌+◌, ◌-◌, ◌*◌, Bool, true, false, List, [], ◌∷◌, eqb, length, get_or, Option, Some, None, if◌then◌else◌}
 use Rattle.laws.specs.PbnText.{call_word, card_word}
 use Rattle.laws.specs.PbnReading.{Read, misses, reads, number_of}
 
--- stands for a number where there is none
-abbrev pub no_number : ℕ
-no_number = 63
-
--- the number that is read, or another where there is none
-abbrev pub read_or : ℕ → Read ℕ → ℕ
-read_or other misses = other
-read_or other (reads n) = n
+-- what is read, where something is
+abbrev pub if_read : {A : Type 0} → Read A → Option A
+if_read misses = None
+if_read (reads a) = Some a
 
 -- the words of calls, or of cards, and how many there are
 abbrev pub word_of : Bool → ℕ → List ℕ

@@ -2,18 +2,13 @@
 ghost use Rattle.std.specs.Prelude.{◌≡◌, ◌-◌, ◌≤◌};
 ghost use Rattle.laws.specs.PbnText.{board_line};
 ghost use Rattle.laws.specs.PbnReading.{same_bytes, board_in};
-ghost use Rattle.pbn_words.specs.WordNumbers.{read_or, board_said};
-
-use crate::tags::{begins_with, ends_with};
+ghost use Rattle.pbn_words.specs.WordNumbers.{if_read, board_said};
 
 // The value of a digit; 0 for a byte below the digits.
 fn value_of(b: u8) -> u32
     ensures { (result ≡ b - 48) × (result ≤ 207) }
 {
-    if b < 48 {
-        return 0;
-    }
-    (b - 48) as u32
+    b.saturating_sub(b'0') as u32
 }
 
 // What one to three digits in a Board line's place say.
@@ -32,46 +27,40 @@ fn board_said(line: &[u8]) -> u32
     0
 }
 
-fn narrow(n: u32) -> u8
-    requires { n ≤ 255 }
-    ensures { result ≡ n }
-{
-    n as u8
-}
-
 // The line of a board.
 fn is_board_line(line: &[u8], board: u32) -> bool
     requires { board ≤ 999 }
     ensures { result ≡ same_bytes (board_line board) line.now }
 {
-    if !begins_with(line, b"[Board \"") {
+    if !line.starts_with(b"[Board \"") {
         return false;
     }
-    let units = 48 + narrow(board % 10);
+    let said = &line[8..];
+    let units = b'0' + (board % 10) as u8;
     if board < 10 {
-        return ends_with(line, 8, &[units, 34, 93]);
+        return said == &[units, b'"', b']'][..];
     }
-    let tens = 48 + narrow(board / 10 % 10);
+    let tens = b'0' + (board / 10 % 10) as u8;
     if board < 100 {
-        return ends_with(line, 8, &[tens, units, 34, 93]);
+        return said == &[tens, units, b'"', b']'][..];
     }
-    let hundreds = 48 + narrow(board / 100);
-    ends_with(line, 8, &[hundreds, tens, units, 34, 93])
+    let hundreds = b'0' + (board / 100) as u8;
+    said == &[hundreds, tens, units, b'"', b']'][..]
 }
 
-// The board whose line it is, 0 for none.
-pub fn board_in(line: &[u8]) -> u32
-    ensures { result ≡ read_or 0 (board_in line.now) }
+// The board whose line it is.
+pub fn board_in(line: &[u8]) -> Option<u32>
+    ensures { result ≡ if_read (board_in line.now) }
 {
     let board = board_said(line);
     if board == 0 {
-        return 0;
+        return None;
     }
     if 999 < board {
-        return 0;
+        return None;
     }
     if is_board_line(line, board) {
-        return board;
+        return Some(board);
     }
-    0
+    None
 }

@@ -8,5 +8,5 @@ mod words;
 
 pub use board::board_in;
 pub use rows::{Row, part_end, row_in};
-pub use tags::{begins_with, ends_with, seat_in, seat_letter};
-pub use words::{NO_NUMBER, rank_letter};
+pub use tags::{seat_in, seat_letter};
+pub use words::rank_letter;

@@ -1,7 +1,7 @@
 -- What the code makes of the words of faced and major cards is what its definition says: a law over variables. Assumes nothing.
 use Prim.Native.Nat.{ℕ}
 use mathlib.Core.Path.{◌≡◌}
-use mathlib.Core.Bool.{Bool, true, false, not}
+use mathlib.Core.Bool.{Bool, true, not}
 use lib.Bits.{bit_and, bit_or}
 use Rattle.penalty.specs.declared.Penalty.{Penalty}
 use Rattle.penalty.specs.declared.Turn.{Turn}

@@ -32,28 +32,25 @@ use crate::words::{card_word, meets, suit_word, without};
 pub fn begins_code(number: u8) -> bool
     ensures { result ≡ begins_code number }
 {
-    if number == 52 {
-        return true;
-    }
-    number == 53
+    number == 52 || number == 53
 }
 
 // The penalty cards, and what binds the next lead.
-#[derive(Clone, Copy)]
+#[derive(Clone, Copy, Debug, PartialEq, Eq)]
 pub struct Penalty {
     // The cards that are faced, and those of them that are major.
     pub faced: u64,
     pub major: u64,
     // The cards of the suits that are forbidden to the leader.
     pub forbidden: u64,
-    // The suit required of the next lead; 4 where none is.
+    // The suit required of the next lead; 4 where none is, as Law 51's own definition tells it.
     pub required: u64,
     // How many codes were given.
     pub codes: u64,
 }
 
 // What the seat at turn has before it plays.
-#[derive(Clone, Copy)]
+#[derive(Clone, Copy, Debug, PartialEq, Eq)]
 pub struct Turn {
     // Its hand.
     pub hand: u64,

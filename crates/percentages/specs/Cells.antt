@@ -8,8 +8,9 @@ use Rattle.tally.specs.declared.Tally.{Tally}
 use Rattle.tally.specs.Tallies.{results_in, well_formed}
 use Rattle.percentages.specs.declared.Cell.{Cell}
 use Rattle.percentages.specs.declared.Cell.TheVariants.{Played, Awarded, Alone}
-use Rattle.percentages.specs.declared.CellAnswer.{CellAnswer}
-use Rattle.percentages.specs.declared.CellAnswer.TheVariants.{Refused, Is}
+use Rattle.std.specs.Prelude as Std
+use Rattle.laws.specs.Refused.{number}
+use Rattle.laws.specs.declared.Refused.{Refused}
 
 -- asked for a result of a tally: 17 if the tally isn't well formed, else as for its list of results
 unfoldable pub cell_of_tally : Tally → Result → Placed Entered
@@ -22,9 +23,9 @@ entered (Awarded x) = awarded x
 entered Alone = alone
 
 -- what an answer stands for: a refusal by its number and its place, or a cell
-abbrev pub cell_answer : CellAnswer → Placed Entered
-cell_answer (Refused n place) = refused_at n place
-cell_answer (Is c) = given (entered c)
+abbrev pub cell_answer : Std.Result Cell Refused → Placed Entered
+cell_answer (Std.Ok c) = given (entered c)
+cell_answer (Std.Err e) = refused_at (number e.refusal) e.place
 
 -- the cell of a result with so many matchpoints, one of so many results
 unfoldable pub cell_by : ℕ → ℕ → Placed Entered

@@ -6,6 +6,7 @@ use mathlib.Core.List.{List}
 use native.Mathlib.Omega.{arith}
 use borrow.Author.Tests.{lt-leb, eq-eqb, ne_eqb}
 use lib.Bits.{bit_xor}
+use mir.Val.{bool_byte}
 use lib.Dec.{eqb}
 use lib.ListN.{length, get_or}
 use Rattle.laws.specs.Cards.{no_seat, clockwise, suit_of}
@@ -13,7 +14,8 @@ use Rattle.laws.proofs.Counts.{any_default}
 use Rattle.play.specs.declared.Play.{Play}
 use Rattle.play.specs.Words.{bit_of, with_bit}
 use Rattle.play.specs.Position.{put_played, turn_of, was_dealt, verdict_of, could_follow, worth_of, revokes_with, with_card}
-use Rattle.play.specs.declared.CardVerdict.TheVariants.{Playable, NotHeld, AlreadyPlayed}
+use Rattle.std.specs.Prelude.{Ok, Err}
+use Rattle.laws.specs.declared.Refusal.TheVariants.{CardNotHeld, CardAlreadyPlayed}
 
 -- the seat at turn is one of four
 pub seat-low : {seat : ℕ} (p : Play) → seat ≡ turn_of p → seat < 4
@@ -26,6 +28,15 @@ both_bits true true = refl
 both_bits true false = refl
 both_bits false true = refl
 both_bits false false = refl
+
+-- a test that is cast to a word
+pub bit_is : (b : Bool) → bool_byte b ≡ bit_of b
+bit_is true = refl
+bit_is false = refl
+
+pub cast_low : (b : Bool) {bit : ℕ} → bit ≡ bool_byte b → bit < 2
+cast_low true e = omega (arith, e)
+cast_low false e = omega (arith, e)
 
 pub product_bits : (a b : ℕ) → a < 2 → b < 2 → a * b < 2
 product_bits zero b h k = omega arith
@@ -61,7 +72,7 @@ on_table p card ew er eh el eb em = simp (em, ew, eb, er, eh, el)
 
 -- ---- the verdict on a card, by who holds it
 module _ (p : Play) (card seat : ℕ) (n : length p.holders ≡ 52) (h : card < 52) (es : seat ≡ turn_of p) where
-  pub held : get_or p.holders card 0 ≡ seat → Playable ≡ verdict_of p card
+  pub held : get_or p.holders card 0 ≡ seat → Ok tt ≡ verdict_of p card
   unfolding verdict_of
   held e =
       simp
@@ -71,10 +82,10 @@ module _ (p : Play) (card seat : ℕ) (n : length p.holders ≡ 52) (h : card < 
     elsewhere : eqb (get_or p.holders card no_seat) (turn_of p) ≡ false
     elsewhere = ne_eqb (get_or p.holders card no_seat) (turn_of p) (λ e. ne (any_default p.holders card 0 no_seat (omega arith) ∙ e ∙ sym es))
 
-    pub played_already : was_dealt p card ≡ true → AlreadyPlayed ≡ verdict_of p card
+    pub played_already : was_dealt p card ≡ true → Err CardAlreadyPlayed ≡ verdict_of p card
     unfolding verdict_of
     played_already d = simp (lt-leb 52 card h, elsewhere, d)
 
-    pub not-held : was_dealt p card ≡ false → NotHeld ≡ verdict_of p card
+    pub not-held : was_dealt p card ≡ false → Err CardNotHeld ≡ verdict_of p card
     unfolding verdict_of
     not-held d = simp (lt-leb 52 card h, elsewhere, d)

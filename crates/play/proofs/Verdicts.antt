@@ -17,8 +17,10 @@ use Rattle.laws.proofs.Histories.{Clean}
 use Rattle.deal.proofs.Built.{at_seat}
 use Rattle.deal.proofs.Words.{word_bit}
 use Rattle.play.specs.declared.Play.{Play}
-use Rattle.play.specs.declared.CardVerdict.TheVariants.{Playable, NotHeld, AlreadyPlayed}
-use Rattle.play.specs.Position.{was_dealt, verdict_of, verdict_number}
+use Rattle.std.specs.Prelude.{Ok, Err}
+use Rattle.laws.specs.Refused.{number_or_none}
+use Rattle.laws.specs.declared.Refusal.TheVariants.{CardNotHeld, CardAlreadyPlayed}
+use Rattle.play.specs.Position.{was_dealt, verdict_of, refusal_of}
 use Rattle.play.specs.History.{position_of, AllPlayed}
 use Rattle.play.proofs.Holders.{turn_seat, holds_law}
 use Rattle.play.proofs.Stands.{Stands, stands, turn_is}
@@ -31,7 +33,7 @@ all-played deal trump opening (c ∷ g) w = (w.0, all-played deal trump opening 
 
 -- a card that the seat was dealt is in its hand or played
 number-of : (own played : Bool)
-    → verdict_number (if own && not played then Playable else if own then AlreadyPlayed else NotHeld)
+    → number_or_none {A = Unit {0}} (if own && not played then Ok tt else if own then Err CardAlreadyPlayed else Err CardNotHeld)
     ≡ (if own && not played then accepted else if own && played then card_already_played else card_not_held)
 number-of true true = refl
 number-of true false = refl
@@ -46,7 +48,7 @@ module _ (deal : List ℕ) (trump opening : ℕ) (all : length deal ≡ 52) wher
       rw (turn_is deal trump opening all s, s.dealt, at_seat deal seat (turn_seat trump opening g)) (word_bit seat no_seat card deal (omega arith))
 
   pub verdict_law : (g : List ℕ) → AllPlayed deal trump opening g → (card : ℕ)
-      → verdict_number (verdict_of (position_of deal trump opening g) card) ≡ card_refusal trump opening deal g card
+      → refusal_of (position_of deal trump opening g) card ≡ card_refusal trump opening deal g card
   unfolding verdict_of card_refusal playable holds has_played
   verdict_law g w card =
       let s = stands deal trump opening all g w in

@@ -1,14 +1,15 @@
 -- The position of the play, on the struct that the code keeps, and one step: the lead, the card on the table, the trick's end.
 -- Assumes nothing.
-use Rattle.std.specs.Prelude.{ℕ, ◌+◌, ◌-◌, ◌*◌, ◌/◌, ◌%◌, ◌^◌, max, Bool, not, ◌&&◌, List, eqb, leb, get_or, set, if◌then◌else◌}
+use Rattle.std.specs.Prelude.{ℕ, ◌+◌, ◌-◌, ◌*◌, ◌/◌, ◌%◌, ◌^◌, max, Result, Ok, Err, Bool, not, ◌&&◌, List, eqb, leb, get_or, set, if◌then◌else◌}
+use Rattle.std.specs.Result.{result_and}
 use Rattle.std.specs.Int.Bits.{bit_and, bit_or, bit_xor}
 use Rattle.laws.specs.Cards.{suit_of, clockwise, dealt_to}
-use Rattle.laws.specs.Refusals.{accepted, no_card, card_not_held, card_already_played}
+use Rattle.laws.specs.Refused.{number_or_none}
+use Rattle.laws.specs.declared.Refusal.{Refusal}
+use Rattle.laws.specs.declared.Refusal.TheVariants.{NoCard, CardNotHeld, CardAlreadyPlayed}
 use Rattle.deal.specs.Hands.{has_suit}
 use Rattle.play.specs.declared.Play.{Play}
 use Rattle.play.specs.declared.Won.{Won}
-use Rattle.play.specs.declared.CardVerdict.{CardVerdict}
-use Rattle.play.specs.declared.CardVerdict.TheVariants.{Playable, NoCard, NotHeld, AlreadyPlayed}
 use Rattle.play.specs.Words.{bit_of, worth, with_bit, with_four, with_entry}
 
 -- the holders with one place changed: who held the card has played it, which the place shows as 4 more than the seat
@@ -50,19 +51,16 @@ unfoldable pub was_dealt : Play → ℕ → Bool
 was_dealt p card = eqb (get_or p.dealt (turn_of p) 0 / 2 ^ card % 2) 1
 
 -- the verdict on a card: a code that is no card, then one that the seat at turn does not hold, having played it already or not having been dealt it
-unfoldable pub verdict_of : Play → ℕ → CardVerdict
+unfoldable pub verdict_of : Play → ℕ → Result (Unit {0}) Refusal
 verdict_of p card =
-    if leb 52 card then NoCard
-    else if eqb (dealt_to p.holders card) (turn_of p) then Playable
-    else if was_dealt p card then AlreadyPlayed
-    else NotHeld
+    if leb 52 card then Err NoCard
+    else if eqb (dealt_to p.holders card) (turn_of p) then Ok tt
+    else if was_dealt p card then Err CardAlreadyPlayed
+    else Err CardNotHeld
 
--- the number of a verdict's refusal
-abbrev pub verdict_number : CardVerdict → ℕ
-verdict_number Playable = accepted
-verdict_number NoCard = no_card
-verdict_number NotHeld = card_not_held
-verdict_number AlreadyPlayed = card_already_played
+-- the number that a card is refused with, 0 where it may be played
+abbrev pub refusal_of : Play → ℕ → ℕ
+refusal_of p card = number_or_none (verdict_of p card)
 
 -- ---- one step
 -- between tricks, so that the next card leads
@@ -138,3 +136,7 @@ with_trick p =
 -- the position with one card more, played by the seat at turn; a code that is no card changes nothing
 unfoldable pub step : Play → ℕ → Play
 step p card = if leb 52 card then p else with_trick (with_card (with_lead p card) card)
+
+-- the position after a card that may be played, or its refusal
+unfoldable pub taken_of : Play → ℕ → Result Play Refusal
+taken_of p card = result_and (verdict_of p card) (Ok (step p card))

@@ -19,7 +19,7 @@ ghost use Rattle.play.specs.Position.{
   revokes_with,
   won_in,
   verdict_of,
-  verdict_number,
+  taken_of,
   with_lead,
   with_card,
   with_trick,
@@ -28,12 +28,12 @@ ghost use Rattle.play.specs.Position.{
 ghost use Rattle.play.specs.History.{best_worth, told_of};
 
 pub use crate::told::byte_after;
-use crate::words::{CARDS, card_bit, choose, entered, greater, with_four};
-pub use crate::words::{bit, with_bit};
-use laws::{ACCEPTED, CARD_ALREADY_PLAYED, CARD_NOT_HELD, NO_CARD};
+pub use crate::words::with_bit;
+use crate::words::{CARDS, card_bit, entered, with_four};
+use laws::Refusal;
 
 // What the code keeps of the play. A word of entries has the last entry lowest.
-#[derive(Clone, Copy)]
+#[derive(Clone, Copy, Debug, PartialEq, Eq)]
 pub struct Play {
     // The hands as they were dealt, a bit for each card, and the cards that nobody has played.
     pub dealt: [u64; 4],
@@ -57,52 +57,26 @@ pub struct Play {
 }
 
 // A trick's answer: the seat that won it, and the card that won.
-#[derive(Clone, Copy)]
+#[derive(Clone, Copy, Debug, PartialEq, Eq)]
 pub struct Won {
     pub seat: u8,
     pub card: u8,
 }
 
 // The complete tricks: how many, those of each side, and their answers.
-#[derive(Clone, Copy)]
+#[derive(Clone, Copy, Debug, PartialEq, Eq)]
 pub struct Tricks {
     pub count: u8,
     pub won: [u8; 2],
     pub answers: [Won; 13],
 }
 
-// What is said of a card before it is played.
-#[derive(Clone, Copy)]
-pub enum CardVerdict {
-    Playable,
-    NoCard,
-    NotHeld,
-    AlreadyPlayed,
-}
-
-impl CardVerdict {
-    // The number of a verdict among the refusals; 0 for a card that may be played.
-    pub fn number(self) -> u8
-        ensures { result ≡ verdict_number self }
-    {
-        match self {
-            CardVerdict::Playable => ACCEPTED,
-            CardVerdict::NoCard => NO_CARD,
-            CardVerdict::NotHeld => CARD_NOT_HELD,
-            CardVerdict::AlreadyPlayed => CARD_ALREADY_PLAYED,
-        }
-    }
-}
-
 // The holders with one place changed: who held the card has played it. Every place is compared, and none is stored to apart.
 pub fn with_played(mut holders: [u8; 52], card: u8) -> [u8; 52]
     ensures { result ≡ put_played holders card }
 {
-    let cards = CARDS;
-    let mut i: usize = 0;
-    while i < 52 {
-        holders[i] = holders[i] | choose(cards[i] == card, 4, 0);
-        i += 1;
+    for i in 0..52 {
+        holders[i] |= if CARDS[i] == card { 4 } else { 0 };
     }
     holders
 }
@@ -163,28 +137,29 @@ impl Play {
     }
 
     // Whether a card may be played by the seat at turn; a card of its own that it does not hold it has played.
-    pub fn verdict(self, card: u8) -> CardVerdict
+    pub fn verdict(self, card: u8) -> Result<(), Refusal>
         ensures { result ≡ verdict_of self card }
     {
         if 52 <= card {
-            return CardVerdict::NoCard;
+            return Err(Refusal::NoCard);
         }
         let at = card as usize;
         let seat = self.turn();
         if self.holders[at] as u64 == seat {
-            return CardVerdict::Playable;
+            return Ok(());
         }
         if self.was_dealt(card) {
-            return CardVerdict::AlreadyPlayed;
+            return Err(Refusal::CardAlreadyPlayed);
         }
-        CardVerdict::NotHeld
+        Err(Refusal::CardNotHeld)
     }
 
-    // The number that a card is refused with; 0 for none.
-    pub fn refusal(self, card: u8) -> u8
-        ensures { result ≡ verdict_number (verdict_of self card) }
+    // The position after a card that may be played, or its refusal.
+    pub fn take(self, card: u8) -> Result<Self, Refusal>
+        ensures { result ≡ taken_of self card }
     {
-        self.verdict(card).number()
+        self.verdict(card)?;
+        Ok(self.play(card))
     }
 
     // The position with the suit led, where the card is the first of its trick.
@@ -202,8 +177,8 @@ impl Play {
         ensures { result ≡ worth_of self card }
     {
         let suit = (card / 13) as u64;
-        let trump = bit(suit == self.trump);
-        let on = bit(suit == self.led);
+        let trump = u64::from(suit == self.trump);
+        let on = u64::from(suit == self.led);
         trump * 512 + on * 256 + card as u64 * 4 + self.turn()
     }
 
@@ -211,8 +186,8 @@ impl Play {
     fn revoke_bit(self, card: u8) -> u64
         ensures { result ≡ bit_of (revokes_with self card) }
     {
-        let off = bit((card / 13) as u64 != self.led);
-        off * bit(self.could_follow())
+        let off = u64::from((card / 13) as u64 != self.led);
+        off * u64::from(self.could_follow())
     }
 
     // The position with the card on the table: out of its hand, a revoke or none, the best of the trick or not.
@@ -227,15 +202,16 @@ impl Play {
         self.holders = after;
         self.left = self.left ^ card_bit(card);
         self.revoked = with_bit(self.revoked, revoke);
-        self.best = greater(self.best, worth);
+        self.best = self.best.max(worth);
         self.played = self.played % 64 + 1;
         self
     }
 
     // The answer of the trick under way, by its best worth: Law 44's of every trick that has this worth.
     fn won(self) -> Won
-        ensures { (result ≡ won_in self) × ((trump leader card : ℕ) (trick : List ℕ) → self.best ≡ best_worth trump leader (card ∷ trick)
-            → winning_card trump (card ∷ trick) < 52 → result ≡ told_of (won_by trump leader (card ∷ trick))) }
+        ensures value { result ≡ won_in self }
+        ensures law { (trump leader card : ℕ) (trick : List ℕ) → self.best ≡ best_worth trump leader (card ∷ trick)
+            → winning_card trump (card ∷ trick) < 52 → result ≡ told_of (won_by trump leader (card ∷ trick)) }
     {
         Won {
             seat: (self.best % 4) as u8,

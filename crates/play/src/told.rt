@@ -5,20 +5,14 @@ ghost use Rattle.play.specs.Told.{complete_in, tricks_in, entries_in, byte_after
 use crate::words::entered;
 use crate::{Play, Tricks, Won};
 
-fn narrow(x: u64) -> u8
-    requires { x < 256 }
-    ensures { result ≡ x }
-{
-    x as u8
-}
-
 impl Play {
     // How many tricks are complete; there are thirteen.
     fn complete(self) -> u8
-        ensures { (result ≡ complete_in self) × (result ≤ 13) }
+        ensures value { result ≡ complete_in self }
+        ensures most { result ≤ 13 }
     {
         if self.played < 52 {
-            return narrow(self.played / 4);
+            return (self.played / 4) as u8;
         }
         13
     }
@@ -34,16 +28,13 @@ impl Play {
         let mut low = self.low;
         let mut high = self.high;
         let mut east: u8 = 0;
-        let mut i = count;
-        while 0 < i {
-            i -= 1;
-            let seat = narrow(rest / 4 % 4);
-            let card = narrow(high % 16 * 16 + low % 16);
+        for i in (0..count).rev() {
+            let seat = (rest / 4 % 4) as u8;
+            let card = (high % 16 * 16 + low % 16) as u8;
             rest = rest / 16;
             low = low / 16;
             high = high / 16;
-            let at = i as usize;
-            answers[at] = Won { seat, card };
+            answers[i as usize] = Won { seat, card };
             east += seat % 2;
         }
         Tricks {
@@ -71,5 +62,5 @@ pub fn byte_after(entries: u64, played: u64, later: u64) -> u8
     let card = (played % 64 + 63 - later % 64) % 64;
     let from = ((played % 64 + 3) / 4 + 15 - card / 4) % 16;
     let here = entries >> (4 * from);
-    narrow((card / 4 + 1) % 16 * 16 + (here / 64 % 4 + card % 4) % 4 * 4 + here % 4)
+    ((card / 4 + 1) % 16 * 16 + (here / 64 % 4 + card % 4) % 4 * 4 + here % 4) as u8
 }

@@ -1,6 +1,6 @@
 // Words of the play: bits, entries of a few bits each with the last one lowest, and the card of each place.
-ghost use Rattle.std.specs.Prelude.{◌≡◌, ◌+◌, ◌*◌, ◌%◌, ◌^◌, ◌<◌, max, if◌then◌else◌};
-ghost use Rattle.play.specs.Words.{bit_of, with_bit, with_four, with_entry};
+ghost use Rattle.std.specs.Prelude.{◌≡◌, ◌^◌, ◌<◌};
+ghost use Rattle.play.specs.Words.{with_bit, with_four, with_entry};
 
 // The card of each place.
 pub(crate) const CARDS: [u8; 52] = [
@@ -8,25 +8,6 @@ pub(crate) const CARDS: [u8; 52] = [
     26, 27, 28, 29, 30, 31, 32, 33, 34, 35, 36, 37, 38, 39, 40, 41, 42, 43, 44, 45, 46, 47, 48, 49,
     50, 51,
 ];
-
-pub(crate) fn choose(test: bool, a: u8, b: u8) -> u8
-    ensures { result ≡ (if test then a else b) }
-{
-    if test { a } else { b }
-}
-
-// 1 where the test holds, else 0.
-pub fn bit(test: bool) -> u64
-    ensures { (result ≡ bit_of test) × (result < 2) }
-{
-    if test { 1 } else { 0 }
-}
-
-pub(crate) fn greater(a: u64, b: u64) -> u64
-    ensures { result ≡ max a b }
-{
-    if a < b { b } else { a }
-}
 
 // The bit of a card.
 pub(crate) fn card_bit(card: u8) -> u64

@@ -1,5 +1,5 @@
 -- The bytes of the plays against Law 50 are the Laws': the loop that fills them in from the last play on, and the words of a history. Assumes nothing.
-use Prim.Native.Nat.{ℕ, zero, suc, ◌≤◌, ◌<◌, ◌+◌, ◌-◌, ◌*◌, ◌/◌, ◌%◌, ◌^◌}
+use Prim.Native.Nat.{ℕ, suc, ◌≤◌, ◌<◌, ◌+◌, ◌*◌, ◌/◌, ◌%◌, ◌^◌}
 use mathlib.Core.Path.{◌≡◌, refl, sym, ap, ◌∙◌}
 use mathlib.Core.Bool.{true, false}
 use mathlib.Core.List.{List, [], ◌∷◌, ◌++◌, append-nil, append_assoc}
@@ -7,7 +7,7 @@ use native.Mathlib.Nat.{lt_of_lt_of_le}
 use native.Mathlib.Numerals.{add-one}
 use native.Mathlib.Omega.{arith}
 use lib.Pow.{pow-add, pow_mono, shr_lt}
-use lib.ListN.{length, set, drop, replicate, length-append, length-set}
+use lib.ListN.{length, length-append}
 use Rattle.laws.specs.Padded.{padded}
 use Rattle.laws.specs.Cards.{cards_dealt}
 use Rattle.laws.specs.Law44.{tricks_complete}
@@ -16,7 +16,6 @@ use Rattle.laws.specs.LeadRevoke.{seat_after}
 use Rattle.laws.specs.Failures.{Failure, is_failure, failure_by, failures, failure_pair, failure_bytes}
 use Rattle.laws.specs.Kept.{NoneRefused}
 use Rattle.laws.proofs.Tests.{by_test}
-use Rattle.play.proofs.Filling.{padded-rest, drop-set}
 use Rattle.play.proofs.Holders.{turn_seat}
 use Rattle.found.specs.declared.found.Found.{Found}
 use Rattle.found.specs.Told.{pop_word, popped, lowest_of, pair_of, pairs_in, failure_bytes_in}

@@ -19,7 +19,7 @@ use Rattle.laws.specs.Kept.{NoneRefused}
 use Rattle.laws.proofs.Tests.{by_test}
 use Rattle.laws.proofs.Counts.{any_default}
 use Rattle.laws.proofs.KeptCards.{defenders-card, exposed_defender}
-use Rattle.play.specs.Position.{verdict_of, verdict_number}
+use Rattle.play.specs.Position.{refusal_of}
 use Rattle.play.specs.History.{holders_of}
 use Rattle.play.proofs.Holders.{holders_52}
 use Rattle.play.proofs.Verdicts.{verdict_law}
@@ -46,7 +46,7 @@ module _ (deal : List ℕ) (trump opening : ℕ) (all : length deal ≡ 52) (dea
     stands : TableStands deal trump opening all t e
     stands = table-stands deal trump opening all dealt low e w
 
-    pub card_law : (card : ℕ) → verdict_number (verdict_of t.play card) ≡ card_refusal trump opening deal (cards_of e) card
+    pub card_law : (card : ℕ) → refusal_of t.play card ≡ card_refusal trump opening deal (cards_of e) card
     card_law card = rw (play-is deal trump opening e w) (verdict_law deal trump opening all (cards_of e) (cards-allowed deal trump opening e w) card)
 
     pub full_law : full_in t ≡ codes_full e

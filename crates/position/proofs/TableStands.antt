@@ -13,7 +13,7 @@ use Rattle.laws.specs.Cards.{no_seat, suit_of, clockwise, partner_of, same_side,
 use Rattle.laws.specs.Law44.{cards_played, tricks_complete, cards_in_trick, trick_under_way, leader, to_play, holds}
 use Rattle.laws.specs.Events.{Event, played, exposed, choice, cards_of, as_events}
 use Rattle.laws.specs.Law50.{leader_after, is_exposable}
-use Rattle.laws.specs.LeadRevoke.{leads, disobeys}
+use Rattle.laws.specs.LeadRevoke.{disobeys}
 use Rattle.laws.specs.Failures.{failure_by}
 use Rattle.laws.specs.CodeRefusal.{event_refusal}
 use Rattle.laws.specs.Kept.{NoneRefused}
@@ -26,7 +26,6 @@ use Rattle.laws.proofs.KeptChoices.{opened}
 use Rattle.deal.specs.Hands.{words_of}
 use Rattle.deal.proofs.Built.{at_seat}
 use Rattle.play.specs.declared.Play.{Play}
-use Rattle.play.specs.Position as Position
 use Rattle.play.specs.Position.{hand_of, step}
 use Rattle.play.specs.History as PlayHistory
 use Rattle.play.specs.History.{AllPlayed, holders_of}

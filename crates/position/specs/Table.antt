@@ -2,7 +2,8 @@
 -- Assumes nothing.
 use Rattle.std.specs.Prelude.{ℕ, ◌+◌, ◌*◌, ◌/◌, ◌%◌, Bool, not, ◌&&◌, List, eqb, leb, get_or, if◌then◌else◌}
 use Rattle.laws.specs.Cards.{partner_of}
-use Rattle.laws.specs.Refusals.{accepted, not_exposable, choice_not_open}
+use Rattle.laws.specs.Refusals.{Answer, accepted, not_exposable, choice_not_open}
+use Rattle.laws.specs.Refused.{answer_by}
 use Rattle.laws.specs.CodeRefusal.{most_codes}
 use Rattle.play.specs.declared.Play.{Play}
 use Rattle.play.specs.Position as Position
@@ -94,3 +95,11 @@ after_exposed t card deliberate =
 unfoldable pub after_choice : Table → ℕ → ℕ → Table
 after_choice t kind suit =
     record { play = t.play; side = t.side; penalty = with_choice t.penalty (partner_word t) kind suit; found = t.found }
+
+-- the position with a card exposed that may be, or the number that it is refused with
+unfoldable pub exposed_by : Table → ℕ → Bool → Answer Table
+exposed_by t card deliberate = answer_by (exposure_in t card) (after_exposed t card deliberate)
+
+-- the position with a choice made that may be, or the number that it is refused with
+unfoldable pub chosen_by : Table → ℕ → ℕ → Answer Table
+chosen_by t kind suit = answer_by (choice_in t kind suit) (after_choice t kind suit)

@@ -1,23 +1,17 @@
 // The revokes as they are listed, leads among them, and which of them Law 64B3 excuses.
-ghost use Rattle.std.specs.Prelude.{◌≡◌, ◌<◌};
+ghost use Rattle.std.specs.Prelude.{◌≡◌};
 ghost use Rattle.position.specs.Listed.{listed_byte, flag_at, revokes_in};
 
 use crate::Table;
 use play::byte_after;
 
 // The revokes in order of play: how many, and for each a byte (trick 4 bits, seat 2, suit 2) and 1 where it is excused.
-#[derive(Clone, Copy)]
+// Two rows of bytes with one count: memory is fixed, and the bytes are lent to C as they stand.
+#[derive(Clone, Copy, Debug, PartialEq, Eq)]
 pub struct Listed {
     pub count: u8,
     pub list: [u8; 48],
     pub excused: [u8; 48],
-}
-
-fn narrow(x: u64) -> u8
-    requires { x < 256 }
-    ensures { result ≡ x }
-{
-    x as u8
 }
 
 // The byte of a revoke at the card with so many cards after it: with the suit required, where it is a lead against a requirement.
@@ -27,7 +21,7 @@ fn listed_byte(entries: u64, played: u64, named: u64, later: u64) -> u8
     let byte = byte_after(entries, played, later);
     let card = (played % 64 + 63 - later % 64) % 64;
     let from = ((played % 64 + 3) / 4 + 15 - card / 4) % 16;
-    let told = narrow((named >> (3 * from)) % 8);
+    let told = ((named >> (3 * from)) % 8) as u8;
     if card % 4 != 0 {
         return byte;
     }
@@ -41,7 +35,7 @@ fn listed_byte(entries: u64, played: u64, named: u64, later: u64) -> u8
 fn flag_at(word: u64, later: u64) -> u8
     ensures { result ≡ flag_at word later }
 {
-    narrow((word >> (later % 64)) % 2)
+    ((word >> (later % 64)) % 2) as u8
 }
 
 impl Table {
@@ -58,7 +52,7 @@ impl Table {
         let entries = p.entries();
         let played = p.played;
         let mut rest = p.revoked | f.leads;
-        let mut n = u64::count_ones(rest) as usize;
+        let mut n = rest.count_ones() as usize;
         if 48 < n {
             return Listed {
                 count: 0,
@@ -69,7 +63,7 @@ impl Table {
         let count = n as u8;
         let mut later: u64 = 0;
         while rest != 0 {
-            let low = u64::trailing_zeros(rest) as u64;
+            let low = rest.trailing_zeros() as u64;
             rest = (rest >> low) / 2;
             let byte = listed_byte(entries, played, named, later + low);
             let flag = flag_at(free, later + low);

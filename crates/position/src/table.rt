@@ -16,14 +16,17 @@ ghost use Rattle.position.specs.Table.{
   choice_in,
   after_exposed,
   after_choice,
+  exposed_by,
+  chosen_by,
 };
+ghost use Rattle.laws.specs.Refused.{answer_of, number_or_none};
 
 use found::Found;
-use laws::{ACCEPTED, CHOICE_NOT_OPEN, NOT_EXPOSABLE};
+use laws::Refusal;
 use penalty::{Penalty, Turn};
 use play::Play;
 
-#[derive(Clone, Copy)]
+#[derive(Clone, Copy, Debug, PartialEq, Eq)]
 pub struct Table {
     pub play: Play,
     // The side of the defenders: 0 North-South, 1 East-West.
@@ -156,21 +159,21 @@ impl Table {
         dealt[own]
     }
 
-    // The number that the exposure of a card is refused with; 0 for none.
-    pub fn exposure_refusal(self, card: u8) -> u8
-        ensures { result ≡ exposure_in self card }
+    // Whether a card may be exposed.
+    pub fn exposure_verdict(self, card: u8) -> Result<(), Refusal>
+        ensures { number_or_none result ≡ exposure_in self card }
     {
         if 52 <= card {
-            return NOT_EXPOSABLE;
+            return Err(Refusal::NotExposable);
         }
         let p = self.play;
         let at = card as usize;
         let holder = p.holders[at] as u64;
         let pen = self.penalty;
         if pen.exposable(self.side, holder, card) {
-            return ACCEPTED;
+            return Ok(());
         }
-        NOT_EXPOSABLE
+        Err(Refusal::NotExposable)
     }
 
     // Whether a defender is to lead.
@@ -184,19 +187,19 @@ impl Table {
         false
     }
 
-    // The number that a choice is refused with; 0 for none.
-    pub fn choice_refusal(self, kind: u8, suit: u8) -> u8
-        ensures { result ≡ choice_in self kind suit }
+    // Whether a choice may be made.
+    pub fn choice_verdict(self, kind: u8, suit: u8) -> Result<(), Refusal>
+        ensures { number_or_none result ≡ choice_in self kind suit }
     {
         let partner = self.partner_word();
         if self.defender_leads() {
             let pen = self.penalty;
             if pen.is_open(partner, kind, suit) {
-                return ACCEPTED;
+                return Ok(());
             }
-            return CHOICE_NOT_OPEN;
+            return Err(Refusal::ChoiceNotOpen);
         }
-        CHOICE_NOT_OPEN
+        Err(Refusal::ChoiceNotOpen)
     }
 
     // The position with a card exposed.
@@ -219,5 +222,21 @@ impl Table {
         let next = pen.with_choice(partner, kind, suit);
         self.penalty = next;
         self
+    }
+
+    // The position with a card exposed that may be, or its refusal.
+    pub fn take_exposure(self, card: u8, deliberate: bool) -> Result<Self, Refusal>
+        ensures { answer_of result ≡ exposed_by self card deliberate }
+    {
+        self.exposure_verdict(card)?;
+        Ok(self.expose(card, deliberate))
+    }
+
+    // The position with a choice made that may be, or its refusal.
+    pub fn take_choice(self, kind: u8, suit: u8) -> Result<Self, Refusal>
+        ensures { answer_of result ≡ chosen_by self kind suit }
+    {
+        self.choice_verdict(kind, suit)?;
+        Ok(self.choose(kind, suit))
     }
 }

@@ -11,7 +11,9 @@ use Rattle.laws.specs.Law78.{lower_end, imps_for_size, imps_of, imps, opposite}
 use Rattle.laws.proofs.Integers.{swap_difference}
 use Rattle.laws.proofs.Scale as scale
 use Rattle.laws.proofs.Tests.{by_test}
-use Rattle.score.specs.declared.ImpAnswer.{ImpAnswer}
+use Rattle.std.specs.Prelude as Std
+use Rattle.laws.specs.declared.Refusal.{Refusal}
+use Rattle.score.specs.declared.Imps.{Imps}
 use Rattle.score.specs.Units.{imp_answer}
 use Rattle.score.proofs.Told.{one_answer}
 use Rattle.promises_tallies.specs.Demand2Imps.{EitherInvalid, BothValid, OfImps, Scale, Demand2Imps}
@@ -47,7 +49,7 @@ module _ (a b : ℤ) where
   one_way (pos n) e = inl e
   one_way (negsuc n) e = inr (swap_difference a b ∙ ap neg_ℤ e)
 
-of_imps : (a b : ℤ) (r : ImpAnswer) → imp_answer r ≡ imps a b → OfImps a b r
+of_imps : (a b : ℤ) (r : Std.Result Imps Refusal) → imp_answer r ≡ imps a b → OfImps a b r
 of_imps a b r e =
     record {
       refuses = λ i. e ∙ invalid a b i;

@@ -12,7 +12,7 @@ use Rattle.laws.specs.Tally.{Tree, fresh, add, merge, CallOf, last, in_add, in_f
 use Rattle.laws.proofs.TallyRules.{Clear, scores_on, length_on, deal-thirteen, add_clear, merge_clear, merge-allowed}
 use Rattle.laws.proofs.OneDeal.{all_on}
 use Rattle.tally.specs.declared.Tally.{Tally}
-use Rattle.tally.specs.declared.Tallied.{Tallied}
+use Rattle.tally.specs.Tallies.{Tallied}
 use Rattle.tally.specs.Tallies.{tally_for, tally_of, answer_of, fresh_of, add_of, merge_of}
 use Rattle.tally.specs.Points.{matchpoints_of}
 use Rattle.tally.specs.Shape.{count_in, Shape}

@@ -11,7 +11,7 @@ use Rattle.laws.specs.Refusals.{Placed, given, refusal_number}
 use Rattle.laws.specs.Tally.{Result, leaves, Tree, fresh, add, merge, last, refusal_of}
 use Rattle.laws.proofs.Tests.{by_test}
 use Rattle.tally.specs.declared.Tally.{Tally}
-use Rattle.tally.specs.declared.Tallied.{Tallied}
+use Rattle.tally.specs.Tallies.{Tallied}
 use Rattle.tally.specs.InBytes.{tally_bytes, tally_in}
 use Rattle.tally.specs.Points.{matchpoints_of}
 use Rattle.tally.specs.Tallies.{answer_of, fresh_of, add_of, merge_of}

@@ -11,7 +11,7 @@ use Rattle.laws.specs.Refusals.{Placed, given}
 use Rattle.laws.specs.Tally.{leaves}
 use Rattle.laws.proofs.Tests.{by_test}
 use Rattle.tally.specs.declared.Tally.{Tally}
-use Rattle.tally.specs.declared.Tallied.{Tallied}
+use Rattle.tally.specs.Tallies.{Tallied}
 use Rattle.tally.specs.InBytes.{tally_bytes, tally_in, InRange}
 use Rattle.tally.specs.Tallies.{tally_of, well_formed, no_tally, merge_of}
 use Rattle.tally.proofs.Formed.{formed}

@@ -14,7 +14,7 @@ use Rattle.laws.specs.Tally.{boards_refusal, fouled_refusal, room_refusal, merge
 use Rattle.laws.proofs.Tests.{by_test}
 use Rattle.laws.proofs.TallyRules.{length_on, merge-allowed, allowed-merge}
 use Rattle.tally.specs.declared.Tally.{Tally}
-use Rattle.tally.specs.declared.Tallied.{Tallied}
+use Rattle.tally.specs.Tallies.{Tallied}
 use Rattle.tally.specs.Tallies.{tally_for, tally_of, scores_in, results_in, well_formed}
 use Rattle.tally.specs.Tallies.{no_tally, refused_with, accepting, answer_of, merge_of}
 use Rattle.tally.specs.Steps.{kept_deal}

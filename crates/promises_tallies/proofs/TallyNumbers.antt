@@ -25,7 +25,7 @@ use Rattle.laws.proofs.Bytes.{length-bytes, bytes-of}
 use Rattle.laws.proofs.TallyRules.{or_first, or_second, no_seats, uneven, even, merge-allowed, length_on}
 use Rattle.laws.proofs.Tests.{by_test}
 use Rattle.tally.specs.declared.Tally.{Tally}
-use Rattle.tally.specs.declared.Tallied.{Tallied}
+use Rattle.tally.specs.Tallies.{Tallied}
 use Rattle.tally.specs.Points.{matchpoints_of}
 use Rattle.tally.specs.Steps.{kept_deal}
 use Rattle.tally.specs.Tallies.{tally_for, tally_of, scores_in, results_in, well_formed, refused_with, accepting, answer_of, fresh_of, add_of, merge_of}

@@ -5,7 +5,9 @@ use Rattle.std.specs.Prelude.{ℕ, ◌≤◌, ◌<◌, ◌+◌, ◌≡◌, ◌�
 use Rattle.laws.specs.Refusals.{refused, answered, invalid_score}
 use Rattle.laws.specs.Law77.{valid_score}
 use Rattle.laws.specs.Law78.{lower_ends, lower_end, imps_for_size, imps, opposite}
-use Rattle.score.specs.declared.ImpAnswer.{ImpAnswer}
+use Rattle.std.specs.Prelude as Std
+use Rattle.laws.specs.declared.Refusal.{Refusal}
+use Rattle.score.specs.declared.Imps.{Imps}
 use Rattle.score.specs.Units.{imp_answer}
 
 -- one of two scores isn't valid
@@ -18,7 +20,7 @@ pub record BothValid (first second : ℤ) : Type 0 where
   pub two : valid_score second ≡ true
 
 -- an answer to two scores
-pub record OfImps (first second : ℤ) (r : ImpAnswer) : Type 0 where
+pub record OfImps (first second : ℤ) (r : Std.Result Imps Refusal) : Type 0 where
   -- refused exactly when either score isn't valid, and with 20
   pub refuses : EitherInvalid first second → imp_answer r ≡ refused invalid_score
   pub refuses_only : (n : ℕ) → imp_answer r ≡ refused n → (n ≡ invalid_score) × EitherInvalid first second
@@ -29,7 +31,7 @@ pub record OfImps (first second : ℤ) (r : ImpAnswer) : Type 0 where
   pub size : ℕ
   pub either : (first -ℤ second ≡ pos size) ⊎ (second -ℤ first ≡ pos size)
   -- the scores swapped give the negation
-  pub swapped : (s : ImpAnswer) → imp_answer s ≡ imps second first → imp_answer s ≡ opposite (imp_answer r)
+  pub swapped : (s : Std.Result Imps Refusal) → imp_answer s ≡ imps second first → imp_answer s ≡ opposite (imp_answer r)
 
 -- the scale: 24 entries that rise, each the least size of a difference worth its number of IMPs
 pub record Scale : Type 0 where
@@ -44,7 +46,7 @@ pub record Scale : Type 0 where
 
 -- the claim on IMPs
 pub record Demand2Imps : Type 0 where
-  pub of_imps : (first second : ℤ) (r : ImpAnswer) → imp_answer r ≡ imps first second → OfImps first second r
+  pub of_imps : (first second : ℤ) (r : Std.Result Imps Refusal) → imp_answer r ≡ imps first second → OfImps first second r
   -- what an answer stands for determines it
-  pub one_answer : (r s : ImpAnswer) → imp_answer r ≡ imp_answer s → r ≡ s
+  pub one_answer : (r s : Std.Result Imps Refusal) → imp_answer r ≡ imp_answer s → r ≡ s
   pub scale : Scale

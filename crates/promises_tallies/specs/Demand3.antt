@@ -8,9 +8,10 @@ use Rattle.laws.specs.Law78.{occurrences, matchpoints}
 use Rattle.laws.specs.Tally.{capacity, Result, scores_of, deal_of, Thirteen, asked, leaves, Tree, fresh, add, merge, CallOf, board_of, list_of, refusal_of, added}
 use Rattle.laws.specs.Tally.{OneBoard, OneDeal, AllValid, SameScores}
 use Rattle.tally.specs.declared.Tally.{Tally}
-use Rattle.tally.specs.declared.Tallied.{Tallied}
-use Rattle.tally.specs.Tallies.{tally_of, well_formed, answer_of, fresh_of, add_of, merge_of}
-use Rattle.matchpoints.specs.declared.points.MatchpointAnswer.{MatchpointAnswer}
+use Rattle.std.specs.Prelude as Std
+use Rattle.laws.specs.declared.Refused.{Refused}
+use Rattle.tally.specs.Tallies.{Tallied, tally_of, well_formed, answer_of, fresh_of, add_of, merge_of}
+use Rattle.matchpoints.specs.declared.points.BothSides.{BothSides}
 use Rattle.tally.specs.Points.{matchpoints_of}
 use Rattle.matchpoints.specs.Points.{points_answer}
 use Rattle.tally.specs.Shape.{count_in, Shape}
@@ -54,7 +55,7 @@ pub record OfTree (t : Tree) : Type 0 where
   -- asked of it for any result: 20, 4 or 28, else Law 78A's matchpoints over the whole list, or 21
   pub points : (r : Result) → matchpoints_of (left t) r ≡ asked matchpoints (list_of t) r
   -- every answer that the contract of `matchpoints::matchpoints` allows stands for these
-  pub points_answered : (r : Result) (a : MatchpointAnswer) → points_answer a ≡ matchpoints_of (left t) r → points_answer a ≡ asked matchpoints (list_of t) r
+  pub points_answered : (r : Result) (a : Std.Result BothSides Refused) → points_answer a ≡ matchpoints_of (left t) r → points_answer a ≡ asked matchpoints (list_of t) r
 
 -- ---- trees whose results are all of one deal
 -- the number of a refusal by the rules without deals: adding, 20 if the score isn't valid, else 19; merging, 18 if the boards differ, else 19

@@ -13,7 +13,9 @@ use Rattle.laws.specs.Percentages.{most_matchpoints, as_float, ns_percentage, ew
 use Rattle.laws.specs.CellSheet.{hundredths}
 use Rattle.laws.specs.Tally.{Result, scores_of, Thirteen, asked, Tree, list_of, added, OneDeal, SameScores}
 use Rattle.tally.specs.Tallies.{no_tally}
-use Rattle.percentages.specs.declared.CellAnswer.{CellAnswer}
+use Rattle.std.specs.Prelude as Std
+use Rattle.laws.specs.declared.Refused.{Refused}
+use Rattle.percentages.specs.declared.Cell.{Cell as CodeCell}
 use Rattle.percentages.specs.Cells.{cell_answer, cell_of_tally}
 use Rattle.promises_tallies.specs.Demand3.{left, Plain}
 
@@ -59,14 +61,14 @@ pub record OfCells : Type 0 where
 pub record OverTrees : Type 0 where
   pub of_tree : (t : Tree) (r : Result) → cell_of_tally (left t) r ≡ asked cell_asked (list_of t) r
   -- every answer that the contract of `percentages::cell_of` allows stands for it
-  pub of_answer : (t : Tree) (r : Result) (a : CellAnswer) → cell_answer a ≡ cell_of_tally (left t) r → cell_answer a ≡ asked cell_asked (list_of t) r
+  pub of_answer : (t : Tree) (r : Result) (a : Std.Result CodeCell Refused) → cell_answer a ≡ cell_of_tally (left t) r → cell_answer a ≡ asked cell_asked (list_of t) r
   -- where all results are of one deal with thirteen cards a seat, and the score asked about is on it
   pub on_one_deal : (deal : List ℕ) → Thirteen deal → (t : Tree) → OneDeal deal (added t) → (s : ℤ)
       → cell_of_tally (left t) (record { score = s; deal = deal }) ≡ placed (cell_asked (scores_of (list_of t)) s)
   -- two trees of demand 3's kind with the same scores, each as often, give the same answers
   pub same_cell : (board : ℕ) (deal : List ℕ) → Thirteen deal → (t u : Tree) → Plain board deal t → Plain board deal u
       → SameScores (scores_of (added t)) (scores_of (added u))
-      → (r : Result) (a q : CellAnswer) → cell_answer a ≡ cell_of_tally (left t) r → cell_answer q ≡ cell_of_tally (left u) r → cell_answer a ≡ cell_answer q
+      → (r : Result) (a q : Std.Result CodeCell Refused) → cell_answer a ≡ cell_of_tally (left t) r → cell_answer q ≡ cell_of_tally (left u) r → cell_answer a ≡ cell_answer q
 
 -- ---- the printed hundredths: the whole number that is at most the exact number and a half, and more than that less one
 pub record Rounded (points most : ℕ) : Type 0 where

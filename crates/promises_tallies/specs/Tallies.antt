@@ -7,7 +7,7 @@ use Rattle.laws.specs.Refusals.{refused_at, malformed_tally, fouled_board}
 use Rattle.laws.specs.Law78.{occurrences, ns_matchpoints, ew_matchpoints}
 use Rattle.laws.specs.Tally.{Result, scores_of, deal_of, Thirteen, refusal, OneDeal, AllValid}
 use Rattle.tally.specs.declared.Tally.{Tally}
-use Rattle.tally.specs.declared.Tallied.{Tallied}
+use Rattle.tally.specs.Tallies.{Tallied}
 use Rattle.tally.specs.Tallies.{tally_of, scores_in, well_formed, no_tally, refused_with, accepting, fresh_of, add_of, merge_of}
 use Rattle.tally.specs.Points.{matchpoints_of}
 

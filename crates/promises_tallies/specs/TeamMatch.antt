@@ -8,7 +8,9 @@ use Rattle.laws.specs.TeamMatch.{Call, is_used, answer_to, boards_of, accepted_i
 use Rattle.score.specs.Units.{imp_answer}
 use Rattle.team_match.specs.declared.TeamMatch.{TeamMatch}
 use Rattle.team_match.specs.declared.Played.{Played}
-use Rattle.team_match.specs.declared.TotalsAnswer.{TotalsAnswer}
+use Rattle.std.specs.Prelude as Std
+use Rattle.laws.specs.declared.Refusal.{Refusal}
+use Rattle.team_match.specs.declared.BothTotals.{BothTotals}
 use Rattle.team_match.specs.Matches.{boards_in, is_match, start_of, answer_on, after_on, totals_on, totals_answer}
 
 -- the state that a run of calls leaves: each call gets, unchanged, the state that those before it left
@@ -37,7 +39,7 @@ pub record OfRun (run : List Call) : Type 0 where
   -- asked for the totals: the other team's is the negation, which is the sum of the IMPs with the scores swapped
   pub totals : totals_on (left run) ≡ answered (totals_of (total_of (accepted_in run)))
   pub other : neg_ℤ (left run).total.0 ≡ total_of (swapped (accepted_in run))
-  pub totals_answered : (r : TotalsAnswer) → totals_answer r ≡ totals_on (left run) → totals_answer r ≡ answered (totals_of (total_of (accepted_in run)))
+  pub totals_answered : (r : Std.Result BothTotals Refusal) → totals_answer r ≡ totals_on (left run) → totals_answer r ≡ answered (totals_of (total_of (accepted_in run)))
 
 -- ---- described: a run that leaves a given state
 -- the size of a difference worth so many IMPs: the scale's entry
@@ -76,4 +78,4 @@ pub record OfTeamMatches : Type 0 where
   pub same_state : (run run2 : List Call) → SameBoards (accepted_in run) (accepted_in run2) → left run ≡ left run2
   pub described : (m : TeamMatch) → Described m
   -- what an answer for the totals stands for determines it
-  pub one_totals : (r s : TotalsAnswer) → totals_answer r ≡ totals_answer s → r ≡ s
+  pub one_totals : (r s : Std.Result BothTotals Refusal) → totals_answer r ≡ totals_answer s → r ≡ s

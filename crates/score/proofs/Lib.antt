@@ -2,4 +2,3 @@ pub mod Validity
 pub mod Scale
 pub mod Sums
 pub mod Told
-pub mod Sizes

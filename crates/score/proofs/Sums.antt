@@ -1,52 +1,45 @@
--- Sums of IMPs: the sum of two numbers of 32 bits in 64, and when it fits 32 bits. Assumes nothing.
+-- Sums of each unit: when a sum fits. Assumes nothing.
 use Prim.Native.Nat.{ℕ, ◌≤◌, ◌<◌, ◌+◌, ◌^◌}
-use mathlib.Core.Path.{◌≡◌, refl, sym, ap, ◌∙◌}
+use mathlib.Core.Path.{◌≡◌}
 use mathlib.Core.Bool.{true, false}
 use native.Mathlib.Omega.{arith}
-use borrow.Author.Tests.{lt-ltb, le-ltb, ltb-true, ltb-false}
+use borrow.Author.Tests.{lt-ltb, le-ltb}
 use lib.IntN.{ℤ, pos, negsuc, nat_abs, ◌+ℤ◌}
-use lib.Signed.{mag, lt_z}
-use mir.Syntax.{w32, w64}
-use mir.Val.{SFits, to_z, of_z}
-use mir.Facts.{to_z-of_z, sfits_widen}
-use Rattle.laws.proofs.Integers.{size_sum, mag-le-size}
-use Rattle.laws.proofs.Tests.{not_both}
-use Rattle.score.specs.Units.{imps_fit}
+use mir.Syntax.{w32}
+use mir.Val.{SFits}
+use Rattle.laws.specs.Fitting.{fits, does_not_fit}
+use Rattle.score.specs.Units.{imps_fit, imps_added, matchpoints_added}
 
--- a number of 32 bits, widened and read back
-pub widened : (z : ℤ) → SFits w32 z → to_z w64 (of_z w64 (to_z w32 (of_z w32 z))) ≡ z
-widened z f = ap (λ (y : ℤ). to_z w64 (of_z w64 y)) (to_z-of_z f) ∙ to_z-of_z (sfits_widen {w = w32} {w' = w64} {z = z} tt f)
-
-size-le-mag : (z : ℤ) → nat_abs z ≤ mag z + 1
-size-le-mag (pos n) = omega arith
-size-le-mag (negsuc n) = omega arith
-
-pub sum_fits : (a b : ℤ) → SFits w32 a → SFits w32 b → SFits w64 (a +ℤ b)
-sum_fits a b f g =
-    record { sfits = omega (arith, mag-le-size (a +ℤ b), size_sum a b, size-le-mag a, size-le-mag b, f.sfits, g.sfits) }
-
--- ---- the three ways out, by the sum
-pub too_low : (z : ℤ) → lt_z z (negsuc 2147483647) ≡ true → imps_fit z ≡ false
+-- a number of IMPs fits exactly where 32 bits hold it
+held : (z : ℤ) → SFits w32 z → imps_fit z ≡ true
 unfolding imps_fit
-too_low (pos n) e = not_both false e refl
-too_low (negsuc n) e = le-ltb n (2 ^ 31) (ltb-true 2147483647 n e)
+held (pos n) f = lt-ltb n (2 ^ 31) (omega (arith, f.sfits))
+held (negsuc n) f = lt-ltb n (2 ^ 31) (omega (arith, f.sfits))
 
-pub too_high : (z : ℤ) → lt_z (pos 2147483647) z ≡ true → imps_fit z ≡ false
+not_below : (n : ℕ) → (n < 2 ^ 31 → ⊥) → 2 ^ 31 ≤ n
+not_below n f = omega arith
+
+not_held : (z : ℤ) → (SFits w32 z → ⊥) → imps_fit z ≡ false
 unfolding imps_fit
-too_high (pos n) e = le-ltb n (2 ^ 31) (ltb-true 2147483647 n e)
-too_high (negsuc n) e = not_both false e refl
+not_held (pos n) f = le-ltb n (2 ^ 31) (not_below n (λ h. f (record { sfits = omega arith })))
+not_held (negsuc n) f = le-ltb n (2 ^ 31) (not_below n (λ h. f (record { sfits = omega arith })))
 
-within : (z : ℤ) → lt_z z (negsuc 2147483647) ≡ false → lt_z (pos 2147483647) z ≡ false → mag z < 2 ^ 31
-within (pos n) l h = omega (arith, ltb-false 2147483647 n h)
-within (negsuc n) l h = omega (arith, ltb-false 2147483647 n l)
+-- ---- the two answers, for each unit
+pub imps_held : (a b : ℤ) → SFits w32 (a +ℤ b) → fits (a +ℤ b) ≡ imps_added a b
+unfolding imps_added
+imps_held a b f = rw (held (a +ℤ b) f)
 
-pub within-fits : (z : ℤ) → lt_z z (negsuc 2147483647) ≡ false → lt_z (pos 2147483647) z ≡ false → SFits w32 z
-within-fits z l h = record { sfits = within z l h }
+pub imps-over : (a b : ℤ) → (SFits w32 (a +ℤ b) → ⊥) → does_not_fit ≡ imps_added a b
+unfolding imps_added
+imps-over a b f = rw (not_held (a +ℤ b) f)
 
-pub within-true : (z : ℤ) → lt_z z (negsuc 2147483647) ≡ false → lt_z (pos 2147483647) z ≡ false → imps_fit z ≡ true
-unfolding imps_fit
-within-true (pos n) l h = lt-ltb n (2 ^ 31) (within (pos n) l h)
-within-true (negsuc n) l h = lt-ltb n (2 ^ 31) (within (negsuc n) l h)
+pub matchpoints_held : (a b : ℕ) → a + b < 2 ^ 32 → fits (a + b) ≡ matchpoints_added a b
+unfolding matchpoints_added
+matchpoints_held a b h = rw (lt-ltb (a + b) (2 ^ 32) h)
+
+pub matchpoints-over : (a b : ℕ) → (a + b < 2 ^ 32 → ⊥) → does_not_fit ≡ matchpoints_added a b
+unfolding matchpoints_added
+matchpoints-over a b h = rw (le-ltb (a + b) (2 ^ 32) (omega arith))
 
 -- a number of few IMPs fits
 pub few_fit : (z : ℤ) → nat_abs z < 2 ^ 31 → imps_fit z ≡ true

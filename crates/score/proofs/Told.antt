@@ -3,14 +3,14 @@ use Prim.Native.Nat.{ℕ}
 use mathlib.Core.Path.{◌≡◌, refl, ap}
 use lib.IntN.{ℤ}
 use Rattle.laws.specs.Refusals.{Answer, refused, answered}
-use Rattle.laws.specs.Fitting.{Fitting, fits, does_not_fit}
-use Rattle.score.specs.declared.ImpAnswer.{ImpAnswer}
-use Rattle.score.specs.declared.ImpAnswer.TheVariants.{Refused, Scored}
-use Rattle.score.specs.declared.ImpSum.{ImpSum}
-use Rattle.score.specs.declared.ImpSum.TheVariants.{ImpTotal, ImpsDoNotFit}
-use Rattle.score.specs.declared.MatchpointSum.{MatchpointSum}
-use Rattle.score.specs.declared.MatchpointSum.TheVariants.{MatchpointTotal, MatchpointsDoNotFit}
+use Rattle.laws.specs.Fitting.{fits}
+use Rattle.std.specs.Prelude.{Result, Ok, Err, Option, Some, None}
+use Rattle.laws.specs.declared.Refusal.{Refusal}
+use Rattle.laws.specs.Refused.{number}
+use Rattle.score.specs.declared.Imps.{Imps}
+use Rattle.score.specs.declared.Matchpoints.{Matchpoints}
 use Rattle.score.specs.Units.{imp_answer, imp_sum, matchpoint_sum}
+use Rattle.laws.proofs.NamedBack.{one_refusal}
 
 -- the values within
 module _ {A : Type 0} where
@@ -20,20 +20,23 @@ module _ {A : Type 0} where
   same_sum : (a b : A) → fits a ≡ fits b → a ≡ b
   same_sum a b e = cc
 
-pub one_answer : (r s : ImpAnswer) → imp_answer r ≡ imp_answer s → r ≡ s
-one_answer (Refused n) (Refused m) e = cc
-one_answer (Refused n) (Scored j) e = cc
-one_answer (Scored i) (Refused m) e = cc
-one_answer (Scored i) (Scored j) e = ap (λ (z : ℤ). Scored (record { 0 = z })) (same-value i.0 j.0 e)
+same-number : (x y : Refusal) → ◌≡◌ {A = Answer ℤ} (refused (number x)) (refused (number y)) → number x ≡ number y
+same-number x y e = cc
 
-pub one_imp_sum : (r s : ImpSum) → imp_sum r ≡ imp_sum s → r ≡ s
-one_imp_sum (ImpTotal i) (ImpTotal j) e = ap (λ (z : ℤ). ImpTotal (record { 0 = z })) (same_sum i.0 j.0 e)
-one_imp_sum (ImpTotal i) ImpsDoNotFit e = cc
-one_imp_sum ImpsDoNotFit (ImpTotal j) e = cc
-one_imp_sum ImpsDoNotFit ImpsDoNotFit e = refl
+pub one_answer : (r s : Result Imps Refusal) → imp_answer r ≡ imp_answer s → r ≡ s
+one_answer (Err x) (Err y) e = ap (λ (z : Refusal). Err z) (one_refusal x y (same-number x y e))
+one_answer (Err x) (Ok j) e = cc
+one_answer (Ok i) (Err y) e = cc
+one_answer (Ok i) (Ok j) e = ap (λ (z : ℤ). Ok (record { 0 = z })) (same-value i.0 j.0 e)
 
-pub one_matchpoint_sum : (r s : MatchpointSum) → matchpoint_sum r ≡ matchpoint_sum s → r ≡ s
-one_matchpoint_sum (MatchpointTotal m) (MatchpointTotal n) e = ap (λ (z : ℕ). MatchpointTotal (record { 0 = z })) (same_sum m.0 n.0 e)
-one_matchpoint_sum (MatchpointTotal m) MatchpointsDoNotFit e = cc
-one_matchpoint_sum MatchpointsDoNotFit (MatchpointTotal n) e = cc
-one_matchpoint_sum MatchpointsDoNotFit MatchpointsDoNotFit e = refl
+pub one_imp_sum : (r s : Option Imps) → imp_sum r ≡ imp_sum s → r ≡ s
+one_imp_sum (Some i) (Some j) e = ap (λ (z : ℤ). Some (record { 0 = z })) (same_sum i.0 j.0 e)
+one_imp_sum (Some i) None e = cc
+one_imp_sum None (Some j) e = cc
+one_imp_sum None None e = refl
+
+pub one_matchpoint_sum : (r s : Option Matchpoints) → matchpoint_sum r ≡ matchpoint_sum s → r ≡ s
+one_matchpoint_sum (Some m) (Some n) e = ap (λ (z : ℕ). Some (record { 0 = z })) (same_sum m.0 n.0 e)
+one_matchpoint_sum (Some m) None e = cc
+one_matchpoint_sum None (Some n) e = cc
+one_matchpoint_sum None None e = refl

@@ -1,31 +1,27 @@
 -- What the two scoring units answer: IMPs of two scores, and sums of each unit, exact or not at all.
 -- Assumes nothing.
-use Rattle.std.specs.Prelude.{ℕ, ◌+◌, ◌^◌, Bool, ltb, ℤ, pos, negsuc, ◌+ℤ◌}
+use Rattle.std.specs.Prelude.{ℕ, ◌+◌, ◌^◌, Bool, ltb, ℤ, pos, negsuc, ◌+ℤ◌, Option, None, Some, Result, Ok, Err}
 use Rattle.laws.specs.Fitting.{Fitting, fits, does_not_fit, where_fits}
 use Rattle.laws.specs.Refusals.{Answer, refused, answered}
+use Rattle.laws.specs.Refused.{number}
+use Rattle.laws.specs.declared.Refusal.{Refusal}
 use Rattle.score.specs.declared.Matchpoints.{Matchpoints}
 use Rattle.score.specs.declared.Imps.{Imps}
-use Rattle.score.specs.declared.ImpAnswer.{ImpAnswer}
-use Rattle.score.specs.declared.ImpAnswer.TheVariants.{Refused, Scored}
-use Rattle.score.specs.declared.ImpSum.{ImpSum}
-use Rattle.score.specs.declared.ImpSum.TheVariants.{ImpTotal, ImpsDoNotFit}
-use Rattle.score.specs.declared.MatchpointSum.{MatchpointSum}
-use Rattle.score.specs.declared.MatchpointSum.TheVariants.{MatchpointTotal, MatchpointsDoNotFit}
 
 -- what an answer to two scores stands for: a refusal by its number, or a number of IMPs
-abbrev pub imp_answer : ImpAnswer → Answer ℤ
-imp_answer (Refused n) = refused n
-imp_answer (Scored i) = answered i.0
+abbrev pub imp_answer : Result Imps Refusal → Answer ℤ
+imp_answer (Ok i) = answered i.0
+imp_answer (Err refusal) = refused (number refusal)
 
 -- what an answer to a sum of IMPs stands for: the sum, or that it does not fit
-abbrev pub imp_sum : ImpSum → Fitting ℤ
-imp_sum (ImpTotal i) = fits i.0
-imp_sum ImpsDoNotFit = does_not_fit
+abbrev pub imp_sum : Option Imps → Fitting ℤ
+imp_sum (Some i) = fits i.0
+imp_sum None = does_not_fit
 
 -- what an answer to a sum of matchpoints stands for
-abbrev pub matchpoint_sum : MatchpointSum → Fitting ℕ
-matchpoint_sum (MatchpointTotal m) = fits m.0
-matchpoint_sum MatchpointsDoNotFit = does_not_fit
+abbrev pub matchpoint_sum : Option Matchpoints → Fitting ℕ
+matchpoint_sum (Some m) = fits m.0
+matchpoint_sum None = does_not_fit
 
 -- a number of IMPs is held from -2^31 to 2^31 - 1
 unfoldable pub imps_fit : ℤ → Bool

@@ -19,18 +19,16 @@ use Rattle.laws.specs.Sheet.{lines_of, score_of, is_score, is_zero, is_size, uns
 use Rattle.laws.specs.Cards.{cards_dealt, first_without_thirteen}
 use Rattle.laws.specs.Contents.{are_seats, take_deal}
 use Rattle.laws.specs.Reading.{refuse}
-use Rattle.laws.specs.Tally.{Result, on_deal, deal_of, leaves, Refusal, deal_refusal, add_refusal, AllValid, fresh_refusal}
+use Rattle.laws.specs.Tally.{Result, on_deal, no_deal, deal_of, Refusal, deal_refusal, add_refusal, AllValid, fresh_refusal}
 use Rattle.laws.proofs.TallyRules.{scores_on, length_on, given_on_lem, add-allowed, allowed-add}
 use Rattle.laws.proofs.Tests.{by_test, and_right}
 use Rattle.tally.specs.declared.Tally.{Tally}
-use Rattle.tally.specs.declared.Tallied.{Tallied}
-use Rattle.tally.specs.Tallies.{tally_for, tally_of, no_tally, carries, fresh_of, add_of, answer_of}
+use Rattle.tally.specs.Tallies.{Tallied, tally_for, tally_of, carries, add_of, answer_of}
 use Rattle.tally.proofs.Dealing.{carried_deal, carried_none}
 use Rattle.tally.proofs.Lists.{valid_append}
 use Rattle.tally.proofs.OfLists.{Sound, answer-number, answer_made, add-list}
 use Rattle.tree_stack.specs.Deals.{suits}
-use Rattle.score_lines.specs.declared.Said.{Said}
-use Rattle.score_lines.specs.declared.Said.TheVariants.{Score, Nothing}
+use Rattle.std.specs.Prelude as Std
 use Rattle.score_lines.specs.Reading.{line_length, said_on}
 use Rattle.score_lines.specs.Whole.{Found}
 use Rattle.score_lines.proofs.Lines.{first-line, line-within}
@@ -70,8 +68,8 @@ pub record Read (bytes : List ℕ) (t : Tally) (k at : ℕ) : Type 0 where
   pub scores : map score_of (lines_of bytes) ≡ so_far ++ map score_of (lines_of (drop at bytes))
   pub refused : refused_line 1 (lines_of bytes) ≡ refused_line (suc k) (lines_of (drop at bytes))
 
-pub begins : (bytes : List ℕ) → Read bytes (fresh_of 1).tally 0 0
-unfolding fresh_of fresh_refusal answer_of leaves tally_of AllValid
+pub begins : (bytes : List ℕ) → Read bytes (tally_for 1 no_deal []) 0 0
+unfolding fresh_refusal AllValid
 begins bytes =
     record {
       so_far = [];
@@ -83,14 +81,14 @@ begins bytes =
     }
 
 -- what a line says, as the definition has it
-said-score : (line : List ℕ) (s : ℤ) → said_on line ≡ Score s → (is_score line ≡ true) × (score_of line ≡ s)
+said-score : (line : List ℕ) (s : ℤ) → said_on line ≡ Std.Some s → (is_score line ≡ true) × (score_of line ≡ s)
 unfolding said_on
 said-score line s e =
     by_test (is_score line)
     (λ (q : is_score line ≡ true). (q, cc (rw q at e)))
     (λ (q : is_score line ≡ false). absurd (let z : ◌≡◌ {A = ℕ} 0 1 = cc (rw q at e) in omega arith))
 
-said_nothing : (line : List ℕ) → said_on line ≡ Nothing → is_score line ≡ false
+said_nothing : (line : List ℕ) → said_on line ≡ Std.None → is_score line ≡ false
 unfolding said_on
 said_nothing line e =
     by_test (is_score line)
@@ -101,13 +99,13 @@ module _ (bytes : List ℕ) (t : Tally) (k at : ℕ) (w : Read bytes t k at) whe
   pub few : k ≤ 128
   few = omega (arith, w.count, w.sound.room)
 
-  pub ends : length bytes ≤ at → Found bytes (record { refused = 0; tally = t })
+  pub ends : length bytes ≤ at → Found bytes (Std.Ok t)
   unfolding lines_of refused_line
   ends h =
       let none : drop at bytes ≡ [] = drop_of_length-le bytes h in
       let all : map score_of (lines_of bytes) ≡ w.so_far = w.scores ∙ rw none (append-nil w.so_far) in
       let same = ap (λ (l : List ℤ). tally_of 1 (on_deal suits l)) (sym all) in
-      record { refused = sym (w.refused ∙ rw none); tally = λ q. w.is ∙ sym (lines-tally w.so_far) ∙ same; none = λ z. absurd (z refl) }
+      (w.refused ∙ rw none, w.is ∙ sym (lines-tally w.so_far) ∙ same)
 
   module _ (h : at < length bytes) (end : ℕ) (is-end : end ≡ at + line_length (drop at bytes)) where
     abbrev line : List ℕ
@@ -127,16 +125,16 @@ module _ (bytes : List ℕ) (t : Tally) (k at : ℕ) (w : Read bytes t k at) whe
         rw e (first-line (drop at bytes) n ∙ rw (drop-drop (suc (line_length (drop at bytes))) at bytes, f))
 
     -- the line is refused
-    stops : (not (is_score line) || ltb 128 (suc k)) ≡ true → Found bytes (record { refused = k + 1; tally = no_tally })
+    stops : (not (is_score line) || ltb 128 (suc k)) ≡ true → Found bytes (Std.Err (record { 0 = k + 1 }))
     unfolding refused_line
     stops q =
         let e : refused_line 1 (lines_of bytes) ≡ k + 1 = w.refused ∙ rw (split, q) (sym (add-one k)) in
-        record { refused = sym e; tally = λ z. absurd (omega arith); none = λ z. refl }
+        (e, λ z. omega arith)
 
-    pub bad : (r : Said) → r ≡ said_on line → r ≡ Nothing → Found bytes (record { refused = k + 1; tally = no_tally })
+    pub bad : (r : Std.Option ℤ) → r ≡ said_on line → r ≡ Std.None → Found bytes (Std.Err (record { 0 = k + 1 }))
     bad r e q = stops (rw (said_nothing line (sym e ∙ q)))
 
-    module _ (r : Said) (s : ℤ) (e : r ≡ said_on line) (q : r ≡ Score s) where
+    module _ (r : Std.Option ℤ) (s : ℤ) (e : r ≡ said_on line) (q : r ≡ Std.Some s) where
       is-score : is_score line ≡ true
       is-score = (said-score line s (sym e ∙ q)).0
 
@@ -167,7 +165,7 @@ module _ (bytes : List ℕ) (t : Tally) (k at : ℕ) (w : Read bytes t k at) whe
         added : a ≡ add_of t result
         added = is-a ∙ ap (λ (z : ℤ). add_of t (record { score = z; deal = suits })) (to_z-of_z (valid-fits s said-valid))
 
-        pub over : (a.refusal ≡ 0 → ⊥) → Found bytes (record { refused = k + 1; tally = no_tally })
+        pub over : (a.refusal ≡ 0 → ⊥) → Found bytes (Std.Err (record { 0 = k + 1 }))
         over f =
             by_test (ltb 128 (suc k))
             (λ (z : ltb 128 (suc k) ≡ true). stops (rw (is-score, z)))

@@ -1,5 +1,5 @@
 -- What a line says, by the tests that the code makes. Assumes nothing.
-use Rattle.std.specs.Prelude.{if◌then◌else◌}
+use Rattle.std.specs.Prelude.{Option, Some, None, if◌then◌else◌}
 use Prim.Native.Nat.{ℕ, zero, suc, ◌≤◌, ◌<◌}
 use native.Mathlib.Omega.{arith}
 use mathlib.Core.Path.{◌≡◌, refl, sym, ap, ◌∙◌}
@@ -18,11 +18,7 @@ use Rattle.laws.specs.Sheet.{is_zero, is_size, score_of, is_score}
 use Rattle.laws.proofs.Integers.{size_neg, mag-le-size}
 use Rattle.score.proofs.Validity.{valid-size}
 use Rattle.laws.proofs.Tests.{by_test}
-use Rattle.decimal.specs.declared.Number.{Number}
-use Rattle.decimal.specs.declared.Number.TheVariants.{Is, None}
 use Rattle.decimal.specs.Numbers.{number_on}
-use Rattle.score_lines.specs.declared.Said.{Said}
-use Rattle.score_lines.specs.declared.Said.TheVariants.{Score, Nothing}
 use Rattle.score_lines.specs.Reading.{size_on, if_valid, positive_of, negative_of, said_on}
 
 -- ---- a size
@@ -31,7 +27,7 @@ module _ (s : List ℕ) where
   unfolding size_on is_size is_number
   size_none e = rw (lt-leb 1 (length s) (omega arith)) (both_false (not (starts_with 48 s)) (leb (length s) 4))
     where
-      both_false : (a b : Bool) → None ≡ (if a && (b && false) then Is (value s) else None)
+      both_false : (a b : Bool) → None ≡ (if a && (b && false) then Some (value s) else None)
       both_false true true = refl
       both_false true false = refl
       both_false false b = refl
@@ -40,7 +36,7 @@ module _ (s : List ℕ) where
   unfolding size_on is_size
   size-long h = rw (lt-leb (length s) 4 h) (either (not (starts_with 48 s)))
     where
-      either : (a : Bool) → None ≡ (if a && false then Is (value s) else None)
+      either : (a : Bool) → None ≡ (if a && false then Some (value s) else None)
       either true = refl
       either false = refl
 
@@ -63,24 +59,24 @@ pub over : (z : ℤ) → 7600 < nat_abs z → valid_score z ≡ false
 unfolding valid_score
 over z h = rw (lt-leb (nat_abs z) 7600 h)
 
-pub positive_over : (n : ℕ) → 7600 < n → Nothing ≡ positive_of (Is n)
+pub positive_over : (n : ℕ) → 7600 < n → None ≡ positive_of (Some n)
 unfolding positive_of if_valid
 positive_over n h = rw (over (pos n) h)
 
-pub negative_over : (n : ℕ) → 7600 < n → Nothing ≡ negative_of (Is n)
+pub negative_over : (n : ℕ) → 7600 < n → None ≡ negative_of (Some n)
 unfolding negative_of if_valid
 negative_over zero h = absurd (omega arith)
 negative_over (suc n) h = rw (over (negsuc n) h)
 
 -- a score that the code tested
 module _ (z : ℤ) (r : Bool) (f : SFits w16 z) (e : r ≡ valid_score (to_z w16 (of_z w16 z))) where
-  pub valid-said : r ≡ true → Score (to_z w16 (of_z w16 z)) ≡ if_valid z
+  pub valid-said : r ≡ true → Some (to_z w16 (of_z w16 z)) ≡ if_valid z
   unfolding if_valid
   valid-said t =
       let v : valid_score z ≡ true = sym (ap valid_score (to_z-of_z f)) ∙ sym e ∙ t in
       rw (to_z-of_z f, v)
 
-  pub not_valid : r ≡ false → Nothing ≡ if_valid z
+  pub not_valid : r ≡ false → None ≡ if_valid z
   unfolding if_valid
   not_valid t =
       let v : valid_score z ≡ false = sym (ap valid_score (to_z-of_z f)) ∙ sym e ∙ t in
@@ -93,34 +89,35 @@ as_signed n h = to_z_pos w16 (omega arith)
 pub minus-fits : (n : ℕ) → n ≤ 7600 → SFits w16 (pos 0 -ℤ to_z w16 n)
 minus-fits n h = rw (as_signed n h, +ℤ_idl) (record { sfits = omega (arith, mag-le-size (neg_ℤ (pos n)), size_neg (pos n)) })
 
-pub positive_said : (n : Number) (size : ℕ) (r : Said) → n ≡ Is size → size ≤ 7600 → r ≡ if_valid (to_z w16 size) → r ≡ positive_of n
+pub positive_said : (n : Option ℕ) (size : ℕ) (r : Option ℤ) → n ≡ Some size → size ≤ 7600 → r ≡ if_valid (to_z w16 size) → r ≡ positive_of n
 unfolding positive_of
 positive_said n size r e h q = q ∙ rw (as_signed size h, e)
 
-pub negative_said : (n : Number) (size : ℕ) (r : Said) → n ≡ Is size → size ≤ 7600 → r ≡ if_valid (to_z w16 (of_z w16 (pos 0 -ℤ to_z w16 size))) → r ≡ negative_of n
+pub negative_said : (n : Option ℕ) (size : ℕ) (r : Option ℤ) → n ≡ Some size → size ≤ 7600
+    → r ≡ if_valid (to_z w16 (of_z w16 (pos 0 -ℤ to_z w16 size))) → r ≡ negative_of n
 unfolding negative_of
 negative_said n size r e h q = q ∙ rw (to_z-of_z (minus-fits size h), as_signed size h, +ℤ_idl, e)
 
 module _ (s : List ℕ) where
-  pub said-none : length s ≡ 0 → Nothing ≡ said_on s
+  pub said-none : length s ≡ 0 → None ≡ said_on s
   unfolding said_on is_score is_zero is_size is_number starts_with
   said-none e = go s e
     where
-      go : (s : List ℕ) → length s ≡ 0 → Nothing ≡ said_on s
+      go : (s : List ℕ) → length s ≡ 0 → None ≡ said_on s
       go [] e = refl
       go (b ∷ l) e = absurd (omega arith)
 
 -- a score that is said, where its size stands
-by_size : (z : ℤ) (b : Bool) → (if b && valid_score z then Score z else Nothing) ≡ (if b then if_valid z else Nothing)
+by_size : (z : ℤ) (b : Bool) → (if b && valid_score z then Some z else None) ≡ (if b then if_valid z else None)
 unfolding if_valid
 by_size z true = refl
 by_size z false = refl
 
-positive_size : (s : List ℕ) → positive_of (size_on s) ≡ (if is_size s then if_valid (pos (value s)) else Nothing)
+positive_size : (s : List ℕ) → positive_of (size_on s) ≡ (if is_size s then if_valid (pos (value s)) else None)
 unfolding size_on positive_of
 positive_size s = by_test (is_size s) (λ (q : is_size s ≡ true). rw q) (λ (q : is_size s ≡ false). rw q)
 
-negative_size : (s : List ℕ) → negative_of (size_on s) ≡ (if is_size s then if_valid (neg_ℤ (pos (value s))) else Nothing)
+negative_size : (s : List ℕ) → negative_of (size_on s) ≡ (if is_size s then if_valid (neg_ℤ (pos (value s))) else None)
 unfolding size_on negative_of
 negative_size s = by_test (is_size s) (λ (q : is_size s ≡ true). rw q) (λ (q : is_size s ≡ false). rw q)
 
@@ -143,7 +140,7 @@ module _ (s : List ℕ) (some : length s ≡ 0 → ⊥) where
     where
       or_size : (b : Bool)
           → negative_of (size_on (drop 1 s))
-          ≡ (if ((b && false) || is_size (drop 1 s)) && valid_score (neg_ℤ (pos (value (drop 1 s)))) then Score (neg_ℤ (pos (value (drop 1 s)))) else Nothing)
+          ≡ (if ((b && false) || is_size (drop 1 s)) && valid_score (neg_ℤ (pos (value (drop 1 s)))) then Some (neg_ℤ (pos (value (drop 1 s)))) else None)
       or_size true = negative_size (drop 1 s) ∙ sym (by_size (neg_ℤ (pos (value (drop 1 s)))) (is_size (drop 1 s)))
       or_size false = negative_size (drop 1 s) ∙ sym (by_size (neg_ℤ (pos (value (drop 1 s)))) (is_size (drop 1 s)))
 
@@ -167,7 +164,7 @@ module _ (s : List ℕ) (some : length s ≡ 0 → ⊥) where
         either true = refl
         either false = refl
 
-    pub said-zero : length s ≤ 1 → get_or s 0 0 ≡ 48 → Score (pos 0) ≡ said_on s
+    pub said-zero : length s ≤ 1 → get_or s 0 0 ≡ 48 → Some (pos 0) ≡ said_on s
     unfolding said_on is_score score_of is_zero valid_score
     said-zero h e =
         let one : length s ≡ 1 = omega arith in

@@ -1,12 +1,8 @@
 -- What the functions that read a line answer. Assumes nothing.
-use Rattle.std.specs.Prelude.{ℕ, suc, List, [], ◌∷◌, eqb, ℤ, pos, neg_ℤ, if◌then◌else◌}
+use Rattle.std.specs.Prelude.{ℕ, suc, List, [], ◌∷◌, eqb, ℤ, pos, neg_ℤ, Option, Some, None, if◌then◌else◌}
 use Rattle.laws.specs.Decimal.{value}
 use Rattle.laws.specs.Law77.{valid_score}
 use Rattle.laws.specs.Sheet.{newline, is_size, score_of, is_score}
-use Rattle.decimal.specs.declared.Number.{Number}
-use Rattle.decimal.specs.declared.Number.TheVariants.{Is, None}
-use Rattle.score_lines.specs.declared.Said.{Said}
-use Rattle.score_lines.specs.declared.Said.TheVariants.{Score, Nothing}
 
 -- how many bytes stand before the first newline
 unfoldable pub line_length : List ℕ → ℕ
@@ -14,23 +10,23 @@ line_length [] = 0
 line_length (b ∷ bytes) = if eqb b newline then 0 else suc (line_length bytes)
 
 -- the value of a digit 1 to 9 and at most three digits more; other bytes say none
-unfoldable pub size_on : List ℕ → Number
-size_on bytes = if is_size bytes then Is (value bytes) else None
+unfoldable pub size_on : List ℕ → Option ℕ
+size_on bytes = if is_size bytes then Some (value bytes) else None
 
 -- a score, where it is valid
-unfoldable pub if_valid : ℤ → Said
-if_valid score = if valid_score score then Score score else Nothing
+unfoldable pub if_valid : ℤ → Option ℤ
+if_valid score = if valid_score score then Some score else None
 
 -- a number as a score
-unfoldable pub positive_of : Number → Said
-positive_of (Is size) = if_valid (pos size)
-positive_of None = Nothing
+unfoldable pub positive_of : Option ℕ → Option ℤ
+positive_of (Some size) = if_valid (pos size)
+positive_of None = None
 
 -- a number with a minus as a score
-unfoldable pub negative_of : Number → Said
-negative_of (Is size) = if_valid (neg_ℤ (pos size))
-negative_of None = Nothing
+unfoldable pub negative_of : Option ℕ → Option ℤ
+negative_of (Some size) = if_valid (neg_ℤ (pos size))
+negative_of None = None
 
 -- the score on a line, where it says one
-unfoldable pub said_on : List ℕ → Said
-said_on line = if is_score line then Score (score_of line) else Nothing
+unfoldable pub said_on : List ℕ → Option ℤ
+said_on line = if is_score line then Some (score_of line) else None

@@ -23,9 +23,10 @@ use Rattle.laws.proofs.Comparisons.{below_equal, both_most}
 use Rattle.laws.proofs.TallyRules.{scores_on, given_on_lem}
 use Rattle.laws.proofs.Tests.{by_test}
 use Rattle.tally.specs.declared.Tally.{Tally}
-use Rattle.score.specs.declared.Matchpoints.{Matchpoints}
-use Rattle.matchpoints.specs.declared.points.MatchpointAnswer.{MatchpointAnswer}
-use Rattle.matchpoints.specs.declared.points.MatchpointAnswer.TheVariants.{Refused, Points}
+use Rattle.std.specs.Prelude as Std
+use Rattle.laws.specs.declared.Refused.{Refused}
+use Rattle.laws.specs.Refused.{number}
+use Rattle.matchpoints.specs.declared.points.BothSides.{BothSides}
 use Rattle.tally.specs.Entries.{score, entry}
 use Rattle.tally.specs.Points.{matchpoints_of}
 use Rattle.matchpoints.specs.Points.{points_answer}
@@ -158,18 +159,18 @@ module _ (k : Columns) (t : Tally) (out₀ : List ℕ) (at₀ : ℕ) (out : List
     as_held = to_z-of_z (valid-fits at_i is-valid)
 
     -- what the call answers for it
-    module _ (r : MatchpointAnswer) (e : points_answer r ≡ matchpoints_of t (record { score = to_z w16 (of_z w16 at_i); deal = t.deal })) where
+    module _ (r : Std.Result BothSides Refused) (e : points_answer r ≡ matchpoints_of t (record { score = to_z w16 (of_z w16 at_i); deal = t.deal })) where
       found : points_answer r ≡ given (record { ns = ns_matchpoints (scores_in t) at_i; ew = ew_matchpoints (scores_in t) at_i })
       found = e ∙ ap (λ (z : ℤ). matchpoints_of t (record { score = z; deal = t.deal })) as_held ∙ answers
 
-      pub not-refused : (n place : ℕ) → r ≡ Refused n place → ⊥
-      not-refused n place q =
-          let told : points_answer r ≡ refused_at n place = ap points_answer q in
+      pub not-refused : (e : Refused) → r ≡ Std.Err e → ⊥
+      not-refused e q =
+          let told : points_answer r ≡ refused_at (number e.refusal) e.place = ap points_answer q in
           let z : ◌≡◌ {A = ℕ} 0 1 = cc (found, told) in
           omega arith
 
-      pub both : (n m : Matchpoints) → r ≡ Points n m → (n.0 ≡ ns_matchpoints (scores_in t) at_i) × (m.0 ≡ ew_matchpoints (scores_in t) at_i)
-      both n m q =
+      pub both : (p : BothSides) → r ≡ Std.Ok p → (p.ns.0 ≡ ns_matchpoints (scores_in t) at_i) × (p.ew.0 ≡ ew_matchpoints (scores_in t) at_i)
+      both p q =
           let told = sym (ap points_answer q) ∙ found in
           (same-ns _ _ told, same-ew _ _ told)
 

@@ -1,5 +1,5 @@
 -- The sheet by what was found of the lines. Assumes nothing.
-use Prim.Native.Nat.{ℕ, ◌≤◌}
+use Prim.Native.Nat.{ℕ}
 use native.Mathlib.Omega.{arith}
 use mathlib.Core.Path.{◌≡◌, refl, sym, ◌∙◌}
 use mathlib.Core.Bool.{true}
@@ -16,55 +16,53 @@ use Rattle.tally.specs.Tallies.{entries_in, tally_for, scores_in, well_formed}
 use Rattle.tally.proofs.Formed.{formed, entries-scores}
 use Rattle.tally.proofs.OfLists.{Sound, is-well}
 use Rattle.tally.proofs.Tables.{table-tally, cell-table-tally}
-use Rattle.score_lines.specs.declared.Results.{Results}
+use Rattle.std.specs.Prelude.{Ok, Err}
+use Rattle.score_lines.specs.declared.RefusedLine.{RefusedLine}
 use Rattle.score_lines.specs.Whole.{Found}
 use Rattle.score_lines.proofs.LinesRead.{carried, carries-lines, lines-tally}
 use Rattle.sheet_text.specs.declared.columns.Columns.{Columns}
 use Rattle.sheet_text.specs.declared.columns.Columns.TheVariants.{Matchpoints, Percentages}
 use Rattle.sheet_text.specs.Columns.{table_as, sheet_as}
-use Rattle.sheet_text.proofs.Enough.{Taken, all-taken, refused-low}
+use Rattle.sheet_text.proofs.Enough.{Taken, all-taken}
 
-module _ (bytes : List ℕ) (r : Results) (f : Found bytes r) where
-  tabled-refused : (table_of : List ℤ → List ℕ) → (r.refused ≡ 0 → ⊥) → tabled table_of (lines_of bytes) ≡ refusal r.refused
+module _ (bytes : List ℕ) (line : RefusedLine) (f : Found bytes (Err line)) where
+  tabled-refused : (table_of : List ℤ → List ℕ) → tabled table_of (lines_of bytes) ≡ refusal line.0
   unfolding tabled
-  tabled-refused table_of h = rw (← f.refused, ne_eqb r.refused 0 h)
+  tabled-refused table_of = rw (f.0, ne_eqb line.0 0 f.1)
 
-  pub sheet-refused : (k : Columns) → (r.refused ≡ 0 → ⊥) → sheet_as k bytes ≡ refusal r.refused
+  pub sheet-refused : (k : Columns) → sheet_as k bytes ≡ refusal line.0
   unfolding sheet cell_sheet
-  sheet-refused Matchpoints h = tabled-refused table h
-  sheet-refused Percentages h = tabled-refused cell_table h
+  sheet-refused Matchpoints = tabled-refused table
+  sheet-refused Percentages = tabled-refused cell_table
 
-  pub refused-few : r.refused ≤ 129
-  refused-few = rw f.refused (refused-low 1 (lines_of bytes) (omega arith))
+module _ (bytes : List ℕ) (t : Tally) (f : Found bytes (Ok t)) where
+  taken : Taken 1 (lines_of bytes)
+  taken = all-taken 1 (lines_of bytes) (omega arith) (omega arith) f.0
 
-  module _ (h : r.refused ≡ 0) where
-    taken : Taken 1 (lines_of bytes)
-    taken = all-taken 1 (lines_of bytes) (omega arith) (omega arith) (sym f.refused ∙ h)
+  abbrev scores : List ℤ
+  scores = map score_of (lines_of bytes)
 
-    abbrev scores : List ℤ
-    scores = map score_of (lines_of bytes)
+  sound : Sound 1 (carried scores) scores
+  unfolding fresh_refusal
+  sound = record { board = refl; valid = taken.valid; room = rw length-map (omega (arith, taken.few)); deal = carries-lines scores }
 
-    sound : Sound 1 (carried scores) scores
-    unfolding fresh_refusal
-    sound = record { board = refl; valid = taken.valid; room = rw length-map (omega (arith, taken.few)); deal = carries-lines scores }
+  abbrev its : Tally
+  its = tally_for 1 (carried scores) scores
 
-    abbrev its : Tally
-    its = tally_for 1 (carried scores) scores
+  is_its : t ≡ its
+  is_its = f.1 ∙ lines-tally scores
 
-    is_its : r.tally ≡ its
-    is_its = f.tally h ∙ lines-tally scores
+  pub well : well_formed t ≡ true
+  well = rw is_its (is-well 1 (carried scores) scores sound)
 
-    pub well : well_formed r.tally ≡ true
-    well = rw is_its (is-well 1 (carried scores) scores sound)
+  own : entries_of (scores_in its) ≡ entries_in its
+  own = entries-scores its (formed its (is-well 1 (carried scores) scores sound))
 
-    own : entries_of (scores_in its) ≡ entries_in its
-    own = entries-scores its (formed its (is-well 1 (carried scores) scores sound))
+  tabled-table : (table_of : List ℤ → List ℕ) → tabled table_of (lines_of bytes) ≡ table_of scores
+  unfolding tabled
+  tabled-table table_of = rw f.0
 
-    tabled-table : (table_of : List ℤ → List ℕ) → tabled table_of (lines_of bytes) ≡ table_of scores
-    unfolding tabled
-    tabled-table table_of = rw (← f.refused, h)
-
-    pub sheet-table : (k : Columns) → sheet_as k bytes ≡ table_as k (scores_in r.tally)
-    unfolding sheet cell_sheet
-    sheet-table Matchpoints = rw is_its (tabled-table table ∙ sym (table-tally 1 (carried scores) scores sound own))
-    sheet-table Percentages = rw is_its (tabled-table cell_table ∙ sym (cell-table-tally 1 (carried scores) scores sound own))
+  pub sheet-table : (k : Columns) → sheet_as k bytes ≡ table_as k (scores_in t)
+  unfolding sheet cell_sheet
+  sheet-table Matchpoints = rw is_its (tabled-table table ∙ sym (table-tally 1 (carried scores) scores sound own))
+  sheet-table Percentages = rw is_its (tabled-table cell_table ∙ sym (cell-table-tally 1 (carried scores) scores sound own))

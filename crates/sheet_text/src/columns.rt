@@ -7,7 +7,7 @@ ghost use Rattle.text.specs.Putting.{Put};
 use text::{put_byte, put_bytes, put_digit, put_field};
 
 // What a table gives for each side.
-#[derive(Clone, Copy)]
+#[derive(Clone, Copy, Debug, PartialEq, Eq)]
 pub(crate) enum Columns {
     Matchpoints,
     Percentages,
@@ -27,9 +27,9 @@ fn put_hundredths(out: &mut [u8], at: usize, n: u32) -> usize
     ensures { Put out.old at (32 ∷ two_decimals n) out.new result }
 {
     let a = put_field(out, at, n / 100);
-    let b = put_byte(out, a, 46);
-    let c = put_digit(out, b, (n / 10) as u64);
-    put_digit(out, c, n as u64)
+    let b = put_byte(out, a, b'.');
+    let c = put_digit(out, b, u64::from(n / 10));
+    put_digit(out, c, u64::from(n))
 }
 
 // A space and the percentage of so many points of so many.

@@ -9,10 +9,11 @@ ghost use Rattle.sheet_text.specs.Columns.{row_text, table_as, sheet_as};
 ghost use Rattle.text.specs.Putting.{Put, written, length_within, left_in};
 
 use super::columns::{Columns, put_header, put_side};
-use matchpoints::MatchpointAnswer;
+use laws::Refused;
+use matchpoints::BothSides;
 use score_lines::results_of;
 use tally::Tally;
-use text::{Outcome, lend, put_byte, put_field, put_refusal, put_score};
+use text::{lend, put_byte, put_field, put_refusal, put_score};
 
 fn put_row(
     out: &mut [u8],
@@ -30,15 +31,14 @@ fn put_row(
     let b = put_field(out, a, count);
     let c = put_side(out, b, columns, ns, ew);
     let d = put_side(out, c, columns, ew, ns);
-    put_byte(out, d, 10)
+    put_byte(out, d, b'\n')
 }
 
 // The matchpoints of a score on the deal that the tally carries.
-fn points_of(t: Tally, score: i16) -> MatchpointAnswer
+fn points_of(t: Tally, score: i16) -> Result<BothSides, Refused>
     ensures { points_answer result ≡ matchpoints_of t (record { score = score; deal = t.deal }) }
 {
-    let deal = t.deal;
-    matchpoints::matchpoints(t, score, &deal)
+    matchpoints::matchpoints(t, score, &t.deal)
 }
 
 // The table of a tally that is well formed.
@@ -47,19 +47,18 @@ fn put_table(out: &mut [u8], t: Tally, columns: Columns) -> usize
     ensures { Put out.old 0 (table_as columns (scores_in t)) out.new result }
 {
     let mut at = put_header(out, columns);
-    let mut i: usize = 0;
-    while i < 128 {
+    for i in 0..128 {
         let count = t.counts[i];
         if count == 0 {
             return at;
         }
         let score = t.scores[i];
-        let points = points_of(t, score);
-        let MatchpointAnswer::Points { ns, ew } = points else {
+        let Ok(points) = points_of(t, score) else {
             return at;
         };
-        at = put_row(out, at, columns, score, count as u32, ns.0, ew.0);
-        i += 1;
+        let ns = points.ns.0;
+        let ew = points.ew.0;
+        at = put_row(out, at, columns, score, u32::from(count), ns, ew);
     }
     at
 }
@@ -68,17 +67,14 @@ fn put_table(out: &mut [u8], t: Tally, columns: Columns) -> usize
 fn put_sheet(out: &mut [u8], bytes: &[u8], columns: Columns) -> usize
     ensures { Put out.old 0 (sheet_as columns bytes.now) out.new result }
 {
-    let results = results_of(bytes);
-    let refused = results.refused;
-    if refused != 0 {
-        return put_refusal(out, refused as u64);
+    match results_of(bytes) {
+        Ok(t) => put_table(out, t, columns),
+        Err(line) => put_refusal(out, u64::from(line.0)),
     }
-    let t = results.tally;
-    put_table(out, t, columns)
 }
 
 // Writes the sheet of a text of scores to lent bytes. 2331 bytes are enough for every sheet.
-pub fn write(bytes: &[u8], out: &mut [u8]) -> Outcome
+pub fn write(bytes: &[u8], out: &mut [u8]) -> Option<usize>
     ensures answer { written result ≡ length_within (sheet bytes.now) (length out.old) }
     ensures bytes { out.new ≡ left_in out.old (sheet bytes.now) }
 {
@@ -88,7 +84,7 @@ pub fn write(bytes: &[u8], out: &mut [u8]) -> Outcome
 }
 
 // Writes the sheet with percentages of a text of scores to lent bytes. 3097 bytes are enough for every one.
-pub fn write_cells(bytes: &[u8], out: &mut [u8]) -> Outcome
+pub fn write_cells(bytes: &[u8], out: &mut [u8]) -> Option<usize>
     ensures answer { written result ≡ length_within (cell_sheet bytes.now) (length out.old) }
     ensures bytes { out.new ≡ left_in out.old (cell_sheet bytes.now) }
 {

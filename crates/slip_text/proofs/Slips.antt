@@ -15,14 +15,12 @@ use Rattle.laws.specs.Judge.{read_record, Outcome, Outcome.refused, Outcome.acce
 use Rattle.laws.specs.Judgement.{calls_of, declarer_of, stake_of, after_of, score_of}
 use Rattle.laws.specs.Decimal.{last_digits, decimal, signed_decimal}
 use Rattle.laws.specs.Lawful.{Lawful}
-use Rattle.laws.specs.Refusals.{refuses_record}
+use Rattle.laws.specs.Refusals.{refuses_record, refused_at, given}
 use Rattle.laws.specs.Slip.{Name, is_nothing, items_among, items_of, word_of, sum_word, line, lines, refusal_line, slip_of, slip, most_slip_bytes}
 use Rattle.laws.proofs.Accepts.{least-enough, judged, lent_is}
 use Rattle.laws.proofs.Numbered.{Ruled, ruled}
 use Rattle.laws.proofs.Tests.{by_test, not_both}
 use Rattle.explanation.specs.declared.slip.Items.{Items}
-use Rattle.explanation.specs.declared.slip.Explained.{Explained}
-use Rattle.explanation.specs.declared.slip.Explained.TheVariants.{Refused, Granted}
 use Rattle.explanation.specs.Explained.{no_items, items_in, explained_of}
 use Rattle.explanation.proofs.Explaining.{bid-parts, out_parts, parts_possible}
 use Rattle.text.proofs.Printed.{length_by}
@@ -52,17 +50,17 @@ unfolding item_line line signed_decimal decimal last_digits
 out_short = lit≤ tt
 
 -- ---- of what is explained
-refused-slip : (o : Outcome) {n place : ℕ} {x : Explained} → x ≡ explained_of o → x ≡ Refused n place → slip_of o ≡ refusal_line n place
+refused-slip : (o : Outcome) {n place : ℕ} → refused_at n place ≡ explained_of o → slip_of o ≡ refusal_line n place
 unfolding explained_of slip_of
-refused-slip (refused m at) {n} {place} e q =
+refused-slip (refused m at) {n} {place} e =
     let same : (m ≡ n) × (at ≡ place) = (cc, cc) in
     rw (same.0, same.1)
-refused-slip (accepted p) e q = absurd (let z : ◌≡◌ {A = ℕ} 0 1 = cc in omega arith)
+refused-slip (accepted p) e = absurd cc
 
-pub granted_slip : (o : Outcome) {i : Items} {x : Explained} → x ≡ explained_of o → x ≡ Granted i → (p : Parts) × (o ≡ accepted p) × (i ≡ items_in p)
+pub granted_slip : (o : Outcome) {i : Items} → given i ≡ explained_of o → (p : Parts) × (o ≡ accepted p) × (i ≡ items_in p)
 unfolding explained_of
-granted_slip (refused m at) e q = absurd (let z : ◌≡◌ {A = ℕ} 0 1 = cc in omega arith)
-granted_slip (accepted p) e q = (p, refl, cc)
+granted_slip (refused m at) e = absurd cc
+granted_slip (accepted p) e = (p, refl, cc)
 
 -- parts that the judge accepts are lawful
 accepted-lawful : (bytes : List ℕ) (p : Parts) → judge_of bytes least_rooms ≡ accepted p → Lawful p
@@ -79,24 +77,24 @@ parts-short p ok =
     (λ (q : passed_out (calls_of p) ≡ true). rw (← out_parts p q) out_short)
     (λ (q : passed_out (calls_of p) ≡ false). rw (← bid-parts p q) (contract-le (declarer_of p) (stake_of p) (after_of p) (parts_possible p ok q)))
 
-module _ (bytes : List ℕ) {x : Explained} (ex : x ≡ explained_of (judge_of bytes least_rooms)) where
-  pub slip-refused : {n place : ℕ} → x ≡ Refused n place → slip bytes ≡ refusal_line n place
+module _ (bytes : List ℕ) where
+  pub slip-refused : {n place : ℕ} → refused_at n place ≡ explained_of (judge_of bytes least_rooms) → slip bytes ≡ refusal_line n place
   unfolding slip
-  slip-refused q = refused-slip (judge_of bytes least_rooms) ex q
+  slip-refused e = refused-slip (judge_of bytes least_rooms) e
 
-  pub slip_granted : {i : Items} → x ≡ Granted i → slip bytes ≡ items_text i
-  unfolding slip slip_of
-  slip_granted q =
-      let g = granted_slip (judge_of bytes least_rooms) ex q in
-      ap slip_of g.1 ∙ sym (items-text g.0) ∙ ap items_text (sym g.2)
+  module _ {i : Items} (e : given i ≡ explained_of (judge_of bytes least_rooms)) where
+    of_parts : (p : Parts) × (judge_of bytes least_rooms ≡ accepted p) × (i ≡ items_in p)
+    of_parts = granted_slip (judge_of bytes least_rooms) e
 
-  pub granted_short : {i : Items} → x ≡ Granted i → length (items_text i) ≤ most_slip_bytes
-  granted_short q =
-      let g = granted_slip (judge_of bytes least_rooms) ex q in
-      rw g.2 (parts-short g.0 (accepted-lawful bytes g.0 g.1))
+    pub slip_granted : slip bytes ≡ items_text i
+    unfolding slip slip_of
+    slip_granted = ap slip_of of_parts.1 ∙ sym (items-text of_parts.0) ∙ ap items_text (sym of_parts.2)
+
+    pub granted_short : length (items_text i) ≤ most_slip_bytes
+    granted_short = rw of_parts.2 (parts-short of_parts.0 (accepted-lawful bytes of_parts.0 of_parts.1))
 
 -- ---- every slip has at most 72 bytes, whatever the bytes that it is of
-pub number-le : (n : ℕ) → refuses_record n ≡ true → n ≤ 27
+number-le : (n : ℕ) → refuses_record n ≡ true → n ≤ 27
 number-le n e =
     by_test (leb n 27)
     (λ (q : leb n 27 ≡ true). leb-true n 27 q)

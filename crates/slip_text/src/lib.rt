@@ -8,9 +8,9 @@ ghost use Rattle.text.specs.Putting.{Put, written, length_within, left_in};
 ghost use Rattle.slip_text.specs.Call.{slip_call};
 ghost use Rattle.slip_text.specs.Text.{item_line, tricks_text, premiums_text, items_text};
 
-use explanation::{Explained, Items};
-use laws::{SHORT_RECORD_BUFFER, refusal_number};
-use text::{Outcome, lend, put_bytes, put_named, write_pair};
+use explanation::{Items, explain};
+use laws::Refusal;
+use text::{lend, put_bytes, put_named, write_pair};
 
 // An item's line; nothing where it has no points.
 fn put_item(out: &mut [u8], at: usize, name: &[u8], points: i16) -> usize
@@ -51,7 +51,7 @@ fn put_items(out: &mut [u8], items: Items) -> usize
 }
 
 // The items, where they are those of a board, in lent bytes.
-fn write_items(items: Items, out: &mut [u8]) -> Outcome
+fn write_items(items: Items, out: &mut [u8]) -> Option<usize>
     requires { length (items_text items) ≤ 72 }
     ensures answer { written result ≡ length_within (items_text items) (length out.old) }
     ensures bytes { out.new ≡ left_in out.old (items_text items) }
@@ -62,13 +62,13 @@ fn write_items(items: Items, out: &mut [u8]) -> Outcome
 }
 
 // Writes the slip of a table record to lent bytes. 72 bytes are enough for every slip.
-pub fn write(bytes: &[u8], out: &mut [u8]) -> Outcome
+pub fn write(bytes: &[u8], out: &mut [u8]) -> Option<usize>
     ensures answer { written result ≡ length_within (slip bytes.now) (length out.old) }
     ensures bytes { out.new ≡ left_in out.old (slip bytes.now) }
 {
-    match explanation::explain(bytes) {
-        Explained::Refused { number, place } => write_pair(number, place, out),
-        Explained::Granted(items) => write_items(items, out),
+    match explain(bytes) {
+        Ok(items) => write_items(items, out),
+        Err(refused) => write_pair(refused.refusal.number() as u32, refused.place as u32, out),
     }
 }
 
@@ -78,13 +78,11 @@ pub fn judge_slip(bytes: &[u8], text: &mut [u8]) -> u32
     ensures number { result ≡ number_of (slip_call bytes.now (length text.old)) }
     ensures left { text.new ≡ record_left (slip_call bytes.now (length text.old)) text.old }
 {
-    match explanation::explain(bytes) {
-        Explained::Refused { number, place } => number * 1024 + place,
-        Explained::Granted(items) => {
-            let Outcome::Written(n) = write_items(items, text) else {
-                return refusal_number(SHORT_RECORD_BUFFER, 0);
-            };
-            n as u32
-        }
+    match explain(bytes) {
+        Ok(items) => match write_items(items, text) {
+            Some(n) => n as u32,
+            None => u32::from(Refusal::ShortRecordBuffer.at(0)),
+        },
+        Err(refused) => u32::from(refused),
     }
 }

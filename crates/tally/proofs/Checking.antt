@@ -1,28 +1,38 @@
 -- What a check of a tally finds, by the way it ends. Assumes nothing.
-use Prim.Native.Nat.{ℕ, ◌+◌, ◌≤◌}
+use Prim.Native.Nat.{ℕ, ◌+◌}
 use native.Mathlib.Omega.{arith}
 use mathlib.Core.Path.{◌≡◌, refl, sym, ap, ◌∙◌}
 use mathlib.Core.Bool.{Bool, true, false}
 use mathlib.Core.List.{List, []}
 use lib.ListN.{length}
-use Rattle.laws.proofs.Tests.{by_test, not_both}
-use Rattle.tally.specs.declared.Checked.{Checked}
+use Rattle.std.specs.Prelude.{Some, None, Result, Ok, Err}
+use Rattle.std.specs.Result.{is_ok}
+use Rattle.laws.proofs.Tests.{by_test}
+use Rattle.laws.specs.declared.Refusal.TheVariants.{MalformedTally}
+use Rattle.laws.specs.declared.Refused.{Refused}
 use Rattle.tally.specs.declared.Entry.{Entry}
 use Rattle.tally.specs.declared.Size.{Size}
 use Rattle.tally.specs.declared.Tally.{Tally}
 use Rattle.tally.specs.Entries.{expand}
 use Rattle.tally.specs.Tallies.{entries_in, scores_in, in_places, carries, well_formed}
-use Rattle.tally.specs.Steps.{size_of, Checks, check_of}
+use Rattle.tally.specs.Steps.{size_of, sized, check_of}
 use Rattle.tally.proofs.Ordered.{sum_of}
 use Rattle.tally.proofs.Lists.{sum_expand}
-use Rattle.tally.proofs.Formed.{formed, room-scores}
 
--- it is not as described
-abbrev pub malformed : Checked
-malformed = record { good = false; size = record { used = 0; results = 0 } }
+-- ---- a size by a test
+pub none_sized : (test : Bool) (t : Tally) → false ≡ test → None ≡ sized test t
+none_sized test t e = rw (← e)
 
-pub not_good : (test : Bool) (t : Tally) (r : Checked) → r ≡ malformed → false ≡ test → Checks test t r
-not_good test t r q e = let g = ap (λ (x : Checked). x.good) q in record { good = g ∙ e; size = λ h. not_both r.good h g }
+pub some-sized : (test : Bool) (t : Tally) (x : Size) → true ≡ test → x ≡ size_of t → Some x ≡ sized test t
+some-sized test t x e q = rw (← e, q)
+
+sized_none : (test : Bool) (t : Tally) → None ≡ sized test t → test ≡ false
+sized_none true t e = cc
+sized_none false t e = refl
+
+sized-some : (test : Bool) (t : Tally) (x : Size) → Some x ≡ sized test t → (test ≡ true) × (x ≡ size_of t)
+sized-some true t x e = (refl, cc)
+sized-some false t x e = cc
 
 -- nothing is left to count: what is counted is the size
 pub counted : (t : Tally) (i results : ℕ) (rest : List Entry) → rest ≡ [] → sum_of (entries_in t) ≡ results + sum_of rest → length (entries_in t) ≡ i + length rest
@@ -33,40 +43,62 @@ counted t i results rest e s n =
     let n' : i ≡ length (entries_in t) = omega (arith, rw e at n) in
     rw (s', n')
 
--- ---- the places, and then the deal
-pub bad_places : (t : Tally) → in_places t ≡ false → false ≡ well_formed t
-unfolding well_formed
-bad_places t e = rw e
+-- ---- the answer of the check: 17, or the size
+abbrev pub malformed : Refused
+malformed = record { refusal = MalformedTally; place = 0 }
 
-well_by : (t : Tally) (p : Checked) → Checks (in_places t) t p → p.good ≡ true → well_formed t ≡ carries t.deal p.size.results
-unfolding well_formed
-well_by t p k g = rw (sym k.good ∙ g) (ap (λ (x : Size). carries t.deal x.results) (sym (k.size g)))
+pub not_places : (t : Tally) → None ≡ sized (in_places t) t → Err malformed ≡ check_of t
+unfolding check_of well_formed
+not_places t e = rw (sized_none (in_places t) t e)
 
-pub bad_deal : (t : Tally) (p : Checked) → Checks (in_places t) t p → p.good ≡ true → carries t.deal p.size.results ≡ false → false ≡ well_formed t
-bad_deal t p k g e = sym (well_by t p k g ∙ e)
+pub not_carried : (t : Tally) (x : Size) → Some x ≡ sized (in_places t) t → false ≡ carries t.deal x.results → Err malformed ≡ check_of t
+unfolding check_of well_formed
+not_carried t x e c =
+    let p = sized-some (in_places t) t x e in
+    let k : carries t.deal (size_of t).results ≡ false = ap (λ (y : Size). carries t.deal y.results) (sym p.1) ∙ sym c in
+    rw (p.0, k)
 
--- ---- the answer of the check
-pub checked_bad : (t : Tally) (r : Checked) → r ≡ malformed → false ≡ well_formed t → r ≡ check_of t
-unfolding check_of
-checked_bad t r q e = q ∙ rw (sym e)
-
-pub checked_good : (t : Tally) (p : Checked) → Checks (in_places t) t p → p.good ≡ true → carries t.deal p.size.results ≡ true
-    → record { good = true; size = p.size } ≡ check_of t
-unfolding check_of
-checked_good t p k g e = rw (well_by t p k g ∙ e, k.size g)
+pub is_carried : (t : Tally) (x : Size) → Some x ≡ sized (in_places t) t → true ≡ carries t.deal x.results → Ok x ≡ check_of t
+unfolding check_of well_formed
+is_carried t x e c =
+    let p = sized-some (in_places t) t x e in
+    let k : carries t.deal (size_of t).results ≡ true = ap (λ (y : Size). carries t.deal y.results) (sym p.1) ∙ sym c in
+    rw (p.0, k, p.1)
 
 -- what a caller learns of it
-pub checks : (t : Tally) (r : Checked) → r ≡ check_of t → Checks (well_formed t) t r
+pub checked : (t : Tally) (x : Size) → Ok x ≡ check_of t → (well_formed t ≡ true) × (x ≡ size_of t)
 unfolding check_of
-checks t r q =
+checked t x e =
     by_test (well_formed t)
-    (λ (w : well_formed t ≡ true). rw w (let e : r ≡ record { good = true; size = size_of t } = rw w at q in
-    record { good = ap (λ (x : Checked). x.good) e; size = λ h. ap (λ (x : Checked). x.size) e }))
-    (λ (w : well_formed t ≡ false). rw w (not_good false t r (rw w at q) refl))
+    (λ (w : well_formed t ≡ true). (w, same (rw w at e)))
+    (λ (w : well_formed t ≡ false). never (rw w at e))
+  where
+    same : {y : Size} → ◌≡◌ {A = Result Size Refused} (Ok x) (Ok y) → x ≡ y
+    same q = cc
+
+    never : {A : Type 0} → ◌≡◌ {A = Result Size Refused} (Ok x) (Err malformed) → A
+    never q = absurd (let k : ◌≡◌ {A = ℕ} 0 1 = cc in omega arith)
+
+pub unchecked : (t : Tally) (e : Refused) → Err e ≡ check_of t → (well_formed t ≡ false) × (e ≡ malformed)
+unfolding check_of
+unchecked t e q =
+    by_test (well_formed t)
+    (λ (w : well_formed t ≡ true). never (rw w at q))
+    (λ (w : well_formed t ≡ false). (w, same (rw w at q)))
+  where
+    same : {y : Refused} → ◌≡◌ {A = Result Size Refused} (Err e) (Err y) → e ≡ y
+    same q = cc
+
+    never : {A : Type 0} {y : Size} → ◌≡◌ {A = Result Size Refused} (Err e) (Ok y) → A
+    never q = absurd (let k : ◌≡◌ {A = ℕ} 0 1 = cc in omega arith)
+
+pub is_checked : (t : Tally) (r : Result Size Refused) → r ≡ check_of t → is_ok r ≡ well_formed t
+unfolding check_of
+is_checked t r e =
+    by_test (well_formed t)
+    (λ (w : well_formed t ≡ true). rw w (ap is_ok (rw w at e)))
+    (λ (w : well_formed t ≡ false). rw w (ap is_ok (rw w at e)))
 
 -- the size of a well-formed tally
-pub size_room : (t : Tally) (x : Size) → well_formed t ≡ true → x ≡ size_of t → x.results ≤ 128
-size_room t x w e = rw e (room-scores t (formed t w))
-
 pub size_results : (t : Tally) (x : Size) → x ≡ size_of t → x.results ≡ length (scores_in t)
 size_results t x e = ap (λ (y : Size). y.results) e

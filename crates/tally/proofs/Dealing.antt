@@ -13,13 +13,18 @@ use lib.ListN.{length, get_or, drop, drop_of_length-le}
 use lib.Seq.{drop-cons}
 use Rattle.laws.specs.Contents.{take_deal}
 use Rattle.laws.specs.Reading.{Reading, Reading.refused, Reading.found}
-use Rattle.laws.specs.Refusals.{fouled_board}
+use Rattle.std.specs.Prelude as Std
+use Rattle.std.specs.Result.{is_ok}
+use Rattle.laws.specs.Refusals.{Placed, refused_at, given, fouled_board}
+use Rattle.laws.specs.Refused.{placed_of}
+use Rattle.laws.specs.declared.Refused.{Refused}
+use Rattle.laws.proofs.RefusalNumbers.{number_not_none}
 use Rattle.laws.specs.Tally.{Result, scores_of, on_deal, same_deal, fouled, no_deal, deal_of, refusal, refusal_if, refusal_in, deal_refusal}
 use Rattle.laws.proofs.TallyRules.{same-deal, deal_self, scores_on, scores_append, fouled_on}
 use Rattle.deal.specs.declared.given.Dealt.{Dealt}
 use Rattle.deal.specs.Taking.{taken_by}
 use Rattle.tally.specs.Tallies.{tally_for, tally_of, carries}
-use Rattle.tally.specs.Steps.{apart, kept_deal, held}
+use Rattle.tally.specs.Steps.{apart, kept_deal, ruled}
 
 -- two deals from a card on
 abbrev pub same_from : List ℕ → List ℕ → ℕ → Bool
@@ -53,21 +58,58 @@ all-cards a b i ha hb = rw (drop_of_length-le a ha, drop_of_length-le b hb)
 
 -- ---- results of two deals, by the tests
 module _ (n m : ℕ) (d e : List ℕ) where
-  pub first-none : n ≡ 0 → held (refusal 0) ≡ held (refusal_if (apart n m d e) fouled_board)
+  pub first-none : n ≡ 0 → refusal 0 ≡ refusal_if (apart n m d e) fouled_board
   unfolding apart
   first-none z = rw (eq-eqb n 0 z)
 
-  pub second_none : m ≡ 0 → held (refusal 0) ≡ held (refusal_if (apart n m d e) fouled_board)
+  pub second_none : m ≡ 0 → refusal 0 ≡ refusal_if (apart n m d e) fouled_board
   unfolding apart
   second_none z = rw (eq-eqb m 0 z, and-false (not (eqb n 0)))
 
-  pub both_same : same_deal d e ≡ true → held (refusal 0) ≡ held (refusal_if (apart n m d e) fouled_board)
+  pub both_same : same_deal d e ≡ true → refusal 0 ≡ refusal_if (apart n m d e) fouled_board
   unfolding apart
   both_same q = rw (q, and-false (not (eqb m 0)), and-false (not (eqb n 0)))
 
-  pub both_differ : (n ≡ 0 → ⊥) → (m ≡ 0 → ⊥) → same_deal d e ≡ false → held (refusal fouled_board) ≡ held (refusal_if (apart n m d e) fouled_board)
+  pub both_differ : (n ≡ 0 → ⊥) → (m ≡ 0 → ⊥) → same_deal d e ≡ false → refusal fouled_board ≡ refusal_if (apart n m d e) fouled_board
   unfolding apart
   both_differ y z q = rw (ne_eqb n 0 y, ne_eqb m 0 z, q)
+
+-- ---- a deal as it is taken: the refusal of the Laws, or its holders
+same-number : {n m p q : ℕ} → ◌≡◌ {A = Placed Dealt} (refused_at n p) (refused_at m q) → n ≡ m
+same-number e = cc
+
+same-place : {n m p q : ℕ} → ◌≡◌ {A = Placed Dealt} (refused_at n p) (refused_at m q) → p ≡ q
+same-place e = cc
+
+same-dealt : {a b : Dealt} → ◌≡◌ {A = Placed Dealt} (given a) (given b) → a ≡ b
+same-dealt e = cc
+
+never-dealt : {A : Type 0} {a : Dealt} {n p : ℕ} → ◌≡◌ {A = Placed Dealt} (given a) (refused_at n p) → A
+never-dealt e = absurd (let k : ◌≡◌ {A = ℕ} 0 1 = cc in omega arith)
+
+dealt_ok : (d : List ℕ) (x : Std.Result Dealt Refused) (r : Reading (Unit {0})) → placed_of x ≡ taken_by d r → is_ok x ≡ eqb (refusal_in r).number 0
+dealt_ok d (Std.Ok a) (refused m place) e = never-dealt e
+dealt_ok d (Std.Ok a) (found u at) e = refl
+dealt_ok d (Std.Err f) (refused m place) e = sym (ne_eqb m 0 (λ z. number_not_none f.refusal (same-number e ∙ z)))
+dealt_ok d (Std.Err f) (found u at) e = never-dealt (sym e)
+
+refused-dealt : (d : List ℕ) (e : Refused) (r : Reading (Unit {0})) → placed_of (Std.Err e) ≡ taken_by d r
+    → ruled e ≡ refusal_in r
+refused-dealt d e (refused m place) q = ap₂ (λ (n p : ℕ). record { number = n; place = p }) (same-number q) (same-place q)
+refused-dealt d e (found u at) q = never-dealt (sym q)
+
+pub deal-refused : (d : List ℕ) (e : Refused) → placed_of (Std.Err e) ≡ taken_by d (take_deal d [] 0)
+    → ruled e ≡ deal_refusal d
+unfolding deal_refusal
+deal-refused d e q = refused-dealt d e (take_deal d [] 0) q
+
+found-dealt : (d : List ℕ) (x : Dealt) (r : Reading (Unit {0})) → placed_of (Std.Ok x) ≡ taken_by d r → ((refusal_in r).number ≡ 0) × (x.holders ≡ d)
+found-dealt d x (refused m place) q = never-dealt q
+found-dealt d x (found u at) q = (refl, ap (λ (y : Dealt). y.holders) (same-dealt q))
+
+pub deal-found : (d : List ℕ) (x : Dealt) → placed_of (Std.Ok x) ≡ taken_by d (take_deal d [] 0) → ((deal_refusal d).number ≡ 0) × (x.holders ≡ d)
+unfolding deal_refusal
+deal-found d x q = found-dealt d x (take_deal d [] 0) q
 
 -- ---- what a tally carries
 module _ (d : List ℕ) (n : ℕ) where
@@ -75,13 +117,9 @@ module _ (d : List ℕ) (n : ℕ) where
   unfolding carries
   carries-none e = rw (eq-eqb n 0 e)
 
-  pub carries-deal : (n ≡ 0 → ⊥) → (x : Dealt) → x ≡ taken_by d (take_deal d [] 0) → eqb x.refusal 0 ≡ carries d n
+  pub carries-deal : (n ≡ 0 → ⊥) → (x : Std.Result Dealt Refused) → placed_of x ≡ taken_by d (take_deal d [] 0) → is_ok x ≡ carries d n
   unfolding carries deal_refusal
-  carries-deal z x e = rw (ne_eqb n 0 z) (ap (λ (k : ℕ). eqb k 0) (number (take_deal d [] 0) e))
-    where
-      number : (r : Reading (Unit {0})) → x ≡ taken_by d r → x.refusal ≡ (refusal_in r).number
-      number (refused m place) k = rw k
-      number (found u at) k = rw k
+  carries-deal z x e = rw (ne_eqb n 0 z) (dealt_ok d x (take_deal d [] 0) e)
 
   -- without a result none
   pub none_carried : n ≡ 0 → carries d n ≡ true → d ≡ no_deal

@@ -14,8 +14,7 @@ use Rattle.laws.proofs.Counts.{many_append}
 use Rattle.laws.proofs.TallyRules.{scores_on, length_on, fouled_on, given-allowed, add-allowed}
 use Rattle.laws.proofs.Comparisons.{same_points}
 use Rattle.tally.specs.declared.Tally.{Tally}
-use Rattle.tally.specs.declared.Tallied.{Tallied}
-use Rattle.tally.specs.Tallies.{tally_with, tally_for, tally_of, entries_in, scores_in, carries, well_formed}
+use Rattle.tally.specs.Tallies.{Tallied, tally_with, tally_for, tally_of, entries_in, scores_in, carries, well_formed}
 use Rattle.tally.specs.Tallies.{refused_with, accepting, answer_of, add_of, merge_of}
 use Rattle.tally.specs.Points.{matchpoints_of}
 use Rattle.tally.specs.Steps.{kept_deal}

@@ -4,20 +4,23 @@ use Prim.Native.Nat.{ℕ, suc, ◌≤◌, ◌<◌, ◌+◌, ◌-◌}
 use native.Mathlib.Omega.{arith}
 use native.Mathlib.Numerals.{add-one}
 use mathlib.Core.Path.{◌≡◌, refl, sym, ap, ◌∙◌}
-use mathlib.Core.Bool.{Bool, true, false, ◌&&◌}
+use mathlib.Core.Bool.{Bool, true, false, not, ◌&&◌}
 use mathlib.Core.List.{List, [], ◌∷◌}
-use borrow.Author.Tests.{eq-eqb, ne_eqb}
+use borrow.Author.Tests.{eq-eqb, ne_eqb, eqb-true, eqb-false}
 use lib.Dec.{leb, eqb}
 use lib.IntN.{ℤ, pos}
 use lib.ListN.{length, get_or, drop, drop_of_length-le}
 use lib.Seq.{drop-cons}
 use lib.Signed.{lt_z}
 use mir.Syntax.{w16}
-use mir.Val.{SFits, to_z, of_z}
+use mir.Val.{SFits, to_z, of_z, bool_byte}
 use mir.Facts.{to_z-of_z}
 use Rattle.laws.specs.Law77.{valid_score}
 use Rattle.laws.specs.Law78.{same_score}
 use Rattle.laws.specs.Tally.{fresh_refusal}
+use Rattle.laws.proofs.Tests.{by_test}
+use Rattle.laws.proofs.Scores.{true_same, ne_same}
+use Rattle.tally.proofs.Refusing.{board-good}
 use Rattle.tally.specs.declared.Entry.{Entry}
 use Rattle.tally.specs.declared.Tally.{Tally}
 use Rattle.tally.specs.Entries.{entry, entries}
@@ -76,6 +79,17 @@ module _ (ss : List ℤ) (cs : List ℕ) (i : ℕ) where
   entries_end h = rw (drop_of_length-le ss h)
 
 -- ---- what is not zero, counted
+pub one_if_not : (b : Bool) (p : ℕ) → p ≡ bool_byte (not b) → p ≡ (if b then 0 else 1)
+one_if_not true p e = e
+one_if_not false p e = e
+
+pub one_if_score : (x : ℤ) (p : ℕ) → SFits w16 x → p ≡ bool_byte (not (eqb (of_z w16 x) 0)) → p ≡ (if same_score x (pos 0) then 0 else 1)
+one_if_score x p f e =
+    by_test (eqb (of_z w16 x) 0)
+    (λ (q : eqb (of_z w16 x) 0 ≡ true).
+    rw (true_same x (pos 0) (same_of x (pos 0) f (record { sfits = omega arith }) (eqb-true (of_z w16 x) 0 q))) (rw q at e))
+    (λ (q : eqb (of_z w16 x) 0 ≡ false). rw (ne_same x (pos 0) (λ z. eqb-false (of_z w16 x) 0 q (ap (of_z w16) z))) (rw q at e))
+
 some-low : (x : Bool) (p : ℕ) → p ≡ (if x then 0 else 1) → p ≤ 1
 some-low true p e = omega arith
 some-low false p e = omega arith
@@ -113,3 +127,7 @@ module _ (t : Tally) where
       → in_places t ≡ order_at t.scores t.counts ceiling 128 0
   unfolding in_places
   good-board e hs hc = rw (e, hs, hc)
+
+  pub in-order : (t.board ≡ 0 → ⊥) → t.board ≤ 127 → length t.scores ≡ 128 → length t.counts ≡ 128
+      → in_places t ≡ order_at t.scores t.counts ceiling 128 0
+  in-order z h hs hc = good-board (board-good t.board z h) hs hc

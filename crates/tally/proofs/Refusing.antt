@@ -1,24 +1,23 @@
 -- The refusals of a call, as the code finds them one by one. Assumes nothing.
 use Prim.Native.Nat.{ℕ, ◌≤◌, ◌<◌}
 use native.Mathlib.Omega.{arith}
-use mathlib.Core.Path.{◌≡◌, refl, ap, ap₂, ◌∙◌}
+use mathlib.Core.Path.{◌≡◌, refl, sym, ap, ◌∙◌}
 use mathlib.Core.Bool.{true, false}
 use mathlib.Core.List.{List, [], ◌∷◌}
-use borrow.Author.Tests.{eq-eqb, ne_eqb, eqb-false, lt-ltb, le-ltb, ltb-false}
+use borrow.Author.Tests.{eq-eqb, ne_eqb, eqb-true, eqb-false, lt-ltb, le-ltb, ltb-false}
 use lib.Dec.{ltb, eqb}
 use lib.IntN.{ℤ}
 use lib.ListN.{length}
-use Rattle.laws.specs.Contents.{take_deal}
-use Rattle.laws.specs.Reading.{Reading, Reading.refused, Reading.found}
-use Rattle.laws.specs.Refusals.{fouled_board}
-use Rattle.laws.specs.Tally.{Result, on_deal, Refusal, refusal_if, ◌or_else◌, refusal_in, deal_refusal, score_refusal, fouled_refusal, given_refusal}
+use Rattle.laws.specs.Law77.{valid_score}
+use Rattle.laws.specs.Refusals.{Placed, refused_at, given, fouled_board}
+use Rattle.laws.specs.Refused.{number, placed_by}
+use Rattle.laws.specs.declared.Refused.{Refused}
+use Rattle.laws.specs.Tally.{on_deal, Refusal, refusal, refusal_if, ◌or_else◌, deal_refusal, score_refusal, fouled_refusal, given_refusal}
 use Rattle.laws.specs.Tally.{fresh_refusal}
 use Rattle.laws.proofs.Tests.{by_test}
-use Rattle.laws.proofs.TallyRules.{or_by, deal-read, fouled_on}
-use Rattle.deal.specs.declared.given.Dealt.{Dealt}
-use Rattle.deal.specs.Taking.{taken_by}
-use Rattle.tally.specs.declared.refusals.Held.{Held}
-use Rattle.tally.specs.Steps.{apart, held, first_held, given_by}
+use Rattle.laws.proofs.TallyRules.{or_first, or_second, fouled_on}
+use Rattle.laws.proofs.RefusalNumbers.{number_not_none}
+use Rattle.tally.specs.Steps.{apart, ruled, given_by}
 
 -- ---- of a board
 pub board-zero : (board : ℕ) → board ≡ 0 → fresh_refusal board ≡ 3
@@ -43,16 +42,50 @@ board_range board e =
     (λ (r : ltb 127 board ≡ true). absurd (omega (arith, rw (q, r) at e)))
     (λ (r : ltb 127 board ≡ false). let z = eqb-false board 0 q in (omega arith, ltb-false 127 board r)))
 
--- ---- of two refusals the first that is one
-first-held : (a b : Refusal) → first_held (held a) (held b) ≡ held (a or_else b)
-unfolding first_held ◌or_else◌
-first-held a b =
-    by_test (eqb a.number 0)
-    (λ (q : eqb a.number 0 ≡ true). rw q)
-    (λ (q : eqb a.number 0 ≡ false). rw q)
+-- ---- what the code answers, as a refusal of the rules
+pub no_refusal : (r : Refusal) → refusal 0 ≡ r → r.number ≡ 0
+no_refusal r e = sym (ap (λ (q : Refusal). q.number) e)
 
-pub first-of : (a b : Refusal) (x y r : Held) → x ≡ held a → y ≡ held b → r ≡ first_held x y → r ≡ held (a or_else b)
-first-of a b x y r ex ey er = er ∙ ap₂ first_held ex ey ∙ first-held a b
+pub some-refusal : (e : Refused) (r : Refusal) → ruled e ≡ r → r.number ≡ 0 → ⊥
+some-refusal e r q z = number_not_none e.refusal (ap (λ (q : Refusal). q.number) q ∙ z)
+
+-- a refusal stands before those that come after it
+pub refused_first : (e : Refused) (r later : Refusal) → ruled e ≡ r → ruled e ≡ r or_else later
+refused_first e r later q = q ∙ sym (or_first r later (some-refusal e r q))
+
+module _ {A : Type 0} where
+  pub refused-as : (e : Refused) (r : Refusal) (a : A) → ruled e ≡ r
+      → refused_at (number e.refusal) e.place ≡ placed_by r.number r.place a
+  refused-as e r a q = rw (← q) (rw (ne_eqb (number e.refusal) 0 (number_not_none e.refusal)))
+
+  pub given-as : (r : Refusal) (a b : A) → r.number ≡ 0 → a ≡ b → given a ≡ placed_by r.number r.place b
+  given-as r a b z e = rw (z, e)
+
+  -- and back
+  pub as-refused : (e : Refused) (r : Refusal) (a : A) → refused_at (number e.refusal) e.place ≡ placed_by r.number r.place a
+      → ruled e ≡ r
+  as-refused e r a q =
+      by_test (eqb r.number 0)
+      (λ (t : eqb r.number 0 ≡ true). never (rw t at q))
+      (λ (t : eqb r.number 0 ≡ false). same (rw t at q))
+    where
+      never : {B : Type 0} {n p : ℕ} → ◌≡◌ {A = Placed A} (refused_at n p) (given a) → B
+      never k = absurd (let z : ◌≡◌ {A = ℕ} 0 1 = cc in omega arith)
+
+      same : {n m p k : ℕ} → ◌≡◌ {A = Placed A} (refused_at n p) (refused_at m k) → ◌≡◌ {A = Refusal} (record { number = n; place = p }) (record { number = m; place = k })
+      same h = cc
+
+  pub as-given : (r : Refusal) (a b : A) → given a ≡ placed_by r.number r.place b → (r.number ≡ 0) × (a ≡ b)
+  as-given r a b q =
+      by_test (eqb r.number 0)
+      (λ (t : eqb r.number 0 ≡ true). (eqb-true r.number 0 t, same (rw t at q)))
+      (λ (t : eqb r.number 0 ≡ false). never (rw t at q))
+    where
+      never : {B : Type 0} {n p : ℕ} → ◌≡◌ {A = Placed A} (given a) (refused_at n p) → B
+      never k = absurd (let z : ◌≡◌ {A = ℕ} 0 1 = cc in omega arith)
+
+      same : ◌≡◌ {A = Placed A} (given a) (given b) → a ≡ b
+      same h = cc
 
 -- ---- results of two deals
 pub fouled_lists : (results others : ℕ) (d : List ℕ) (l : List ℤ) (e : List ℕ) (m : List ℤ) → results ≡ length l → others ≡ length m
@@ -60,49 +93,29 @@ pub fouled_lists : (results others : ℕ) (d : List ℕ) (l : List ℤ) (e : Lis
 unfolding apart fouled_refusal
 fouled_lists results others d l e m n k = rw (n, k, fouled_on d l e m)
 
--- ---- of a result that is given
--- a deal as it is taken has the refusal of the Laws, and where that is none its holders
-dealt-refusal : (holders : List ℕ) (x : Reading (Unit {0})) (d : Dealt) → d ≡ taken_by holders x
-    → record { number = d.refusal; place = d.place } ≡ held (refusal_in x)
-dealt-refusal holders (refused n place) d e = rw e
-dealt-refusal holders (found u at) d e = rw e
+-- ---- a score with its deal, one test after the other
+module _ (carried : List ℕ) (results : ℕ) (s : ℤ) (deal : List ℕ) where
+  abbrev fouls : Refusal
+  fouls = refusal_if (apart results 1 carried deal) fouled_board
 
-pub dealt-holders : (holders : List ℕ) (d : Dealt) → d ≡ taken_by holders (take_deal holders [] 0) → (deal_refusal holders).number ≡ 0 → d.holders ≡ holders
-dealt-holders holders d e z = ap (λ (x : Dealt). x.holders) (e ∙ ap (taken_by holders) (deal-read holders z))
+  pub given_invalid : (e : Refused) → ruled e ≡ refusal 20 → valid_score s ≡ false → ruled e ≡ given_by carried results s deal
+  unfolding given_by score_refusal
+  given_invalid e q v = refused_first e (score_refusal s) _ (q ∙ rw v)
 
-module _ (carried : List ℕ) (results : ℕ) (s : ℤ) (d : Dealt) (holders : List ℕ) (scores : List ℤ) (ed : d ≡ taken_by holders (take_deal holders [] 0))
-    (n : results ≡ length scores) where
-  abbrev given : Result
-  given = record { score = s; deal = holders }
+  valid-passes : valid_score s ≡ true → (later : Refusal) → score_refusal s or_else later ≡ later
+  unfolding score_refusal
+  valid-passes v later = or_second (score_refusal s) later (rw v)
 
-  abbrev others : Refusal
-  others = fouled_refusal (on_deal carried scores) (given ∷ [])
-
-  taken : record { number = d.refusal; place = d.place } ≡ held (deal_refusal holders)
-  unfolding deal_refusal
-  taken = dealt-refusal holders (take_deal holders [] 0) d ed
-
-  pub given-number : (invalid apart-held later r : Held) → invalid ≡ held (score_refusal s)
-      → apart-held ≡ held (refusal_if (apart results 1 carried d.holders) fouled_board)
-      → later ≡ first_held (record { number = d.refusal; place = d.place }) apart-held → r ≡ first_held invalid later
-      → r ≡ held (given_refusal (on_deal carried scores) given)
-  unfolding given_refusal
-  given-number invalid apart-held later r ei ea el er =
-      let f = refusal_if (apart results 1 carried d.holders) fouled_board in
-      let k : later ≡ held (deal_refusal holders or_else others) =
-      first-of (deal_refusal holders) f _ _ later taken ea el
-      ∙ ap held (or_by (deal_refusal holders) f others
-      (λ z. ap (λ (h : List ℕ). refusal_if (apart results 1 carried h) fouled_board) (dealt-holders holders d ed z)
-      ∙ fouled_lists results 1 carried scores holders (s ∷ []) n refl)) in
-      first-of (score_refusal s) (deal_refusal holders or_else others) _ _ r ei k er
-
-  pub given_law : (r : Held) → r ≡ given_by carried results s d → r ≡ held (given_refusal (on_deal carried scores) given)
+  pub given_uneven : (e : Refused) → valid_score s ≡ true → ruled e ≡ deal_refusal deal → ruled e ≡ given_by carried results s deal
   unfolding given_by
-  given_law r e = given-number _ _ _ r refl refl refl e
+  given_uneven e v q = refused_first e (deal_refusal deal) fouls q ∙ sym (valid-passes v _)
 
--- the refusals found one by one
-pub given-held : (carried : List ℕ) (results : ℕ) (s : ℤ) (d : Dealt) (invalid fouls later r : Held) → invalid ≡ held (score_refusal s)
-    → fouls ≡ held (refusal_if (apart results 1 carried d.holders) fouled_board) → later ≡ first_held (record { number = d.refusal; place = d.place }) fouls
-    → r ≡ first_held invalid later → r ≡ given_by carried results s d
-unfolding given_by
-given-held carried results s d invalid fouls later r ei ef el er = rw (er, el, ei, ef)
+  pub given_last : valid_score s ≡ true → (deal_refusal deal).number ≡ 0 → given_by carried results s deal ≡ fouls
+  unfolding given_by
+  given_last v z = valid-passes v _ ∙ or_second (deal_refusal deal) fouls z
+
+  -- what they come to is the rules' refusal of a result that is given
+  pub given_law : (scores : List ℤ) → results ≡ length scores
+      → given_by carried results s deal ≡ given_refusal (on_deal carried scores) (record { score = s; deal = deal })
+  unfolding given_by given_refusal
+  given_law scores n = rw (fouled_lists results 1 carried scores deal (s ∷ []) n refl)

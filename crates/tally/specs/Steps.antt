@@ -1,12 +1,13 @@
 -- What a check of a tally answers, and refusals one by one.
 -- Assumes nothing.
-use Rattle.std.specs.Prelude.{ℕ, ◌≡◌, Bool, true, false, not, ◌&&◌, List, eqb, ℤ, length, if◌then◌else◌}
+use Rattle.std.specs.Prelude.{ℕ, Bool, not, ◌&&◌, List, eqb, ℤ, length, Option, Some, None, Result, Ok, Err, if◌then◌else◌}
 use Rattle.laws.specs.Refusals.{fouled_board}
-use Rattle.laws.specs.Tally.{same_deal, Refusal, refusal_if, score_refusal}
-use Rattle.deal.specs.declared.given.Dealt.{Dealt}
-use Rattle.tally.specs.declared.refusals.Held.{Held}
+use Rattle.laws.specs.Refused.{number}
+use Rattle.laws.specs.declared.Refusal.TheVariants.{MalformedTally}
+use Rattle.laws.specs.declared.Refused.{Refused}
+use Rattle.laws.specs.Tally.{same_deal, Refusal, refusal, refusal_if, score_refusal, deal_refusal, ◌or_else◌}
+use Rattle.laws.specs.Refusals.{accepted}
 use Rattle.tally.specs.declared.Size.{Size}
-use Rattle.tally.specs.declared.Checked.{Checked}
 use Rattle.tally.specs.declared.Tally.{Tally}
 use Rattle.tally.specs.Tallies.{entries_in, scores_in, well_formed}
 
@@ -14,14 +15,13 @@ use Rattle.tally.specs.Tallies.{entries_in, scores_in, well_formed}
 abbrev pub size_of : Tally → Size
 size_of t = record { used = length (entries_in t); results = length (scores_in t) }
 
--- what a check of a tally answers: whether it is well formed, and where it is its size
-unfoldable pub check_of : Tally → Checked
-check_of t = if well_formed t then record { good = true; size = size_of t } else record { good = false; size = record { used = 0; results = 0 } }
+-- its size, where a test holds
+abbrev pub sized : Bool → Tally → Option Size
+sized test t = if test then Some (size_of t) else None
 
--- what a check of a part of it finds: whether it is as tested, and where it is its size
-pub record Checks (test : Bool) (t : Tally) (r : Checked) : Type 0 where
-  pub good : r.good ≡ test
-  pub size : r.good ≡ true → r.size ≡ size_of t
+-- what a check of a tally answers: its size where it is well formed, else 17
+unfoldable pub check_of : Tally → Result Size Refused
+check_of t = if well_formed t then Ok (size_of t) else Err (record { refusal = MalformedTally; place = 0 })
 
 -- ---- deals and refusals
 -- so many results of one deal and so many of another: both have one, and the deals differ
@@ -32,16 +32,16 @@ apart results others deal deal2 = not (eqb results 0) && (not (eqb others 0) && 
 unfoldable pub kept_deal : ℕ → List ℕ → List ℕ → List ℕ
 kept_deal results deal deal2 = if eqb results 0 then deal2 else deal
 
--- of two refusals the first that is one
-unfoldable pub first_held : Held → Held → Held
-first_held first later = if eqb first.number 0 then later else first
+-- a refusal of the code as one of the rules
+abbrev pub ruled : Refused → Refusal
+ruled e = record { number = number e.refusal; place = e.place }
 
--- a refusal as the code holds it
-abbrev pub held : Refusal → Held
-held r = record { number = r.number; place = r.place }
+-- what the code answers, as a refusal of the rules
+abbrev pub held : {A : Type 0} → Result A Refused → Refusal
+held (Ok a) = refusal accepted
+held (Err e) = ruled e
 
--- the refusals of a score with its deal, by what a deal was taken as: 20, then 4, then 28 beside so many results of the deal that a tally carries
-unfoldable pub given_by : List ℕ → ℕ → ℤ → Dealt → Held
-given_by carried results score d =
-    first_held (held (score_refusal score))
-    (first_held (record { number = d.refusal; place = d.place }) (held (refusal_if (apart results 1 carried d.holders) fouled_board)))
+-- the refusals of a score with its deal: 20, then 4, then 28 beside so many results of the deal that a tally carries
+unfoldable pub given_by : List ℕ → ℕ → ℤ → List ℕ → Refusal
+given_by carried results score deal =
+    score_refusal score or_else deal_refusal deal or_else refusal_if (apart results 1 carried deal) fouled_board

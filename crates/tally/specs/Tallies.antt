@@ -10,7 +10,9 @@ use Rattle.laws.specs.Tally.{Refusal, refusal, deal_refusal, fresh_refusal, add_
 use Rattle.laws.specs.Padded.{padded}
 use Rattle.tally.specs.declared.Entry.{Entry}
 use Rattle.tally.specs.declared.Tally.{Tally}
-use Rattle.tally.specs.declared.Tallied.{Tallied}
+use Rattle.std.specs.Prelude as Std
+use Rattle.laws.specs.Refused.{number}
+use Rattle.laws.specs.declared.Refused.{Refused}
 use Rattle.tally.specs.Entries.{score, count, entries, expand, entries_of}
 
 -- the tally of a board, of a deal and of entries: the entries in order, and zeros in the places after them
@@ -76,6 +78,12 @@ well_formed t = in_places t && carries t.deal (length (scores_in t))
 abbrev pub no_tally : Tally
 no_tally = tally_of 0 []
 
+-- what a call answers: 0 with the tally that it made, or a refusal and its place with no tally
+pub record Tallied : Type 0 where
+  pub refusal : ℕ
+  pub place : ℕ
+  pub tally : Tally
+
 -- a refusal with its number and its place
 abbrev pub refused_with : Refusal → Tallied
 refused_with r = record { refusal = r.number; place = r.place; tally = no_tally }
@@ -83,6 +91,11 @@ refused_with r = record { refusal = r.number; place = r.place; tally = no_tally 
 -- the tally that a call made
 abbrev pub accepting : Tally → Tallied
 accepting made = record { refusal = accepted; place = 0; tally = made }
+
+-- what an answer of the code stands for
+abbrev pub tallied_of : Std.Result Tally Refused → Tallied
+tallied_of (Std.Ok made) = accepting made
+tallied_of (Std.Err e) = refused_with (record { number = number e.refusal; place = e.place })
 
 -- a call's answer: accepted, the tally it made; refused, its number and its place beside no tally
 unfoldable pub answer_of : Refusal → Tally → Tallied

@@ -5,7 +5,6 @@ mod reading;
 mod writing;
 
 ghost use Rattle.std.specs.Prelude.{◌≡◌};
-ghost use Rattle.tally.specs.Tallies.{no_tally};
 ghost use Rattle.tally.specs.InBytes.{tally_in};
 ghost use Rattle.tally_bytes.specs.Written.{tally_left};
 
@@ -16,33 +15,18 @@ use writing::{put_counts, put_deal, put_scores};
 // How many bytes a tally has.
 pub const TALLY_LENGTH: usize = 398;
 
-// The all-zero tally, which every call refuses.
-fn no_tally() -> Tally
-    ensures { result ≡ no_tally }
-{
-    Tally {
-        board: 0,
-        deal: [0u8; 52],
-        scores: [0i16; 128],
-        counts: [0u8; 128],
-    }
-}
-
 // The tally in a list of bytes; the all-zero one where they are not 398.
 pub fn read(bytes: &[u8]) -> Tally
     ensures { result ≡ tally_in bytes.now }
 {
     if bytes.len() != TALLY_LENGTH {
-        return no_tally();
+        return tally::empty(0, [0u8; 52]);
     }
-    let deal = deal_in(bytes);
-    let scores = scores_in(bytes);
-    let counts = counts_in(bytes);
     Tally {
         board: bytes[0],
-        deal: deal,
-        scores: scores,
-        counts: counts,
+        deal: deal_in(bytes),
+        scores: scores_in(bytes),
+        counts: counts_in(bytes),
     }
 }
 
@@ -53,11 +37,8 @@ pub fn write(t: Tally, out: &mut [u8])
     if out.len() < TALLY_LENGTH {
         return;
     }
-    let deal = t.deal;
-    let scores = t.scores;
-    let counts = t.counts;
     out[0] = t.board;
-    put_deal(out, deal);
-    put_scores(out, scores);
-    put_counts(out, counts);
+    put_deal(out, t.deal);
+    put_scores(out, t.scores);
+    put_counts(out, t.counts);
 }

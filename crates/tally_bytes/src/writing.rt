@@ -1,25 +1,7 @@
 // The parts of a tally, written at their places in a buffer of at least 398 bytes.
-ghost use Rattle.std.specs.Prelude.{◌≡◌, ◌+◌, ◌*◌, ◌%◌, ◌<◌, ◌≤◌, length};
+ghost use Rattle.std.specs.Prelude.{◌≡◌, ◌+◌, ◌*◌, ◌%◌, ◌≤◌, length};
 ghost use Rattle.std.proofs.lemmas.List.Edits.{sets};
-ghost use Rattle.laws.specs.Judgement.{twos_complement};
 ghost use Rattle.tally.specs.InBytes.{deal_bytes, score_bytes};
-
-fn narrow(x: u16) -> u8
-    requires { x < 256 }
-    ensures { result ≡ x }
-{
-    x as u8
-}
-
-// A score as 16 bits, two's complement.
-fn word_of(score: i16) -> u16
-    ensures { result ≡ twos_complement score }
-{
-    if 0 <= score {
-        return score as u16;
-    }
-    65535 - (-1 - score) as u16
-}
 
 // Four holders as a byte, of each the last two bits.
 fn byte_of(a: u8, b: u8, c: u8, d: u8) -> u8
@@ -33,11 +15,9 @@ pub(crate) fn put_deal(out: &mut [u8], holders: [u8; 52])
     requires { 398 ≤ length out.old }
     ensures { out.new ≡ sets out.old 1 (deal_bytes holders) }
 {
-    let mut i: usize = 0;
-    while i < 13 {
+    for i in 0..13 {
         let k = 4 * i;
         out[1 + i] = byte_of(holders[k], holders[k + 1], holders[k + 2], holders[k + 3]);
-        i += 1;
     }
 }
 
@@ -46,12 +26,10 @@ pub(crate) fn put_scores(out: &mut [u8], scores: [i16; 128])
     requires { 398 ≤ length out.old }
     ensures { out.new ≡ sets out.old 14 (score_bytes scores) }
 {
-    let mut i: usize = 0;
-    while i < 128 {
-        let word = word_of(scores[i]);
-        out[14 + 2 * i] = narrow(word / 256);
-        out[15 + 2 * i] = narrow(word % 256);
-        i += 1;
+    for i in 0..128 {
+        let word = scores[i].cast_unsigned();
+        out[14 + 2 * i] = (word / 256) as u8;
+        out[15 + 2 * i] = (word % 256) as u8;
     }
 }
 
@@ -60,9 +38,7 @@ pub(crate) fn put_counts(out: &mut [u8], counts: [u8; 128])
     requires { 398 ≤ length out.old }
     ensures { out.new ≡ sets out.old 270 counts }
 {
-    let mut i: usize = 0;
-    while i < 128 {
+    for i in 0..128 {
         out[270 + i] = counts[i];
-        i += 1;
     }
 }

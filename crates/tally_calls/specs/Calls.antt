@@ -10,10 +10,9 @@ use Rattle.laws.specs.Percentages.{Cell, played, awarded, alone, award}
 use Rattle.laws.specs.Record.{bytes_of}
 use Rattle.laws.specs.Refusals.{Placed, refused_at, given, placed, refusal_number, accepted, short_buffer}
 use Rattle.laws.specs.Tally.{Result}
-use Rattle.tally.specs.declared.Tallied.{Tallied}
 use Rattle.tally.specs.InBytes.{tally_length, tally_bytes, tally_in}
 use Rattle.tally.specs.Points.{matchpoints_of}
-use Rattle.tally.specs.Tallies.{fresh_of, add_of, merge_of}
+use Rattle.tally.specs.Tallies.{Tallied, fresh_of, add_of, merge_of}
 use Rattle.percentages.specs.Cells.{cell_of_tally}
 use Rattle.hundredths.specs.Shares.{BothShares, shares_of_tally}
 

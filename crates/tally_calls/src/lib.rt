@@ -5,10 +5,11 @@
 mod putting;
 
 ghost use Rattle.std.specs.Prelude.{◌≡◌, length};
+ghost use Rattle.laws.specs.Refusals.{refusal_number, short_buffer};
 ghost use Rattle.tally_calls.specs.Calls.{number_of, buffer_left, fresh_call, add_call, merge_call, matchpoints_call, award_call, cell_call, hundredths_call};
 ghost use Rattle.tally_calls.specs.Narrowed.{narrow_board, narrow_score};
 
-use laws::{SHORT_BUFFER, refusal_number};
+use laws::Refusal;
 use putting::{put_cell, put_points, put_shares, put_tally};
 use tally_bytes::{TALLY_LENGTH, read};
 
@@ -35,13 +36,20 @@ fn narrow_score(score: i32) -> i16
     score as i16
 }
 
+// The number of a buffer that is too short.
+fn short() -> u32
+    ensures { result ≡ refusal_number short_buffer 0 }
+{
+    u32::from(Refusal::ShortBuffer.at(0))
+}
+
 // A fresh tally of a board; 1, or 3 for a board outside 1 to 127.
 pub fn tally_fresh(board: u32, out: &mut [u8]) -> u32
     ensures number { result ≡ number_of (fresh_call board (length out.old)) }
     ensures left { out.new ≡ buffer_left (fresh_call board (length out.old)) out.old }
 {
     if out.len() < TALLY_LENGTH {
-        return refusal_number(SHORT_BUFFER, 0);
+        return short();
     }
     let answer = tally::fresh(narrow_board(board));
     put_tally(answer, out)
@@ -54,7 +62,7 @@ pub fn tally_add(tally: &[u8], score: i32, holders: &[u8], out: &mut [u8]) -> u3
         ≡ buffer_left (add_call tally.now score holders.now (length out.old)) out.old }
 {
     if out.len() < TALLY_LENGTH {
-        return refusal_number(SHORT_BUFFER, 0);
+        return short();
     }
     let t = read(tally);
     let answer = merging::add(t, narrow_score(score), holders);
@@ -68,7 +76,7 @@ pub fn tally_merge(a: &[u8], b: &[u8], out: &mut [u8]) -> u32
         ≡ buffer_left (merge_call a.now b.now (length out.old)) out.old }
 {
     if out.len() < TALLY_LENGTH {
-        return refusal_number(SHORT_BUFFER, 0);
+        return short();
     }
     let first = read(a);
     let second = read(b);
@@ -83,7 +91,7 @@ pub fn tally_matchpoints(tally: &[u8], score: i32, holders: &[u8], points: &mut 
         ≡ buffer_left (matchpoints_call tally.now score holders.now (length points.old)) points.old }
 {
     if points.len() < 4 {
-        return refusal_number(SHORT_BUFFER, 0);
+        return short();
     }
     let t = read(tally);
     let answer = matchpoints::matchpoints(t, narrow_score(score), holders);
@@ -96,7 +104,7 @@ pub fn tally_award(percent: u32, cell: &mut [u8]) -> u32
     ensures left { cell.new ≡ buffer_left (award_call percent (length cell.old)) cell.old }
 {
     if cell.len() < 9 {
-        return refusal_number(SHORT_BUFFER, 0);
+        return short();
     }
     let answer = percentages::award(percent);
     put_cell(answer, cell)
@@ -109,7 +117,7 @@ pub fn tally_cell(tally: &[u8], score: i32, holders: &[u8], cell: &mut [u8]) -> 
         ≡ buffer_left (cell_call tally.now score holders.now (length cell.old)) cell.old }
 {
     if cell.len() < 9 {
-        return refusal_number(SHORT_BUFFER, 0);
+        return short();
     }
     let t = read(tally);
     let answer = percentages::cell_of(t, narrow_score(score), holders);
@@ -123,7 +131,7 @@ pub fn tally_hundredths(tally: &[u8], score: i32, holders: &[u8], shares: &mut [
         ≡ buffer_left (hundredths_call tally.now score holders.now (length shares.old)) shares.old }
 {
     if shares.len() < 4 {
-        return refusal_number(SHORT_BUFFER, 0);
+        return short();
     }
     let t = read(tally);
     let answer = hundredths::shares_of(t, narrow_score(score), holders);

@@ -2,12 +2,12 @@
 // the first team's IMPs or the refusal, and at the end the totals of the two teams.
 #![tactic(auto)]
 
-use score::ImpAnswer;
+use laws::Refusal;
+use score::Imps;
 use std::io;
 use std::io::{Read, Write};
-use team_match::{TeamMatch, TotalsAnswer};
-use team_run::{Reply, Run};
-use text::Outcome;
+use team_match::TeamMatch;
+use team_run::{Fed, Reply, Run};
 
 // A run after one read, and whether there may be more to read.
 #[derive(Clone, Copy)]
@@ -17,8 +17,8 @@ struct Turn {
 }
 
 // Writes the start of some bytes, as much of them as a text has filled.
-fn show<W: Write>(out: &mut W, outcome: Outcome, bytes: &[u8]) -> io::Result<()> {
-    let Outcome::Written(n) = outcome else {
+fn show<W: Write>(out: &mut W, outcome: Option<usize>, bytes: &[u8]) -> io::Result<()> {
+    let Some(n) = outcome else {
         return Ok(());
     };
     if bytes.len() < n {
@@ -28,7 +28,7 @@ fn show<W: Write>(out: &mut W, outcome: Outcome, bytes: &[u8]) -> io::Result<()>
 }
 
 // Writes what a board is answered.
-fn say_board<W: Write>(out: &mut W, answer: ImpAnswer) -> io::Result<()> {
+fn say_board<W: Write>(out: &mut W, answer: Result<Imps, Refusal>) -> io::Result<()> {
     let mut text = [0u8; 12];
     let outcome = team_text::write_board(answer, &mut text);
     show(out, outcome, &text)
@@ -43,35 +43,30 @@ fn say_refusal<W: Write>(out: &mut W, line: u64) -> io::Result<()> {
 
 // Writes the totals of the two teams.
 fn say_totals<W: Write>(out: &mut W, m: TeamMatch) -> io::Result<()> {
-    let TotalsAnswer::Totals { first, second } = team_match::totals(m) else {
+    let Ok(totals) = team_match::totals(m) else {
         return Ok(());
     };
     let mut text = [0u8; 30];
-    let outcome = team_text::write_totals(first, second, &mut text);
+    let outcome = team_text::write_totals(totals.first, totals.second, &mut text);
     show(out, outcome, &text)
 }
 
 // Writes what a byte brought.
-fn report<W: Write>(out: &mut W, reply: Reply, line: u64) -> io::Result<()> {
-    match reply {
-        Reply::Nothing => Ok(()),
-        Reply::Answer(answer) => say_board(out, answer),
-        Reply::Stopped => say_refusal(out, line),
+fn report<W: Write>(out: &mut W, fed: Fed) -> io::Result<()> {
+    match fed.reply {
+        None => Ok(()),
+        Some(Reply::Answer(answer)) => say_board(out, answer),
+        Some(Reply::Stopped) => say_refusal(out, fed.run.line.number),
     }
 }
 
 // More bytes of the input: each board's answer is written.
 fn feed<W: Write>(out: &mut W, run: Run, bytes: &[u8]) -> io::Result<Run> {
     let mut r = run;
-    let mut i: usize = 0;
-    while i < bytes.len() {
-        let fed = team_run::take(r, bytes[i]);
-        let next = fed.run;
-        let reply = fed.reply;
-        let line = next.line;
-        report(out, reply, line.number)?;
-        r = next;
-        i += 1;
+    for b in bytes {
+        let fed = team_run::take(r, *b);
+        report(out, fed)?;
+        r = fed.run;
     }
     Ok(r)
 }
@@ -79,15 +74,11 @@ fn feed<W: Write>(out: &mut W, run: Run, bytes: &[u8]) -> io::Result<Run> {
 // The end of the input: a last line without a newline is answered, and where the run is not over the totals are written.
 fn finish<W: Write>(out: &mut W, run: Run) -> io::Result<()> {
     let fed = team_run::finish(run);
-    let last = fed.run;
-    let reply = fed.reply;
-    let line = last.line;
-    report(out, reply, line.number)?;
-    if last.over {
+    report(out, fed)?;
+    if fed.run.over {
         return Ok(());
     }
-    let m = last.state;
-    say_totals(out, m)
+    say_totals(out, fed.run.state)
 }
 
 // Reads once, and takes the bytes that came.

@@ -9,16 +9,13 @@ use borrow.Author.Tests.{lt-leb, le-leb, leb-true, leb-false, not-true}
 use lib.Dec.{leb}
 use lib.IntN.{ℤ, ◌-ℤ◌}
 use lib.ListN.{length}
-use Rattle.score.specs.declared.ImpAnswer.TheVariants.{Refused}
-use Rattle.score.specs.Units.{imp_answer}
 use Rattle.laws.specs.Refusals.{refused, answered, malformed_tally, invalid_score, board_not_free, too_many_boards}
 use Rattle.laws.specs.Law77.{valid_score}
 use Rattle.laws.specs.Law78.{imps_of, imps}
 use Rattle.laws.specs.TeamMatch.{Call, is_used, is_free, answer_to, imps_on}
 use Rattle.laws.proofs.Tests.{by_test, and_left, and_right, and_both}
 use Rattle.team_match.specs.declared.TeamMatch.{TeamMatch}
-use Rattle.team_match.specs.declared.Played.{Played}
-use Rattle.team_match.specs.Matches.{boards_in, is_match, answer_on, accepted, after_on}
+use Rattle.team_match.specs.Matches.{boards_in, is_match, answer_on, with_imps, after_on}
 
 -- IMPs are refused where a score isn't valid, and answered where both are
 pub never : {A : Type 0} (z : ℤ) (n : ℕ) → answered z ≡ refused n → A
@@ -65,22 +62,18 @@ module _ (m : TeamMatch) (c : Call) where
     unfolding answer_on answer_to
     full e h = rw (ok, q, e, le-leb _ _ h)
 
-    pub taken : is_free c.board (boards_in m) ≡ true → length (boards_in m) < 32 → answer_on m c ≡ answered (imps_on c)
+    pub played : is_free c.board (boards_in m) ≡ true → length (boards_in m) < 32 → answer_on m c ≡ imps c.first c.second
     unfolding answer_on answer_to
-    taken e h = rw (ok, q, e, lt-leb _ _ h) (valid-imps c.first c.second q)
+    played e h = rw (ok, q, e, lt-leb _ _ h)
 
-  -- ---- the answer and the state together
-  -- what `play` gives
-  abbrev pub Gives : Played → Type 0
-  Gives r = (r.state ≡ after_on m c) × (imp_answer r.answer ≡ answer_on m c)
-
-  pub gives_refusal : (n : ℕ) {r : Played} → answer_on m c ≡ refused n → r ≡ record { state = m; answer = Refused n } → Gives r
+  -- ---- the state after it
+  pub after_refusal : (n : ℕ) → refused n ≡ answer_on m c → m ≡ after_on m c
   unfolding after_on
-  gives_refusal n e q = rw (q, e) (refl, refl)
+  after_refusal n e = rw (← e)
 
-  pub gives_board : {r : Played} → answer_on m c ≡ answered (imps_on c) → r ≡ accepted m c → Gives r
+  pub after_board : (z : ℤ) → answered z ≡ answer_on m c → z ≡ imps_on c → with_imps m c.board z ≡ after_on m c
   unfolding after_on
-  gives_board e q = rw (q, e) (refl, refl)
+  after_board z e q = rw (← e, q)
 
 -- ---- what is answered goes by which boards are used and by how many
 pub same-used : (used used2 : List ℕ) (c : Call) → is_used c.board used ≡ is_used c.board used2 → length used ≡ length used2
@@ -131,3 +124,11 @@ module _ (used : List ℕ) (c : Call) (z : ℤ) where
   answered-to t =
       rw (t.one, t.two, le-leb 1 c.board t.from, le-leb c.board 127 t.to, t.free, lt-leb 32 (length used) t.room, t.worth)
       (valid-imps c.first c.second (and_both _ _ t.one t.two))
+
+-- a call that a state answers: the state is one, and the call's parts
+pub answered_parts : (m : TeamMatch) (c : Call) (z : ℤ) → answered z ≡ answer_on m c → (is_match m ≡ true) × Taken (boards_in m) c z
+unfolding answer_on
+answered_parts m c z e =
+    by_test (is_match m)
+    (λ (q : is_match m ≡ true). (q, taken-apart (boards_in m) c z (sym (rw q at e))))
+    (λ (q : is_match m ≡ false). never z malformed_tally (rw q at e))

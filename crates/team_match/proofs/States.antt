@@ -1,16 +1,19 @@
 -- The test of a state, by its parts. Assumes nothing.
 use Prim.Native.Nat.{ℕ, ◌≤◌, ◌<◌, ◌*◌, ◌^◌}
 use native.Mathlib.Omega.{arith}
-use mathlib.Core.Path.{◌≡◌}
+use mathlib.Core.Path.{◌≡◌, refl}
 use mathlib.Core.Bool.{Bool, true, false, not, ◌&&◌}
 use borrow.Author.Tests.{eq-eqb, eqb-true, lt-leb, le-leb, leb-true, not-true}
 use lib.Dec.{leb, eqb}
 use lib.IntN.{ℤ, nat_abs, ◌+ℤ◌}
 use lib.ListN.{length, get_or}
-use Rattle.laws.specs.Fitting.{fits, does_not_fit}
+use Rattle.laws.specs.Fitting.{fits}
 use Rattle.laws.proofs.Tests.{and_left, and_right}
 use Rattle.laws.proofs.Integers.{size_sum}
-use Rattle.score.specs.Units.{imps_added}
+use Rattle.std.specs.Prelude.{Option, Some, None}
+use Rattle.std.specs.Option.{IsSome}
+use Rattle.score.specs.declared.Imps.{Imps}
+use Rattle.score.specs.Units.{imp_sum, imps_added}
 use Rattle.score.proofs.Sums.{few_fit}
 use Rattle.team_match.specs.declared.TeamMatch.{TeamMatch}
 use Rattle.team_match.specs.Matches.{boards_in, is_match}
@@ -67,8 +70,9 @@ module _ (m : TeamMatch) where
   sum_fits gained e h = rw (few_fit (m.total.0 +ℤ gained) (few gained e h))
 
 -- a sum that fits is answered
-pub answered_sum : {A : Type 0} (z : A) (y : A) → fits z ≡ fits y → z ≡ y
-answered_sum z y e = cc
+pub summed : (i : Imps) (y : ℤ) → imp_sum (Some i) ≡ fits y → i.0 ≡ y
+summed i y e = cc
 
-pub not_lost : {A : Type 0} (z : ℤ) → does_not_fit ≡ fits z → A
-not_lost z e = absurd (let k : ◌≡◌ {A = ℕ} 0 1 = cc in omega arith)
+pub has_sum : (r : Option Imps) (z : ℤ) → imp_sum r ≡ fits z → IsSome r
+has_sum (Some i) z e = refl
+has_sum None z e = absurd (let k : ◌≡◌ {A = ℕ} 0 1 = cc in omega arith)

@@ -1,13 +1,12 @@
 -- States of a team match: which boards a state has used, which states there are, and what each call answers and leaves.
 -- Assumes nothing.
-use Rattle.std.specs.Prelude.{ℕ, suc, ◌*◌, Bool, true, false, not, ◌&&◌, List, [], ◌∷◌, leb, eqb, ℤ, pos, nat_abs, ◌+ℤ◌, length, get_or, set, replicate, if◌then◌else◌}
+use Rattle.std.specs.Prelude.{ℕ, suc, ◌*◌, Bool, true, false, not, ◌&&◌, List, [], ◌∷◌, leb, eqb, ℤ, pos, nat_abs, ◌+ℤ◌, length, get_or, set, replicate, Result, Ok, Err, if◌then◌else◌}
 use Rattle.laws.specs.Refusals.{Answer, refused, answered, malformed_tally}
-use Rattle.laws.specs.TeamMatch.{most_boards, Call, answer_to, leaving, imps_on, Totals as BothTotals, totals_of}
-use Rattle.score.specs.declared.ImpAnswer.TheVariants.{Scored}
+use Rattle.laws.specs.TeamMatch.{most_boards, Call, answer_to, leaving, imps_on, Totals, totals_of}
+use Rattle.laws.specs.Refused.{number}
+use Rattle.laws.specs.declared.Refusal.{Refusal}
 use Rattle.team_match.specs.declared.TeamMatch.{TeamMatch}
-use Rattle.team_match.specs.declared.Played.{Played}
-use Rattle.team_match.specs.declared.TotalsAnswer.{TotalsAnswer}
-use Rattle.team_match.specs.declared.TotalsAnswer.TheVariants.{Refused, Totals}
+use Rattle.team_match.specs.declared.BothTotals.{BothTotals}
 
 -- the places of a list that hold, counted from a number on
 unfoldable pub places_from : ℕ → List Bool → List ℕ
@@ -36,19 +35,15 @@ answer_on m c = if is_match m then answer_to (boards_in m) c else refused malfor
 abbrev pub with_imps : TeamMatch → ℕ → ℤ → TeamMatch
 with_imps m board gained = record { total = record { 0 = m.total.0 +ℤ gained }; used = set m.used board true }
 
--- a board that is accepted: the state with it, and its IMPs
-abbrev pub accepted : TeamMatch → Call → Played
-accepted m c = record { state = with_imps m c.board (imps_on c); answer = Scored (record { 0 = imps_on c }) }
-
 -- the state after a call: with that board, or unchanged where the call is refused
 unfoldable pub after_on : TeamMatch → Call → TeamMatch
 after_on m c = leaving (answer_on m c) (with_imps m c.board (imps_on c)) m
 
 -- asked for the totals: 17 for a state that is none, else those of both teams
-unfoldable pub totals_on : TeamMatch → Answer BothTotals
+unfoldable pub totals_on : TeamMatch → Answer Totals
 totals_on m = if is_match m then answered (totals_of m.total.0) else refused malformed_tally
 
 -- what an answer for the totals stands for: a refusal by its number, or the totals of both teams
-abbrev pub totals_answer : TotalsAnswer → Answer BothTotals
-totals_answer (Refused n) = refused n
-totals_answer (Totals first second) = answered (record { first = first.0; second = second.0 })
+abbrev pub totals_answer : Result BothTotals Refusal → Answer Totals
+totals_answer (Ok t) = answered (record { first = t.first.0; second = t.second.0 })
+totals_answer (Err refusal) = refused (number refusal)

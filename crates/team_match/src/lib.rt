@@ -2,34 +2,34 @@
 // the contracts of `score`. A state is a value, and every call tests the state that it is given.
 #![tactic(auto)]
 
-ghost use Rattle.std.specs.Prelude.{◌≡◌, true, ◌&&◌, nat_abs, neg_ℤ, length, ◌≤◌};
+ghost use Rattle.std.specs.Prelude.{◌≡◌, true, ◌&&◌, nat_abs, neg_ℤ, length, count_by, ◌≤◌};
 ghost use Rattle.score.specs.Units.{imp_answer};
 ghost use Rattle.laws.specs.Law77.{valid_score};
 ghost use Rattle.laws.specs.TeamMatch.{is_free};
-ghost use Rattle.team_match.specs.Matches.{boards_in, is_match, start_of, with_imps, accepted, answer_on, after_on, totals_on, totals_answer};
+ghost use Rattle.team_match.specs.Matches.{boards_in, is_match, start_of, with_imps, answer_on, after_on, totals_on, totals_answer};
 
-use laws::{BOARD_NOT_FREE, INVALID_SCORE, MALFORMED_TALLY, TOO_MANY_BOARDS};
-use score::{ImpAnswer, ImpSum, Imps, add_imps, imps_of, imps_size, valid};
+use laws::Refusal;
+use score::{Imps, add_imps, imps_of, imps_size, valid};
 
 // The first team's total, and for each number from 0 to 127 whether that board was used; 0 is no board's number.
-#[derive(Clone, Copy)]
+#[derive(Clone, Copy, Debug, PartialEq, Eq)]
 pub struct TeamMatch {
     pub total: Imps,
     pub used: [bool; 128],
 }
 
 // What a board answers, its IMPs or a refusal, and the state after it.
-#[derive(Clone, Copy)]
+#[derive(Clone, Copy, Debug, PartialEq, Eq)]
 pub struct Played {
     pub state: TeamMatch,
-    pub answer: ImpAnswer,
+    pub answer: Result<Imps, Refusal>,
 }
 
-// What is answered for the totals of both teams.
-#[derive(Clone, Copy)]
-pub enum TotalsAnswer {
-    Refused(u8),
-    Totals { first: Imps, second: Imps },
+// The totals of both teams.
+#[derive(Clone, Copy, Debug, PartialEq, Eq)]
+pub struct BothTotals {
+    pub first: Imps,
+    pub second: Imps,
 }
 
 // A match before its first board.
@@ -42,19 +42,18 @@ pub fn start() -> TeamMatch
     }
 }
 
+// How many places hold.
+fn held(places: &[bool]) -> usize
+    ensures { result ≡ count_by (λ place. place) places.now }
+{
+    places.iter().filter(|place| **place).count()
+}
+
 // How many boards are used.
-fn boards_used(m: TeamMatch) -> u8
+fn boards_used(m: TeamMatch) -> usize
     ensures { result ≡ length (boards_in m) }
 {
-    let mut n: u8 = 0;
-    let mut i: usize = 0;
-    while i < 128 {
-        if m.used[i] {
-            n += 1;
-        }
-        i += 1;
-    }
-    n
+    held(&m.used)
 }
 
 // Whether some run of 0 to 32 boards leaves a state.
@@ -65,76 +64,54 @@ pub fn is_match(m: TeamMatch) -> bool
         return false;
     }
     let n = boards_used(m);
-    if 32 < n {
-        return false;
-    }
-    let total = m.total;
-    imps_size(total) <= 24 * n as u64
+    n <= 32 && imps_size(m.total) <= 24 * n as u64
 }
 
 // Whether a board can be played.
 fn is_free(m: TeamMatch, board: u8) -> bool
     ensures { result ≡ is_free board (boards_in m) }
 {
-    if board == 0 {
-        return false;
+    match board {
+        1..=127 => !m.used[usize::from(board)],
+        _ => false,
     }
-    if 127 < board {
-        return false;
-    }
-    !m.used[board as usize]
 }
 
 // Whether both scores are valid.
 fn both_valid(first: i16, second: i16) -> bool
     ensures { result ≡ (valid_score first && valid_score second) }
 {
-    if !valid(first) {
-        return false;
-    }
-    valid(second)
+    valid(first) && valid(second)
 }
 
-// A refusal, with the state as it was.
-fn refuse(m: TeamMatch, refusal: u8) -> Played
-    ensures { result ≡ record { state = m; answer = ImpAnswer.Refused refusal } }
+// What a board is answered: its IMPs, or 17 for the state, 20 for a score, 29 for the board, 30 for a 33rd.
+fn worth(m: TeamMatch, board: u8, first: i16, second: i16) -> Result<Imps, Refusal>
+    ensures { imp_answer result ≡ answer_on m (record { board = board; first = first; second = second }) }
 {
-    Played {
-        state: m,
-        answer: ImpAnswer::Refused(refusal),
+    if !is_match(m) {
+        return Err(Refusal::MalformedTally);
     }
+    if !both_valid(first, second) {
+        return Err(Refusal::InvalidScore);
+    }
+    if !is_free(m, board) {
+        return Err(Refusal::BoardNotFree);
+    }
+    if 32 <= boards_used(m) {
+        return Err(Refusal::TooManyBoards);
+    }
+    imps_of(first, second)
 }
 
 // A state with a board more, worth so many IMPs.
-fn with_imps(m: TeamMatch, board: u8, gained: Imps) -> Played
+fn with_imps(m: TeamMatch, board: u8, gained: Imps) -> TeamMatch
     requires { (is_match m ≡ true) × (board ≤ 127) × (nat_abs gained.0 ≤ 24) }
-    ensures { result ≡ record { state = with_imps m board gained.0; answer = ImpAnswer.Scored gained } }
+    ensures { result ≡ with_imps m board gained.0 }
 {
-    let before = m.total;
-    let ImpSum::ImpTotal(total) = add_imps(before, gained) else {
-        return refuse(m, TOO_MANY_BOARDS);
-    };
-    let mut used = m.used;
-    used[board as usize] = true;
-    let state = TeamMatch {
-        total: total,
-        used: used,
-    };
-    Played {
-        state: state,
-        answer: ImpAnswer::Scored(gained),
-    }
-}
-
-// A board that is accepted: its IMPs in the total, and its place among those used.
-fn accept(m: TeamMatch, board: u8, first: i16, second: i16) -> Played
-    requires { (is_match m ≡ true) × (board ≤ 127) × (valid_score first ≡ true) × (valid_score second ≡ true) }
-    ensures { result ≡ accepted m (record { board = board; first = first; second = second }) }
-{
-    let ImpAnswer::Scored(gained) = imps_of(first, second) else {
-        return refuse(m, INVALID_SCORE);
-    };
-    with_imps(m, board, gained)
+    let mut next = m;
+    next.total = add_imps(m.total, gained).unwrap();
+    next.used[usize::from(board)] = true;
+    next
 }
 
 // One board more: its number, and the scores at the two tables. Refused, the state stays: 17 for the state, 20 for a score, 29 for the board, 30 for
@@ -143,19 +120,12 @@ pub fn play(m: TeamMatch, board: u8, first: i16, second: i16) -> Played
     ensures state { result.state ≡ after_on m (record { board = board; first = first; second = second }) }
     ensures answer { imp_answer result.answer ≡ answer_on m (record { board = board; first = first; second = second }) }
 {
-    if !is_match(m) {
-        return refuse(m, MALFORMED_TALLY);
-    }
-    if !both_valid(first, second) {
-        return refuse(m, INVALID_SCORE);
-    }
-    if !is_free(m, board) {
-        return refuse(m, BOARD_NOT_FREE);
-    }
-    if 32 <= boards_used(m) {
-        return refuse(m, TOO_MANY_BOARDS);
-    }
-    accept(m, board, first, second)
+    let answer = worth(m, board, first, second);
+    let state = match answer {
+        Ok(gained) => with_imps(m, board, gained),
+        Err(_) => m,
+    };
+    Played { state, answer }
 }
 
 // The other team's total.
@@ -168,15 +138,14 @@ fn opposite(m: TeamMatch) -> Imps
 }
 
 // The totals of both teams; 17 for a state that is none.
-pub fn totals(m: TeamMatch) -> TotalsAnswer
+pub fn totals(m: TeamMatch) -> Result<BothTotals, Refusal>
     ensures { totals_answer result ≡ totals_on m }
 {
     if !is_match(m) {
-        return TotalsAnswer::Refused(MALFORMED_TALLY);
+        return Err(Refusal::MalformedTally);
     }
-    let total = m.total;
-    TotalsAnswer::Totals {
-        first: total,
+    Ok(BothTotals {
+        first: m.total,
         second: opposite(m),
-    }
+    })
 }

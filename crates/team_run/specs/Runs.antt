@@ -1,46 +1,46 @@
 -- A run of a team match, byte by byte: what it leaves, and what each byte brings. Assumes nothing.
-use Rattle.std.specs.Prelude.{ℕ, true, false, eqb, ℤ, if◌then◌else◌}
+use Rattle.std.specs.Prelude.{ℕ, true, false, eqb, ℤ, Option, None, Some, Result, Ok, Err, if◌then◌else◌}
 use Rattle.laws.specs.Refusals.{Answer, refused, answered}
 use Rattle.laws.specs.Sheet.{newline}
 use Rattle.laws.specs.TeamMatch.{Call}
-use Rattle.score.specs.declared.ImpAnswer.{ImpAnswer}
-use Rattle.score.specs.declared.ImpAnswer.TheVariants.{Refused, Scored}
+use Rattle.laws.specs.declared.Refusal.{Refusal}
+use Rattle.score.specs.declared.Imps.{Imps}
+use Rattle.laws.specs.Refused.{named}
 use Rattle.script_line.specs.declared.Line.{Line}
 use Rattle.script_line.specs.Lines.{first_line, with_byte, next_line, too_long, text_of}
 use Rattle.team_match.specs.Matches.{start_of as startOfMatch, answer_on, after_on}
-use Rattle.team_script.specs.declared.Asked.{Asked}
-use Rattle.team_script.specs.declared.Asked.TheVariants.{Board, Unreadable}
+use Rattle.team_script.specs.declared.Board.{Board}
 use Rattle.team_script.specs.Boards.{asked_on}
 use Rattle.team_run.specs.declared.Run.{Run}
-use Rattle.team_run.specs.declared.Reply.TheVariants.{Nothing, Answer as Answered, Stopped}
+use Rattle.team_run.specs.declared.Reply.TheVariants.{Answer as Answered, Stopped}
 use Rattle.team_run.specs.declared.Fed.{Fed}
 
 -- before the first byte: a match without boards, and an empty line
 unfoldable pub start_of : Run
 start_of = record { state = startOfMatch; line = first_line; over = false }
 
--- what the line so far asks for
-unfoldable pub asked_in : Line → Asked
-asked_in l = if too_long l then Unreadable else asked_on (text_of l)
+-- the board on the line so far, where it can be read
+unfoldable pub asked_in : Line → Option Board
+asked_in l = if too_long l then None else asked_on (text_of l)
 
 -- what the rules answer to a board, as the code has it
-abbrev pub answer_for : Answer ℤ → ImpAnswer
-answer_for (refused n) = Refused n
-answer_for (answered z) = Scored (record { 0 = z })
+abbrev pub answer_for : Answer ℤ → Result Imps Refusal
+answer_for (refused n) = Err (named n)
+answer_for (answered z) = Ok (record { 0 = z })
 
 -- nothing is answered
 abbrev pub silently : Run → Fed
-silently r = record { run = r; reply = Nothing }
+silently r = record { run = r; reply = None }
 
 -- what a whole line asks for is done: its board is played, and a line that cannot be read ends the run
-unfoldable pub done_with : Run → Asked → Fed
-done_with r (Board board first second) =
-    let c : Call = record { board = board; first = first; second = second } in
+unfoldable pub done_with : Run → Option Board → Fed
+done_with r (Some b) =
+    let c : Call = record { board = b.number; first = b.first; second = b.second } in
     record {
       run = record { state = after_on r.state c; line = next_line r.line; over = false };
-      reply = Answered (answer_for (answer_on r.state c));
+      reply = Some (Answered (answer_for (answer_on r.state c)));
     }
-done_with r Unreadable = record { run = record { state = r.state; line = next_line r.line; over = true }; reply = Stopped }
+done_with r None = record { run = record { state = r.state; line = next_line r.line; over = true }; reply = Some Stopped }
 
 -- the line is whole
 abbrev pub line_done : Run → Fed

@@ -1,15 +1,17 @@
 // A run of a team match: bytes are taken one by one, and each line is a board, whose answer is handed back.
 #![tactic(auto)]
 
-ghost use Rattle.std.specs.Prelude.{◌≡◌};
+ghost use Rattle.std.specs.Prelude.{◌≡◌, None, Some};
 ghost use Rattle.team_run.specs.Runs.{start_of, asked_in, done_with, line_done, taken_byte, finished_of};
 
-use score::ImpAnswer;
+use laws::Refusal;
+use score::Imps;
 use script_line::{Line, first_line, next_line, with_byte};
 use team_match::TeamMatch;
-use team_script::{Asked, read_line};
+use team_script::{Board, read_line};
 
-// A run under way: the match, the line so far, and whether it is over.
+// A run under way: the match, the line so far, and whether it is over. `tree_run` has its like: one type for both, with a trait for what a whole line does and
+// a ghost member for its meaning, is no plainer than the two short functions `take` and `finish`.
 #[derive(Clone, Copy)]
 pub struct Run {
     pub state: TeamMatch,
@@ -17,82 +19,67 @@ pub struct Run {
     pub over: bool,
 }
 
-// What a byte brings: nothing, what the board is answered whose line it ends, or that the run ends at a line that cannot be read.
-#[derive(Clone, Copy)]
+// What a line brings: what its board is answered, or that the run ends at a line that cannot be read.
+#[derive(Clone, Copy, Debug, PartialEq, Eq)]
 pub enum Reply {
-    Nothing,
-    Answer(ImpAnswer),
+    Answer(Result<Imps, Refusal>),
     Stopped,
 }
 
-// A run after a byte, or at its end, and what that brought.
+// A run after a byte, or at its end, and what that brought where it ended a line.
 #[derive(Clone, Copy)]
 pub struct Fed {
     pub run: Run,
-    pub reply: Reply,
+    pub reply: Option<Reply>,
 }
 
 // A run before its first byte.
 pub fn start() -> Run
     ensures { result ≡ start_of }
 {
-    let state = team_match::start();
-    let line = first_line();
     Run {
-        state: state,
-        line: line,
+        state: team_match::start(),
+        line: first_line(),
         over: false,
     }
 }
 
-// What the line so far asks for.
-fn asked_in(line: Line) -> Asked
+// The board on the line so far, where it can be read.
+fn asked_in(line: Line) -> Option<Board>
     ensures { result ≡ asked_in line }
 {
-    let n = line.length;
-    if 20 < n {
-        return Asked::Unreadable;
+    if 20 < line.length {
+        return None;
     }
-    let bytes = line.bytes;
-    read_line(&bytes[..n])
+    read_line(&line.bytes[..line.length])
 }
 
 // A board is played.
-fn play_board(run: Run, board: u8, first: i16, second: i16) -> Fed
-    ensures { result ≡ done_with run (Asked.Board board first second) }
+fn play_board(run: Run, board: Board) -> Fed
+    ensures { result ≡ done_with run (Some board) }
 {
-    let m = run.state;
-    let line = run.line;
-    let played = team_match::play(m, board, first, second);
-    let state = played.state;
-    let answer = played.answer;
-    let empty = next_line(line);
-    let next = Run {
-        state: state,
-        line: empty,
-        over: false,
-    };
+    let played = team_match::play(run.state, board.number, board.first, board.second);
     Fed {
-        run: next,
-        reply: Reply::Answer(answer),
+        run: Run {
+            state: played.state,
+            line: next_line(run.line),
+            over: false,
+        },
+        reply: Some(Reply::Answer(played.answer)),
     }
 }
 
 // The run ends at a line that cannot be read.
 fn stop(run: Run) -> Fed
-    ensures { result ≡ done_with run Asked.Unreadable }
+    ensures { result ≡ done_with run None }
 {
-    let m = run.state;
-    let line = run.line;
-    let empty = next_line(line);
-    let next = Run {
-        state: m,
-        line: empty,
-        over: true,
-    };
     Fed {
-        run: next,
-        reply: Reply::Stopped,
+        run: Run {
+            state: run.state,
+            line: next_line(run.line),
+            over: true,
+        },
+        reply: Some(Reply::Stopped),
     }
 }
 
@@ -100,22 +87,17 @@ fn stop(run: Run) -> Fed
 fn line_done(run: Run) -> Fed
     ensures { result ≡ line_done run }
 {
-    let line = run.line;
-    let asked = asked_in(line);
-    match asked {
-        Asked::Board(board, first, second) => play_board(run, board, first, second),
-        Asked::Unreadable => stop(run),
+    match asked_in(run.line) {
+        Some(board) => play_board(run, board),
+        None => stop(run),
     }
 }
 
 // Nothing is answered.
 fn silent(run: Run) -> Fed
-    ensures { result ≡ record { run = run; reply = Reply.Nothing } }
+    ensures { result ≡ record { run = run; reply = None } }
 {
-    Fed {
-        run: run,
-        reply: Reply::Nothing,
-    }
+    Fed { run, reply: None }
 }
 
 // One byte more of the input.
@@ -125,15 +107,12 @@ pub fn take(run: Run, b: u8) -> Fed
     if run.over {
         return silent(run);
     }
-    if b == 10 {
+    if b == b'\n' {
         return line_done(run);
     }
-    let s = run.state;
-    let line = run.line;
-    let longer = with_byte(line, b);
     silent(Run {
-        state: s,
-        line: longer,
+        state: run.state,
+        line: with_byte(run.line, b),
         over: false,
     })
 }
@@ -142,11 +121,7 @@ pub fn take(run: Run, b: u8) -> Fed
 pub fn finish(run: Run) -> Fed
     ensures { result ≡ finished_of run }
 {
-    if run.over {
-        return silent(run);
-    }
-    let line = run.line;
-    if line.length == 0 {
+    if run.over || run.line.length == 0 {
         return silent(run);
     }
     line_done(run)

@@ -1,13 +1,8 @@
 -- A line of a team match: a board and its two scores, one space between. Assumes nothing.
-use Rattle.std.specs.Prelude.{ℕ, suc, ◌+◌, List, [], ◌∷◌, eqb, take, drop, if◌then◌else◌}
-use Rattle.decimal.specs.declared.Number.{Number}
-use Rattle.decimal.specs.declared.Number.TheVariants.{Is, None}
-use Rattle.decimal.specs.declared.Score.{Score}
-use Rattle.decimal.specs.declared.Score.TheVariants.{Of, Nothing}
+use Rattle.std.specs.Prelude.{ℕ, suc, ◌+◌, List, [], ◌∷◌, eqb, take, drop, ℤ, Option, Some, None, if◌then◌else◌}
 use Rattle.decimal.specs.Numbers.{number_on}
 use Rattle.decimal.specs.Scores.{board_in, score_on}
-use Rattle.team_script.specs.declared.Asked.{Asked}
-use Rattle.team_script.specs.declared.Asked.TheVariants.{Board, Unreadable}
+use Rattle.team_script.specs.declared.Board.{Board}
 
 -- how many bytes stand before the first space
 unfoldable pub to_space : List ℕ → ℕ
@@ -23,16 +18,16 @@ unfoldable pub behind : List ℕ → List ℕ
 behind bytes = drop (to_space bytes + 1) bytes
 
 -- a board with two scores, where both were read
-unfoldable pub scored : ℕ → Score → Score → Asked
-scored board Nothing second = Unreadable
-scored board (Of first) Nothing = Unreadable
-scored board (Of first) (Of second) = Board board first second
+unfoldable pub scored : ℕ → Option ℤ → Option ℤ → Option Board
+scored board None second = None
+scored board (Some first) None = None
+scored board (Some first) (Some second) = Some (record { number = board; first = first; second = second })
 
 -- the same, where the board's number was read too
-unfoldable pub asked : Number → Score → Score → Asked
-asked None first second = Unreadable
-asked (Is board) first second = scored (board_in board) first second
+unfoldable pub asked : Option ℕ → Option ℤ → Option ℤ → Option Board
+asked None first second = None
+asked (Some board) first second = scored (board_in board) first second
 
 -- `BOARD FIRST SECOND`: one to five digits, and two scores, each with an optional minus and one to five digits
-unfoldable pub asked_on : List ℕ → Asked
+unfoldable pub asked_on : List ℕ → Option Board
 asked_on line = asked (number_on (field line)) (score_on (field (behind line))) (score_on (behind (behind line)))

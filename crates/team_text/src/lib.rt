@@ -8,8 +8,9 @@ ghost use Rattle.score.specs.Units.{imp_answer};
 ghost use Rattle.text.specs.Putting.{Put, written, length_within, left_in};
 ghost use Rattle.team_text.specs.Team.{imps_text, board_text, totals_text};
 
-use score::{ImpAnswer, Imps};
-use text::{Outcome, lend, put_byte, put_bytes, put_refusal, put_refused, put_signed};
+use laws::Refusal;
+use score::Imps;
+use text::{lend, put_byte, put_bytes, put_refusal, put_refused, put_signed};
 
 fn put_imps(out: &mut [u8], at: usize, imps: Imps) -> usize
     ensures { Put out.old at (signed_decimal imps.0) out.new result }
@@ -24,17 +25,17 @@ fn put_gained(out: &mut [u8], imps: Imps) -> usize
     put_byte(out, end, 10)
 }
 
-fn put_board(out: &mut [u8], answer: ImpAnswer) -> usize
+fn put_board(out: &mut [u8], answer: Result<Imps, Refusal>) -> usize
     ensures { Put out.old 0 (board_text (imp_answer answer)) out.new result × (length (board_text (imp_answer answer)) ≤ 12) }
 {
     match answer {
-        ImpAnswer::Refused(n) => put_refused(out, n),
-        ImpAnswer::Scored(imps) => put_gained(out, imps),
+        Err(refusal) => put_refused(out, refusal.number()),
+        Ok(imps) => put_gained(out, imps),
     }
 }
 
 // Writes what a board is answered to lent bytes. 12 bytes are enough.
-pub fn write_board(answer: ImpAnswer, out: &mut [u8]) -> Outcome
+pub fn write_board(answer: Result<Imps, Refusal>, out: &mut [u8]) -> Option<usize>
     ensures answer { written result ≡ length_within (board_text (imp_answer answer)) (length out.old) }
     ensures bytes { out.new ≡ left_in out.old (board_text (imp_answer answer)) }
 {
@@ -44,7 +45,7 @@ pub fn write_board(answer: ImpAnswer, out: &mut [u8]) -> Outcome
 }
 
 // Writes that a line cannot be read to lent bytes. 34 bytes are enough.
-pub fn write_refusal(line: u64, out: &mut [u8]) -> Outcome
+pub fn write_refusal(line: u64, out: &mut [u8]) -> Option<usize>
     ensures answer { written result ≡ length_within (refusal line) (length out.old) }
     ensures bytes { out.new ≡ left_in out.old (refusal line) }
 {
@@ -64,7 +65,7 @@ fn put_totals(out: &mut [u8], first: Imps, second: Imps) -> usize
 }
 
 // Writes the totals of the two teams to lent bytes. 30 bytes are enough.
-pub fn write_totals(first: Imps, second: Imps, out: &mut [u8]) -> Outcome
+pub fn write_totals(first: Imps, second: Imps, out: &mut [u8]) -> Option<usize>
     ensures answer { written result ≡ length_within (totals_text first.0 second.0) (length out.old) }
     ensures bytes { out.new ≡ left_in out.old (totals_text first.0 second.0) }
 {

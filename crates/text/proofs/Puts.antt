@@ -1,18 +1,18 @@
 -- Texts put one after the other. Assumes nothing.
 use Prim.Native.Nat.{ℕ, zero, suc, ◌+◌, ◌≤◌, ◌<◌}
-use native.Mathlib.Numerals.{add-one}
 use native.Mathlib.Omega.{arith}
 use mathlib.Core.Path.{◌≡◌, refl, sym, ap, ◌∙◌, subst}
 use mathlib.Core.Bool.{true, false}
-use mathlib.Core.List.{List, [], ◌∷◌, ◌++◌}
+use mathlib.Core.List.{List, [], ◌∷◌, ◌++◌, append_assoc}
 use borrow.Author.Tests.{le-leb, lt-leb, leb-true, leb-false}
 use lib.Dec.{leb}
-use lib.ListN.{length, take, drop, get_or, set, length-append, length-drop, take-append-drop}
-use lib.Seq.{sets, length-sets, sets-eq, take-suc, take-length, length-take-le, take_at}
+use borrow.Rule.Slice.PartMut.{put_mid}
+use Rattle.std.specs.Prelude.{min, ◌-◌}
+use lib.ListN.{length, take, drop, set, length-append, length-drop, take-append-drop}
+use lib.Seq.{sets, length-sets, sets-eq, length-take-le, take_at, take_all, drop-drop}
 use Rattle.laws.specs.Fitting.{fits}
 use Rattle.laws.proofs.Tests.{by_test}
-use Rattle.text.specs.declared.Outcome.{Outcome}
-use Rattle.text.specs.declared.Outcome.TheVariants.{Written, TooShort}
+use Rattle.std.specs.Prelude.{Option, Some, None}
 use Rattle.text.specs.Putting.{last_place, place_after, Put, written, length_within, left_in}
 
 -- stores from a place on, and then from the place after them
@@ -42,6 +42,13 @@ place-within at n h = rw (le-leb (at + n) last_place h)
 pub place-last : (at n : ℕ) → last_place < at + n → place_after at n ≡ last_place
 unfolding place_after
 place-last at n h = rw (lt-leb (at + n) last_place h)
+
+pub place_least : (at n : ℕ) → min (at + n) last_place ≡ place_after at n
+unfolding place_after
+place_least at n =
+    by_test (leb (at + n) last_place)
+    (λ (q : leb (at + n) last_place ≡ true). let h = leb-true _ _ q in rw q (omega arith))
+    (λ (q : leb (at + n) last_place ≡ false). let h = leb-false _ _ q in rw q (omega arith))
 
 place-most : (at n : ℕ) → place_after at n ≤ last_place
 unfolding place_after
@@ -104,23 +111,37 @@ put_again p = record { place = p.place; bytes = refl; within = rw p.bytes p.with
 pub put_since : {o l m : List ℕ} {at n to k : ℕ} {s : List ℕ} → Put o at [] l n → Put l to s m k → Put o to s m k
 put_since {o} {l} {m} {at} {n} {to} {k} {s} p q = subst (λ (x : List ℕ). Put x to s m k) p.bytes q
 
--- ---- a text put byte by byte
-module _ (o bytes : List ℕ) (at i : ℕ) where
-  pub put_one : i < length bytes → set (sets o at (take i bytes)) (at + i) (get_or bytes i 0) ≡ sets o at (take (i + 1) bytes)
-  put_one h =
-      let n : length (take i bytes) ≡ i = length-take-le i bytes (omega arith) in
-      rw (add-one i, take-suc bytes i 0 h) (sym (sets_append o at (take i bytes) (get_or bytes i 0 ∷ []) ∙ rw n))
+-- ---- a text copied at once
+module _ (o bytes : List ℕ) (at start n : ℕ) (from : start ≡ min at (length o)) (many : n ≡ min (length bytes) (length o - start)) where
+  -- there is room for some of it, or for all
+  put_room : at ≤ length o → sets o at (take n bytes) ≡ sets o at bytes
+  put_room h =
+      by_test (leb (length bytes) n)
+      (λ (q : leb (length bytes) n ≡ true). rw (take_all n bytes (leb-true _ _ q)))
+      (λ (q : leb (length bytes) n ≡ false).
+      let short : n < length bytes = leb-false _ _ q in
+      let full : length o ≤ at + n = omega arith in
+      let count : length (take n bytes) ≡ n = length-take-le n bytes (omega arith) in
+      let whole = sets_append o at (take n bytes) (drop n bytes) in
+      sym (rw (take-append-drop n bytes, count) at whole
+      ∙ sets-beyond (sets o at (take n bytes)) (at + n) (drop n bytes) (omega (arith, length-sets o at (take n bytes)))))
 
-  -- where there is no more room, the rest changes nothing
-  pub put_rest : i ≤ length bytes → length o ≤ at + i → sets o at (take i bytes) ≡ sets o at bytes
-  put_rest h r =
-      let n : length (take i bytes) ≡ i = length-take-le i bytes h in
-      let whole = sets_append o at (take i bytes) (drop i bytes) in
-      sym (rw (take-append-drop i bytes, n) at whole
-      ∙ sets-beyond (sets o at (take i bytes)) (at + i) (drop i bytes) (omega (arith, length-sets o at (take i bytes))))
-
-  pub whole-text : i ≡ length bytes → sets o at (take i bytes) ≡ sets o at bytes
-  whole-text e = rw (e, take-length bytes)
+  pub put_copied : put_mid start (start + n - start) o (take n bytes) ≡ sets o at bytes
+  put_copied =
+      by_test (leb at (length o))
+      (λ (q : leb at (length o) ≡ true).
+      let within : at ≤ length o = leb-true _ _ q in
+      let same : start ≡ at = omega arith in
+      let count : length (take n bytes) ≡ n = length-take-le n bytes (omega arith) in
+      let copied = sets-eq (take n bytes) o at (omega (arith, count)) in
+      let width : at + n - at ≡ n = omega arith in
+      rw (same, width, drop-drop) (sym (append_assoc (take at o) (take n bytes) (drop (at + n) o)) ∙ sym (rw count at copied) ∙ put_room within))
+      (λ (q : leb at (length o) ≡ false).
+      let past : length o < at = leb-false _ _ q in
+      let last : start ≡ length o = omega arith in
+      let none : n ≡ 0 = omega arith in
+      let width : length o + 0 - length o ≡ 0 = omega arith in
+      rw (last, none, width) (take-append-drop (length o) o ∙ sym (sets-beyond o at bytes (omega arith))))
 
 -- from the first place: the text, and then the bytes that were after it
 pub put_front : (o l : List ℕ) (s : List ℕ) (n : ℕ) → Put o 0 s l n → length s ≤ length o → l ≡ s ++ drop (length s) o
@@ -145,17 +166,16 @@ module _ (text : List ℕ) (zeros local : List ℕ) (n : ℕ) (p : Put zeros 0 t
 
 -- a text lent: too few bytes, or as many as it needs
 module _ (text out : List ℕ) where
-  pub too_short : length out < length text → (written TooShort ≡ length_within text (length out)) × (out ≡ left_in out text)
+  pub too_short : length out < length text → (written None ≡ length_within text (length out)) × (out ≡ left_in out text)
   unfolding length_within left_in
   too_short h = rw (lt-leb (length text) (length out) h) (refl, refl)
 
-  pub copied : (left : List ℕ) (m : ℕ) → length text ≤ length out → Put out 0 text left m
-      → (written (Written (length text)) ≡ length_within text (length out)) × (left ≡ left_in out text)
+  pub copied : length text ≤ length out → (written (Some (length text)) ≡ length_within text (length out)) × (text ++ drop (length text) out ≡ left_in out text)
   unfolding length_within left_in
-  copied left m h q = rw (le-leb (length text) (length out) h) (refl, put_front out left text m q h)
+  copied h = rw (le-leb (length text) (length out) h) (refl, refl)
 
 -- ---- what a caller of `write` learns
-written-within : (text : List ℕ) (room n : ℕ) (r : Outcome) → written r ≡ length_within text room → r ≡ Written n → n ≤ room
+written-within : (text : List ℕ) (room n : ℕ) (r : Option ℕ) → written r ≡ length_within text room → r ≡ Some n → n ≤ room
 unfolding length_within
 written-within text room n r e q =
     let told : fits n ≡ length_within text room = sym (ap written q) ∙ e in
@@ -174,7 +194,7 @@ left-length out text =
     (λ (t : leb (length text) (length out) ≡ false). rw t)
 
 -- what was written is the start of the lent bytes
-module _ (out left text : List ℕ) (n : ℕ) (r : Outcome) (e : written r ≡ length_within text (length out)) (f : left ≡ left_in out text) (q : r ≡ Written n) where
+module _ (out left text : List ℕ) (n : ℕ) (r : Option ℕ) (e : written r ≡ length_within text (length out)) (f : left ≡ left_in out text) (q : r ≡ Some n) where
   pub written-prefix : n ≤ length left
   written-prefix = rw (f, left-length out text) (written-within text (length out) n r e q)
 

@@ -1,9 +1,7 @@
 -- Bytes put into other bytes at a place, and what a lent slice holds after a text was written to it. Assumes nothing.
-use Rattle.std.specs.Prelude.{ℕ, ◌+◌, ◌≤◌, ◌≡◌, List, ◌++◌, leb, length, drop, if◌then◌else◌}
+use Rattle.std.specs.Prelude.{ℕ, ◌+◌, ◌≤◌, ◌≡◌, List, ◌++◌, leb, length, drop, Option, Some, None, if◌then◌else◌}
 use Rattle.std.proofs.lemmas.List.Edits.{sets}
 use Rattle.laws.specs.Fitting.{Fitting, fits, does_not_fit, where_fits}
-use Rattle.text.specs.declared.Outcome.{Outcome}
-use Rattle.text.specs.declared.Outcome.TheVariants.{Written, TooShort}
 
 -- the last place that a number of 64 bits can name
 abbrev pub last_place : ℕ
@@ -20,9 +18,9 @@ pub record Put (out : List ℕ) (at : ℕ) (text : List ℕ) (left : List ℕ) (
   pub within : length out ≤ last_place
 
 -- what an answer stands for: so many bytes written, or that the text does not fit
-abbrev pub written : Outcome → Fitting ℕ
-written (Written n) = fits n
-written TooShort = does_not_fit
+abbrev pub written : Option ℕ → Fitting ℕ
+written (Some n) = fits n
+written None = does_not_fit
 
 -- the length of a text, where it fits so many bytes
 unfoldable pub length_within : List ℕ → ℕ → Fitting ℕ

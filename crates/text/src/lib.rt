@@ -1,60 +1,33 @@
 // Texts put into bytes: at a place, as far as there is room, and to lent bytes, whole or not at all. Each put answers the place after what it put.
 #![tactic(auto)]
 
-ghost use Rattle.std.specs.Prelude.{◌≡◌, [], ◌∷◌, ◌%◌, ◌≤◌, ◌^◌, nat_abs, length};
+ghost use Rattle.std.specs.Prelude.{◌≡◌, [], ◌∷◌, ◌%◌, length};
 ghost use Rattle.laws.specs.Decimal.{digit, decimal, signed_decimal};
 ghost use Rattle.laws.specs.Sheet.{refusal};
 ghost use Rattle.laws.specs.Slip.{line, refusal_line};
 ghost use Rattle.text.specs.Refused.{refused_text};
-ghost use Rattle.text.specs.Putting.{place_after, Put, written, length_within, left_in};
-
-// How the writing of a text went: so many bytes written, or too few lent and none written.
-#[derive(Clone, Copy)]
-pub enum Outcome {
-    Written(usize),
-    TooShort,
-}
-
-// The place after so many bytes; it stays at the last one that can be named.
-fn place_after(at: usize, n: usize) -> usize
-    ensures { result ≡ place_after at n }
-{
-    if 18446744073709551615 - at < n {
-        return 18446744073709551615;
-    }
-    at + n
-}
+ghost use Rattle.text.specs.Putting.{Put, written, length_within, left_in};
 
 pub fn put_bytes(out: &mut [u8], at: usize, bytes: &[u8]) -> usize
     ensures { Put out.old at bytes.now out.new result }
 {
-    let room = out.len();
-    let next = place_after(at, bytes.len());
-    let mut i: usize = 0;
-    let mut to = at;
-    while i < bytes.len() {
-        if room <= to {
-            return next;
-        }
-        out[to] = bytes[i];
-        to += 1;
-        i += 1;
-    }
-    next
+    let start = at.min(out.len());
+    let n = bytes.len().min(out.len() - start);
+    out[start..start + n].copy_from_slice(&bytes[..n]);
+    at.saturating_add(bytes.len())
 }
 
 pub fn put_byte(out: &mut [u8], at: usize, b: u8) -> usize
     ensures { Put out.old at (b ∷ []) out.new result }
 {
-    let byte = [b];
-    put_bytes(out, at, &byte)
+    put_bytes(out, at, &[b])
 }
 
 // The last digit of a number.
 pub fn put_digit(out: &mut [u8], at: usize, n: u64) -> usize
     ensures { Put out.old at (digit (n % 10) ∷ []) out.new result }
 {
-    put_byte(out, at, 48 + (n % 10) as u8)
+    put_byte(out, at, b'0' + (n % 10) as u8)
 }
 
 pub fn put_decimal(out: &mut [u8], at: usize, n: u64) -> usize
@@ -68,35 +41,29 @@ pub fn put_decimal(out: &mut [u8], at: usize, n: u64) -> usize
 }
 
 // A number in decimal, with a minus where it is negative.
-fn put_wide(out: &mut [u8], at: usize, n: i64) -> usize
-    requires { nat_abs n ≤ 2 ^ 31 }
-    ensures { Put out.old at (signed_decimal n) out.new result }
-{
-    if n < 0 {
-        let next = put_byte(out, at, 45);
-        return put_decimal(out, next, (-n) as u64);
-    }
-    put_decimal(out, at, n as u64)
-}
-
 pub fn put_signed(out: &mut [u8], at: usize, n: i32) -> usize
     ensures { Put out.old at (signed_decimal n) out.new result }
 {
-    put_wide(out, at, n as i64)
+    let size = u64::from(n.unsigned_abs());
+    if n < 0 {
+        let next = put_byte(out, at, b'-');
+        return put_decimal(out, next, size);
+    }
+    put_decimal(out, at, size)
 }
 
 pub fn put_score(out: &mut [u8], at: usize, score: i16) -> usize
     ensures { Put out.old at (signed_decimal score) out.new result }
 {
-    put_wide(out, at, score as i64)
+    put_signed(out, at, i32::from(score))
 }
 
 // A space and a number.
 pub fn put_field(out: &mut [u8], at: usize, n: u32) -> usize
     ensures { Put out.old at (32 ∷ decimal n) out.new result }
 {
-    let next = put_byte(out, at, 32);
-    put_decimal(out, next, n as u64)
+    let next = put_byte(out, at, b' ');
+    put_decimal(out, next, u64::from(n))
 }
 
 // A name, a space, a score and a newline.
@@ -104,35 +71,35 @@ pub fn put_named(out: &mut [u8], at: usize, name: &[u8], score: i16) -> usize
     ensures { Put out.old at (line name.now score) out.new result }
 {
     let a = put_bytes(out, at, name);
-    let b = put_byte(out, a, 32);
+    let b = put_byte(out, a, b' ');
     let c = put_score(out, b, score);
-    put_byte(out, c, 10)
+    put_byte(out, c, b'\n')
 }
 
 // Two numbers with a space between them, and a newline.
 pub fn put_pair(out: &mut [u8], a: u32, b: u32) -> usize
     ensures { Put out.old 0 (refusal_line a b) out.new result }
 {
-    let next = put_decimal(out, 0, a as u64);
+    let next = put_decimal(out, 0, u64::from(a));
     let end = put_field(out, next, b);
-    put_byte(out, end, 10)
+    put_byte(out, end, b'\n')
 }
 
-// Copies a text to lent bytes where it fits them.
-pub fn lend(text: &[u8], out: &mut [u8]) -> Outcome
+// Copies a text to lent bytes where it fits them, and tells its length.
+pub fn lend(text: &[u8], out: &mut [u8]) -> Option<usize>
     ensures answer { written result ≡ length_within text.now (length out.old) }
     ensures bytes { out.new ≡ left_in out.old text.now }
 {
     let n = text.len();
     if out.len() < n {
-        return Outcome::TooShort;
+        return None;
     }
-    put_bytes(out, 0, text);
-    Outcome::Written(n)
+    out[..n].copy_from_slice(text);
+    Some(n)
 }
 
-// Writes two numbers with a space between them and a newline to lent bytes. 22 bytes are enough.
-pub fn write_pair(a: u32, b: u32, out: &mut [u8]) -> Outcome
+// Writes two numbers with a space between them and a newline to lent bytes, and tells how many bytes. 22 bytes are enough.
+pub fn write_pair(a: u32, b: u32, out: &mut [u8]) -> Option<usize>
     ensures answer { written result ≡ length_within (refusal_line a b) (length out.old) }
     ensures bytes { out.new ≡ left_in out.old (refusal_line a b) }
 {
@@ -155,6 +122,6 @@ pub fn put_refused(out: &mut [u8], n: u8) -> usize
     ensures { Put out.old 0 (refused_text n) out.new result }
 {
     let number = put_bytes(out, 0, b"refused ");
-    let end = put_decimal(out, number, n as u64);
-    put_byte(out, end, 10)
+    let end = put_decimal(out, number, u64::from(n));
+    put_byte(out, end, b'\n')
 }

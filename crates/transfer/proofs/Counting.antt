@@ -1,16 +1,16 @@
 -- The count of Law 64 from the last revoke to the first, a revoke at a time. Assumes nothing.
 use Rattle.std.specs.Prelude.{if◌then◌else◌}
 use Prim.Native.Nat.{ℕ, zero, suc, ◌≤◌, ◌<◌, ◌+◌, ◌-◌, ◌%◌, min}
-use mathlib.Core.Path.{◌≡◌, refl, sym, ap, ◌∙◌}
+use mathlib.Core.Path.{◌≡◌, refl, sym}
 use mathlib.Core.Bool.{Bool, true, false, ◌||◌}
-use mathlib.Core.List.{List, [], ◌∷◌}
+use mathlib.Core.List.{List}
 use native.Mathlib.Omega.{arith}
 use lib.Dec.{eqb}
 use lib.ListN.{length, get_or, take, drop, length-take, length-drop, length-map}
 use Rattle.laws.specs.Cards.{no_seat, clockwise, partner_of, side_of}
 use Rattle.laws.specs.Law44.{tricks_won}
 use Rattle.laws.specs.LeadRevoke.{Counted}
-use Rattle.laws.specs.Law64.{repeated, is_exempt, entitlement, won_from, Due, dues, total}
+use Rattle.laws.specs.Law64.{repeated, is_exempt, entitlement, won_from, dues, total}
 use Rattle.laws.specs.Law68.{claimed_tricks}
 use Rattle.laws.proofs.Tests.{by_test}
 use Rattle.laws.proofs.Counts.{many-le}
@@ -18,7 +18,7 @@ use Rattle.play.specs.declared.Tricks.{Tricks}
 use Rattle.play.specs.declared.Won.{Won}
 use Rattle.play.specs.Told.{seats_of}
 use Rattle.position.specs.declared.listed.Listed.{Listed}
-use Rattle.transfer.specs.Inputs.{counted_at, revokes_in, winners_in, claimed_by, earlier, total_from}
+use Rattle.transfer.specs.Inputs.{counted_at, winners_in, claimed_by, earlier, total_from}
 use Rattle.transfer.proofs.Lists.{next-revoke, revokes_end}
 
 either : (b : Bool) → (b || true) ≡ true

@@ -1,6 +1,5 @@
 -- What the play tells is what Law 64 counts on: the revokes and the winners of the history. Assumes nothing.
-use Rattle.std.specs.Prelude.{if◌then◌else◌}
-use Prim.Native.Nat.{ℕ, ◌≤◌, ◌<◌, ◌+◌, ◌*◌, ◌/◌, ◌%◌}
+use Prim.Native.Nat.{ℕ, ◌≤◌, ◌<◌}
 use mathlib.Core.Path.{◌≡◌, refl, sym, ap, ap₂, ◌∙◌}
 use mathlib.Core.Bool.{Bool, true, false}
 use mathlib.Core.List.{List, [], ◌∷◌, ◌++◌, map, map-map}
@@ -9,11 +8,11 @@ use borrow.Author.Tests.{eqb-false}
 use lib.Dec.{eqb}
 use lib.ListN.{length, take, length-map}
 use Rattle.laws.specs.Padded.{padded}
-use Rattle.laws.specs.Cards.{partner_of, suit_of, cards_dealt}
+use Rattle.laws.specs.Cards.{partner_of, cards_dealt}
 use Rattle.laws.specs.Law44.{cards_played, tricks_complete, won_tricks, winners}
 use Rattle.laws.specs.Events.{Event, played, exposed, choice, cards_of, list_plays}
 use Rattle.laws.specs.Law51.{no_suit, required}
-use Rattle.laws.specs.LeadRevoke.{leads, led_after, disobeys, listed_suit, revoke_by, Counted, listed_as, counted_by, counted_revokes, all_revokes}
+use Rattle.laws.specs.LeadRevoke.{leads, disobeys, listed_suit, revoke_by, Counted, listed_as, counted_by, counted_revokes, all_revokes}
 use Rattle.laws.specs.Kept.{NoneRefused}
 use Rattle.laws.specs.Law64.{transferred_tricks}
 use Rattle.laws.specs.Judgement

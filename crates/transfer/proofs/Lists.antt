@@ -1,21 +1,23 @@
 -- The listed revokes and the winners, a place at a time. Assumes nothing.
+use Rattle.std.specs.List.{list_any}
+use Rattle.std.proofs.lemmas.List.Folds.{list_any-append}
 use Rattle.std.specs.Prelude.{if◌then◌else◌}
-use Prim.Native.Nat.{ℕ, zero, suc, ◌≤◌, ◌<◌, ◌+◌, ◌-◌, ◌/◌, ◌%◌, min}
+use Prim.Native.Nat.{ℕ, zero, suc, ◌≤◌, ◌<◌, ◌+◌, ◌/◌, ◌%◌, min}
 use mathlib.Core.Path.{◌≡◌, refl, sym, ap, ◌∙◌}
 use mathlib.Core.Bool.{Bool, true, false, ◌&&◌, ◌||◌}
 use mathlib.Core.List.{List, [], ◌∷◌}
 use native.Mathlib.Omega.{arith}
 use native.Mathlib.Numerals.{add-one}
-use borrow.Author.Tests.{eqb-true, eq-eqb}
-use lib.Dec.{eqb}
+use borrow.Author.Tests.{leb-true, leb-false, eqb-true, eq-eqb}
+use lib.Dec.{eqb, leb}
 use lib.ListN.{length, get_or, take, drop, length-take, length-map, get_or-map, get_or-eq_default}
-use lib.Seq.{drop-cons, get_or-take}
+use lib.Seq.{drop-cons, get_or-take, take-suc, take_all}
 use Rattle.laws.specs.Choice.{some, how_many}
 use Rattle.laws.specs.Cards.{no_seat}
 use Rattle.laws.specs.Law44.{tricks_won}
 use Rattle.laws.specs.LeadRevoke.{Counted}
 use Rattle.laws.specs.Law64.{repeated, side_revoked}
-use Rattle.laws.proofs.Tests.{same_test, and_left, and_right, and_both}
+use Rattle.laws.proofs.Tests.{by_test, same_test, and_left, and_right, and_both}
 use Rattle.laws.proofs.Counts.{any_default}
 use Rattle.play.specs.declared.Tricks.{Tricks}
 use Rattle.play.specs.declared.Won.{Won}
@@ -103,6 +105,27 @@ pub one-before : (byte f j : ℕ) (l free : List ℕ) → repeated (earlier (suc
 unfolding repeated some earlier
 one-before byte f j l free = rw (same_low (get_or l j 0) byte)
 
+or_none : (b : Bool) → (b || false) ≡ b
+or_none true = refl
+or_none false = refl
+
+either_way : (a b : Bool) → (a || b) ≡ (b || a)
+either_way true true = refl
+either_way true false = refl
+either_way false true = refl
+either_way false false = refl
+
+-- .. among the first of the list
+pub any-before : (byte f i : ℕ) (l free : List ℕ) → i ≤ length l
+    → list_any (λ (b : ℕ). eqb (b % 16) (byte % 16)) (take i l) ≡ repeated (earlier i l free) (counted_of byte f)
+any-before byte f zero l free h = sym (none_before l free (counted_of byte f))
+any-before byte f (suc i) l free h =
+    let test : ℕ → Bool = λ b. eqb (b % 16) (byte % 16) in
+    ap (list_any test) (take-suc l i 0 h)
+    ∙ list_any-append test (take i l) (get_or l i 0 ∷ [])
+    ∙ either_way (list_any test (take i l)) (list_any test (get_or l i 0 ∷ []))
+    ∙ rw (or_none (test (get_or l i 0)), any-before byte f i l free (omega arith)) (sym (one-before byte f i l free))
+
 -- ---- a side's revokes and tricks from a place on
 pub side_none : (side : ℕ) → side_revoked side [] ≡ false
 unfolding side_revoked some
@@ -121,22 +144,32 @@ pub won-next : (side seat : ℕ) (rest : List ℕ) → tricks_won side (seat ∷
 unfolding tricks_won how_many
 won-next side seat rest = refl
 
--- the place before a place that is not the first
-pub place-before : (byte f j : ℕ) (l free : List ℕ) → 0 < j
-    → repeated (earlier j l free) (counted_of byte f) ≡ (eqb (get_or l (j - 1) 0 % 16) (byte % 16) || repeated (earlier (j - 1) l free) (counted_of byte f))
-place-before byte f zero l free h = absurd (omega arith)
-place-before byte f (suc j) l free h = let e : suc j - 1 ≡ j = omega arith in rw e (one-before byte f j l free)
+-- .. among the bytes that are listed
+side_any : (side : ℕ) (bytes free : List ℕ) → length bytes ≡ length free
+    → list_any (λ (b : ℕ). eqb (b / 4 % 2) side) bytes ≡ side_revoked side (counted_in bytes free)
+unfolding counted_in
+side_any side [] free h = sym (side_none side)
+side_any side (b ∷ bytes) [] h = absurd (omega arith)
+side_any side (b ∷ bytes) (f ∷ free) h =
+    ap (λ (r : Bool). eqb (b / 4 % 2) side || r) (side_any side bytes free (omega arith)) ∙ sym (side_next side b f (counted_in bytes free))
+
+take-most : (n : ℕ) (l : List ℕ) → take (min n (length l)) l ≡ take n l
+take-most n l =
+    by_test (leb n (length l))
+    (λ (q : leb n (length l) ≡ true). let h = leb-true n (length l) q in let e : min n (length l) ≡ n = omega arith in rw e)
+    (λ (q : leb n (length l) ≡ false).
+    let h = leb-false n (length l) q in
+    take_all (min n (length l)) l (omega arith) ∙ sym (take_all n l (omega arith)))
 
 -- ---- the same at a place of the arrays
-module _ (rs : Listed) (all : length rs.list ≡ 48) (free : length rs.excused ≡ 48) where
-  pub side_at : (side i : ℕ) → i < min rs.count 48
-      → side_revoked side (drop i (revokes_in rs)) ≡ (eqb (get_or rs.list i 0 / 4 % 2) side || side_revoked side (drop (i + 1) (revokes_in rs)))
-  side_at side i h =
-      ap (side_revoked side) (next-revoke rs all free i h)
-      ∙ side_next side (get_or rs.list i 0) (get_or rs.excused i 0) (drop (suc i) (revokes_in rs)) ∙ rw add-one
-
-  pub side_end : (side i : ℕ) → min rs.count 48 ≤ i → side_revoked side (drop i (revokes_in rs)) ≡ false
-  side_end side i h = ap (side_revoked side) (revokes_end rs all free i h) ∙ side_none side
+pub side-listed : (rs : Listed) → length rs.list ≡ 48 → length rs.excused ≡ 48 → (side : ℕ)
+    → list_any (λ (b : ℕ). eqb (b / 4 % 2) side) (take (min rs.count 48) rs.list) ≡ side_revoked side (revokes_in rs)
+unfolding revokes_in
+side-listed rs all free side =
+    let many : take (min rs.count 48) rs.list ≡ take rs.count rs.list = rw (sym all) (take-most rs.count rs.list) in
+    let as_long : length (take rs.count rs.list) ≡ length (take rs.count rs.excused)
+    = omega (arith, length-take rs.count rs.list, length-take rs.count rs.excused) in
+    ap (list_any (λ (b : ℕ). eqb (b / 4 % 2) side)) many ∙ side_any side (take rs.count rs.list) (take rs.count rs.excused) as_long
 
 module _ (ts : Tricks) (all : length ts.answers ≡ 13) where
   pub won_at : (side i : ℕ) → i < min ts.count 13

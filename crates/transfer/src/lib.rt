@@ -2,6 +2,7 @@
 #![tactic(auto)]
 
 ghost use Rattle.std.specs.Prelude.{◌≡◌, List, ℕ, ◌<◌, ◌-◌, min, get_or, drop};
+ghost use Rattle.std.specs.Option.{unwrap_or};
 ghost use Rattle.laws.specs.Cards.{no_seat, side_of};
 ghost use Rattle.laws.specs.Law44.{tricks_won};
 ghost use Rattle.laws.specs.Law64.{repeated, entitlement, won_from, side_revoked, both_revoked, tricks_after};
@@ -19,48 +20,24 @@ ghost use Rattle.transfer.specs.Inputs.{
 use play::Tricks;
 use position::Listed;
 
-// What stands for the winner of a trick that is not complete: no seat.
-const NOBODY: u8 = 4;
-
-fn at_most(n: u16, most: u16) -> u16
-    ensures { result ≡ min n most }
-{
-    if n < most { n } else { most }
-}
-
-// One less, down to 0.
-fn one_less(trick: u8) -> u8
-    ensures { result ≡ trick - 1 }
-{
-    if trick == 0 { 0 } else { trick - 1 }
-}
-
 // Whether the seat of revoke i has revoked in the same suit before.
 fn is_repeat(list: [u8; 48], i: usize) -> bool
     requires { i < 48 }
     ensures { (free : List ℕ) (f : ℕ) → result ≡ repeated (earlier i list free) (counted_of (get_or list i 0) f) }
 {
     let mine = list[i] % 16;
-    let mut j = i;
-    while 0 < j {
-        j -= 1;
-        if list[j] % 16 == mine {
-            return true;
-        }
-    }
-    false
+    list[..i].iter().any(|byte| *byte % 16 == mine)
 }
 
-// The winner of a trick; nobody where it is not complete.
-fn winner_of(ts: Tricks, trick: u8) -> u8
-    ensures { result ≡ get_or (winners_in ts) (trick - 1) no_seat }
+// The winner of a trick, where it is complete.
+fn winner_of(ts: Tricks, trick: u8) -> Option<u8>
+    ensures { unwrap_or result no_seat ≡ get_or (winners_in ts) (trick - 1) no_seat }
 {
-    let at = one_less(trick) as usize;
-    if at < at_most(ts.count as u16, 13) as usize {
-        let won = ts.answers[at];
-        return won.seat;
+    let at = trick.saturating_sub(1) as usize;
+    if at < (ts.count as usize).min(13) {
+        return Some(ts.answers[at].seat);
     }
-    NOBODY
+    None
 }
 
 // The tricks that revoke i entitles the other side to.
@@ -83,55 +60,44 @@ fn entitled(rs: Listed, ts: Tricks, dummy: u8, i: usize) -> u16
     if rs.excused[i] == 1 {
         return 0;
     }
-    if winner_of(ts, byte / 16) == seat {
-        return 2;
-    }
-    1
+    let Some(winner) = winner_of(ts, byte / 16) else {
+        return 1;
+    };
+    if winner == seat { 2 } else { 1 }
 }
 
 // The complete tricks that a side won from a trick on.
 fn won_from(ts: Tricks, side: u8, trick: u8) -> u16
     ensures { result ≡ tricks_won side (drop (trick - 1) (winners_in ts)) }
 {
-    let end = at_most(ts.count as u16, 13) as usize;
-    let mut i = one_less(trick) as usize;
+    let first = trick.saturating_sub(1) as usize;
     let mut n: u16 = 0;
-    while i < end {
-        let won = ts.answers[i];
-        if won.seat % 2 == side {
+    // By places: for a slice it would have to be asked first whether the trick lies behind the last.
+    for i in first..(ts.count as usize).min(13) {
+        if ts.answers[i].seat % 2 == side {
             n += 1;
         }
-        i += 1;
     }
     n
 }
 
 // The tricks that a side gets by the claim: declarer's side those claimed, the defenders the others.
+#[tactic(auto, unfolding(crate::specs::Inputs::claimed_by, laws::specs::Law68::claimed_tricks))]
 fn claimed_by(declarer: u8, claim: u8, left: u8, side: u8) -> u16
     ensures { result ≡ claimed_by declarer claim left side }
 {
     if side == declarer % 2 {
         return claim as u16;
     }
-    if left < claim {
-        return 0;
-    }
-    (left - claim) as u16
+    left.saturating_sub(claim) as u16
 }
 
 // Whether some revoke is by the side.
 pub fn side_revoked(rs: Listed, side: u8) -> bool
     ensures { result ≡ side_revoked side (revokes_in rs) }
 {
-    let end = at_most(rs.count as u16, 48) as usize;
-    let mut i: usize = 0;
-    while i < end {
-        if rs.list[i] / 4 % 2 == side {
-            return true;
-        }
-        i += 1;
-    }
-    false
+    let count = (rs.count as usize).min(48);
+    rs.list[..count].iter().any(|byte| *byte / 4 % 2 == side)
 }
 
 // The tricks that a side won from the trick of revoke byte on, claimed ones included.
@@ -147,25 +113,20 @@ fn total(rs: Listed, ts: Tricks, declarer: u8, claim: u8, left: u8) -> u16
     ensures { result ≡ total_from 0 rs ts declarer claim left }
 {
     let dummy = (declarer % 4 + 2) % 4;
-    let mut i = at_most(rs.count as u16, 48) as usize;
     let mut sum: u16 = 0;
-    while 0 < i {
-        i -= 1;
+    for i in (0..(rs.count as usize).min(48)).rev() {
         let due = entitled(rs, ts, dummy, i);
-        let byte = rs.list[i];
-        sum = at_most(sum + due, available(ts, declarer, claim, left, byte));
+        sum = (sum + due).min(available(ts, declarer, claim, left, rs.list[i]));
     }
     sum
 }
 
 // Whether both sides have revoked.
+#[tactic(auto, unfolding(laws::specs::Law64::both_revoked))]
 fn both_revoked(rs: Listed) -> bool
     ensures { result ≡ both_revoked (revokes_in rs) }
 {
-    if !side_revoked(rs, 0) {
-        return false;
-    }
-    side_revoked(rs, 1)
+    side_revoked(rs, 0) && side_revoked(rs, 1)
 }
 
 // The tricks that change sides, where declarer's side claimed so many of the tricks left; without a claim both numbers are 0.
@@ -179,14 +140,12 @@ pub fn transferred(rs: Listed, ts: Tricks, declarer: u8, claim: u8, left: u8) ->
 }
 
 // Declarer's tricks after the transfer.
+#[tactic(auto, unfolding(laws::specs::Law64::tricks_after))]
 pub fn tricks_after(rs: Listed, declarer: u8, won: u16, moved: u16) -> u32
     ensures { result ≡ tricks_after declarer (revokes_in rs) won moved }
 {
     if side_revoked(rs, declarer % 2) {
-        if won < moved {
-            return 0;
-        }
-        return (won - moved) as u32;
+        return won.saturating_sub(moved) as u32;
     }
     won as u32 + moved as u32
 }

@@ -9,24 +9,23 @@ ghost use Rattle.tree_print.specs.Printing.{fed_of};
 use std::io;
 use std::io::Write;
 use tally::Tally;
-use text::Outcome;
-use tree_run::{Reply, Run};
+use tree_run::{Fed, Run};
 use tree_stack::Said;
 
 // Writes what a call on a line answers.
 fn say<W: Write>(out: &mut W, said: Said, line: u64) -> io::Result<()> {
     let mut text = [0u8; 34];
     match answer_text::write_said(said, line, &mut text) {
-        Outcome::Written(n) => out.write_all(&text[..n]),
-        Outcome::TooShort => Ok(()),
+        Some(n) => out.write_all(&text[..n]),
+        None => Ok(()),
     }
 }
 
 // Writes what a byte brought.
-fn report<W: Write>(out: &mut W, reply: Reply, line: u64) -> io::Result<()> {
-    match reply {
-        Reply::Nothing => Ok(()),
-        Reply::Answer(said) => say(out, said, line),
+fn report<W: Write>(out: &mut W, fed: Fed) -> io::Result<()> {
+    match fed.reply {
+        Some(said) => say(out, said, fed.run.line.number),
+        None => Ok(()),
     }
 }
 
@@ -34,8 +33,8 @@ fn report<W: Write>(out: &mut W, reply: Reply, line: u64) -> io::Result<()> {
 fn show<W: Write>(out: &mut W, t: Tally) -> io::Result<()> {
     let mut text = [0u8; 1408];
     match answer_text::write_tally(t, &mut text) {
-        Outcome::Written(n) => out.write_all(&text[..n]),
-        Outcome::TooShort => Ok(()),
+        Some(n) => out.write_all(&text[..n]),
+        None => Ok(()),
     }
 }
 
@@ -44,15 +43,10 @@ pub fn feed<W: Write>(out: &mut W, run: Run, bytes: &[u8]) -> io::Result<Run>
     ensures { IfOk result (λ r. r ≡ fed_of run bytes.now) }
 {
     let mut r = run;
-    let mut i: usize = 0;
-    while i < bytes.len() {
-        let fed = tree_run::take(r, bytes[i]);
-        let next = fed.run;
-        let reply = fed.reply;
-        let line = next.line;
-        report(out, reply, line.number)?;
-        r = next;
-        i += 1;
+    for b in bytes {
+        let fed = tree_run::take(r, *b);
+        report(out, fed)?;
+        r = fed.run;
     }
     Ok(r)
 }
@@ -62,14 +56,13 @@ pub fn finish<W: Write>(out: &mut W, run: Run) -> io::Result<Run>
     ensures { IfOk result (λ r. r ≡ (finished_of run).run) }
 {
     let fed = tree_run::finish(run);
+    report(out, fed)?;
     let last = fed.run;
-    let reply = fed.reply;
-    let line = last.line;
-    report(out, reply, line.number)?;
     if last.over {
         return Ok(last);
     }
-    let s = last.stack;
-    show(out, tree_run::top(s))?;
+    if let Some(t) = tree_run::top(last.stack) {
+        show(out, t)?;
+    }
     Ok(last)
 }

@@ -1,16 +1,14 @@
 -- A run of a script, byte by byte: what it leaves, and what each byte brings. Assumes nothing.
-use Rattle.std.specs.Prelude.{ℕ, ◌-◌, Bool, true, false, eqb, replicate, if◌then◌else◌}
+use Rattle.std.specs.Prelude.{ℕ, ◌-◌, Bool, true, false, eqb, replicate, Option, None, Some, if◌then◌else◌}
 use Rattle.laws.specs.Sheet.{newline}
 use Rattle.script_line.specs.declared.Line.{Line}
 use Rattle.script_line.specs.Lines.{first_line, with_byte, next_line, too_long, text_of}
 use Rattle.tally.specs.declared.Tally.{Tally}
 use Rattle.tally.specs.Tallies.{no_tally}
 use Rattle.tree_script.specs.declared.Call.{Call}
-use Rattle.tree_script.specs.declared.Call.TheVariants.{Unreadable}
 use Rattle.tree_stack.specs.declared.Said.{Said}
 use Rattle.tree_stack.specs.declared.Said.TheVariants.{Done, Refused, Points, Played, Awarded, Alone, Stopped}
 use Rattle.tree_run.specs.declared.Run.{Run}
-use Rattle.tree_run.specs.declared.Reply.TheVariants.{Nothing, Answer}
 use Rattle.tree_run.specs.declared.Fed.{Fed}
 use Rattle.tree_script.specs.Calls.{call_on}
 use Rattle.tree_stack.specs.declared.Stack.{Stack}
@@ -23,20 +21,20 @@ start_of = record { stack = record { tallies = replicate 16 no_tally; used = 0 }
 -- an answer ends the run
 abbrev pub is_stopped : Said → Bool
 is_stopped Done = false
-is_stopped (Refused n place) = false
+is_stopped (Refused e) = false
 is_stopped (Points ns ew) = false
 is_stopped (Played bits) = false
 is_stopped (Awarded bits) = false
 is_stopped Alone = false
 is_stopped Stopped = true
 
--- the call on the line so far
-unfoldable pub call_in : Line → Call
-call_in l = if too_long l then Unreadable else call_on (text_of l)
+-- the call on the line so far, where one can be read
+unfoldable pub call_in : Line → Option Call
+call_in l = if too_long l then None else call_on (text_of l)
 
 -- nothing is answered
 abbrev pub silently : Run → Fed
-silently r = record { run = r; reply = Nothing }
+silently r = record { run = r; reply = None }
 
 -- the line is whole: its call is made on the stack, and answers
 unfoldable pub line_done : Run → Fed
@@ -48,7 +46,7 @@ line_done r =
             line = next_line r.line;
             over = is_stopped (step_of r.stack (call_in r.line)).said;
           };
-      reply = Answer (step_of r.stack (call_in r.line)).said;
+      reply = Some (step_of r.stack (call_in r.line)).said;
     }
 
 -- a byte more on the line
@@ -63,6 +61,6 @@ taken_byte r b = if r.over then silently r else if eqb b newline then line_done 
 unfoldable pub finished_of : Run → Fed
 finished_of r = if r.over then silently r else if eqb r.line.length 0 then silently r else line_done r
 
--- the top tally of a stack; an all-zero one where it has none
-unfoldable pub top_of : Stack → Tally
-top_of s = if lacks s 1 then no_tally else tally_at s (s.used - 1)
+-- the top tally of a stack, where it has one
+unfoldable pub top_of : Stack → Option Tally
+top_of s = if lacks s 1 then None else Some (tally_at s (s.used - 1))

@@ -1,8 +1,7 @@
 // A run of a script: bytes are taken one by one, and each line is a call, whose answer is handed back.
 #![tactic(auto)]
 
-ghost use Rattle.std.specs.Prelude.{◌≡◌};
-ghost use Rattle.tally.specs.Tallies.{no_tally};
+ghost use Rattle.std.specs.Prelude.{◌≡◌, None};
 ghost use Rattle.tree_run.specs.Runs.{start_of, is_stopped, call_in, line_done, taken_byte, finished_of, top_of};
 
 use script_line::{Line, first_line, next_line, with_byte};
@@ -10,7 +9,8 @@ use tally::Tally;
 use tree_script::{Call, read_call};
 use tree_stack::{Said, Stack, make_call};
 
-// A run under way: the stack, the line so far, and whether it is over.
+// A run under way: the stack, the line so far, and whether it is over. `team_run` has its like: one type for both, with a trait for what a whole line does and
+// a ghost member for its meaning, is no plainer than the two short functions `take` and `finish`.
 #[derive(Clone, Copy)]
 pub struct Run {
     pub stack: Stack,
@@ -18,42 +18,24 @@ pub struct Run {
     pub over: bool,
 }
 
-// What a byte of the script brings: nothing, or what the call answers whose line it ends.
-#[derive(Clone, Copy)]
-pub enum Reply {
-    Nothing,
-    Answer(Said),
-}
-
-// A run after a byte, or at its end, and what that brought.
+// A run after a byte, or at its end, and what the call answered whose line that ended.
 #[derive(Clone, Copy)]
 pub struct Fed {
     pub run: Run,
-    pub reply: Reply,
-}
-
-// An all-zero tally, as beside a refusal.
-fn no_tally() -> Tally
-    ensures { result ≡ no_tally }
-{
-    let none = tally::fresh(0);
-    none.tally
+    pub reply: Option<Said>,
 }
 
 // A run before its first byte.
 pub fn start() -> Run
     ensures { result ≡ start_of }
 {
-    let t = no_tally();
-    let tallies = [t; 16];
-    let stack = Stack {
-        tallies: tallies,
-        used: 0,
-    };
-    let line = first_line();
+    let none = tally::empty(0, [0u8; 52]);
     Run {
-        stack: stack,
-        line: line,
+        stack: Stack {
+            tallies: [none; 16],
+            used: 0,
+        },
+        line: first_line(),
         over: false,
     }
 }
@@ -64,7 +46,7 @@ fn is_stopped(said: Said) -> bool
 {
     match said {
         Said::Done => false,
-        Said::Refused(_, _) => false,
+        Said::Refused(_) => false,
         Said::Points(_, _) => false,
         Said::Played(_) => false,
         Said::Awarded(_) => false,
@@ -73,47 +55,37 @@ fn is_stopped(said: Said) -> bool
     }
 }
 
-// The call on the line so far.
-fn call_in(line: Line) -> Call
+// The call on the line so far, where one can be read.
+fn call_in(line: Line) -> Option<Call>
     ensures { result ≡ call_in line }
 {
-    let n = line.length;
-    if 20 < n {
-        return Call::Unreadable;
+    if 20 < line.length {
+        return None;
     }
-    let bytes = line.bytes;
-    read_call(&bytes[..n])
+    read_call(&line.bytes[..line.length])
 }
 
 // The line is whole: its call is made.
 fn line_done(run: Run) -> Fed
     ensures { result ≡ line_done run }
 {
-    let s = run.stack;
-    let line = run.line;
-    let made = make_call(s, call_in(line));
+    let made = make_call(run.stack, call_in(run.line));
     let said = made.said;
-    let stack = made.stack;
-    let empty = next_line(line);
-    let next = Run {
-        stack: stack,
-        line: empty,
-        over: is_stopped(said),
-    };
     Fed {
-        run: next,
-        reply: Reply::Answer(said),
+        run: Run {
+            stack: made.stack,
+            line: next_line(run.line),
+            over: is_stopped(said),
+        },
+        reply: Some(said),
     }
 }
 
 // Nothing is answered.
 fn silent(run: Run) -> Fed
-    ensures { result ≡ record { run = run; reply = Reply.Nothing } }
+    ensures { result ≡ record { run = run; reply = None } }
 {
-    Fed {
-        run: run,
-        reply: Reply::Nothing,
-    }
+    Fed { run, reply: None }
 }
 
 // One byte more of the script.
@@ -123,15 +95,12 @@ pub fn take(run: Run, b: u8) -> Fed
     if run.over {
         return silent(run);
     }
-    if b == 10 {
+    if b == b'\n' {
         return line_done(run);
     }
-    let s = run.stack;
-    let line = run.line;
-    let longer = with_byte(line, b);
     silent(Run {
-        stack: s,
-        line: longer,
+        stack: run.stack,
+        line: with_byte(run.line, b),
         over: false,
     })
 }
@@ -140,26 +109,22 @@ pub fn take(run: Run, b: u8) -> Fed
 pub fn finish(run: Run) -> Fed
     ensures { result ≡ finished_of run }
 {
-    if run.over {
-        return silent(run);
-    }
-    let line = run.line;
-    if line.length == 0 {
+    if run.over || run.line.length == 0 {
         return silent(run);
     }
     line_done(run)
 }
 
-// The top tally of a stack; an all-zero one where it has none.
-pub fn top(s: Stack) -> Tally
+// The top tally of a stack, where it has one.
+pub fn top(s: Stack) -> Option<Tally>
     ensures { result ≡ top_of s }
 {
     let n = s.used;
     if n < 1 {
-        return no_tally();
+        return None;
     }
     if 16 < n {
-        return no_tally();
+        return None;
     }
-    s.tallies[n - 1]
+    Some(s.tallies[n - 1])
 }

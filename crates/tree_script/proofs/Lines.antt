@@ -11,8 +11,8 @@ use lib.ListN.{length, get_or, take, drop, drop_of_length-le}
 use lib.Seq.{drop-cons}
 use Rattle.laws.proofs.Tests.{and_right, not_both}
 use Rattle.decimal.specs.Scores.{score_on}
-use Rattle.tree_script.specs.declared.Given.TheVariants.{Nothing}
-use Rattle.tree_script.specs.declared.Call.TheVariants.{Add, Merge, Matchpoints, Unreadable}
+use Rattle.std.specs.Prelude.{None, Some}
+use Rattle.tree_script.specs.declared.Call.TheVariants.{Add, Merge, Matchpoints}
 use Rattle.tree_script.specs.Calls.{is_prefix, fresh_on, of_deal, names_deal, given_on, with_given, fresh_word, add_word, matchpoints_word, merge_word, tally_call_on}
 
 -- ---- a word at the start
@@ -56,15 +56,15 @@ module _ (s : List ℕ) where
       to-matchpoints p = rw (no-fresh, no_add, p)
 
       module _ (no-matchpoints : is_prefix matchpoints_word s ≡ false) where
-        pub other_length : (length s ≡ 5 → ⊥) → Unreadable ≡ tally_call_on s
+        pub other_length : (length s ≡ 5 → ⊥) → None ≡ tally_call_on s
         unfolding tally_call_on
         other_length h = rw (no-fresh, no_add, no-matchpoints, ne_eqb (length s) 5 h)
 
-        pub to-merge : length s ≡ 5 → is_prefix merge_word s ≡ true → Merge ≡ tally_call_on s
+        pub to-merge : length s ≡ 5 → is_prefix merge_word s ≡ true → Some Merge ≡ tally_call_on s
         unfolding tally_call_on
         to-merge h p = rw (no-fresh, no_add, no-matchpoints, eq-eqb (length s) 5 h, p)
 
-        pub to_nothing : length s ≡ 5 → is_prefix merge_word s ≡ false → Unreadable ≡ tally_call_on s
+        pub to_nothing : length s ≡ 5 → is_prefix merge_word s ≡ false → None ≡ tally_call_on s
         unfolding tally_call_on
         to_nothing h p = rw (no-fresh, no_add, no-matchpoints, eq-eqb (length s) 5 h, p)
 
@@ -83,12 +83,12 @@ module _ (s : List ℕ) where
     no_space h = rw (le-leb 2 (length s) two, ne_eqb (get_or s (length s - 2) 0) 32 h)
 
     module _ (space : get_or s (length s - 2) 0 ≡ 32) where
-      pub below_0 : digit < 48 → Nothing ≡ given_on s
+      pub below_0 : digit < 48 → None ≡ given_on s
       unfolding given_on names_deal
       below_0 h = rw (le-leb 2 (length s) two, eq-eqb (get_or s (length s - 2) 0) 32 space, lt-leb 48 digit h)
 
       module _ (from : 48 ≤ digit) where
-        pub above_5 : 53 < digit → Nothing ≡ given_on s
+        pub above_5 : 53 < digit → None ≡ given_on s
         unfolding given_on names_deal
         above_5 h = rw (le-leb 2 (length s) two, eq-eqb (get_or s (length s - 2) 0) 32 space, le-leb 48 digit from, lt-leb digit 53 h)
 

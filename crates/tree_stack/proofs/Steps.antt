@@ -4,10 +4,10 @@ use mathlib.Core.Path.{◌≡◌, refl}
 use mathlib.Core.Bool.{Bool, true, false, ◌||◌}
 use borrow.Author.Tests.{lt-ltb, le-ltb}
 use lib.Dec.{ltb}
-use lib.IntN.{ℤ}
 use Rattle.percentages.specs.Cells.{cell_of_tally}
 use Rattle.tally.specs.Tallies.{add_of, merge_of}
 use Rattle.tally.specs.Points.{matchpoints_of}
+use Rattle.tree_script.specs.declared.Given.{Given}
 use Rattle.tree_stack.specs.declared.Stack.{Stack}
 use Rattle.tree_stack.specs.Stacks.{tally_at, stopped, landed, lacks, lowered, said_of, result_of, add_step, merge_step, matchpoints_step, said_cell, cell_step}
 
@@ -25,42 +25,42 @@ many s n h = rw (lt-ltb 16 s.used h) (or_true (ltb s.used n))
 pub enough : (s : Stack) (n : ℕ) → n ≤ s.used → s.used ≤ 16 → lacks s n ≡ false
 enough s n h k = rw (le-ltb s.used n h, le-ltb 16 s.used k)
 
-module _ (s : Stack) (z : ℤ) (d : ℕ) where
-  pub add-short : s.used < 1 → stopped s ≡ add_step s z d
+module _ (s : Stack) (g : Given) where
+  pub add-short : s.used < 1 → stopped s ≡ add_step s g
   unfolding add_step
   add-short h = rw (few s 1 h)
 
-  pub add-long : 16 < s.used → stopped s ≡ add_step s z d
+  pub add-long : 16 < s.used → stopped s ≡ add_step s g
   unfolding add_step
   add-long h = rw (many s 1 h)
 
-  pub add_lands : 1 ≤ s.used → s.used ≤ 16 → landed s (s.used - 1) s.used (add_of (tally_at s (s.used - 1)) (result_of z d)) ≡ add_step s z d
+  pub add_lands : 1 ≤ s.used → s.used ≤ 16 → landed s (s.used - 1) s.used (add_of (tally_at s (s.used - 1)) (result_of g)) ≡ add_step s g
   unfolding add_step
   add_lands h k = rw (enough s 1 h k)
 
-  pub points-short : s.used < 1 → stopped s ≡ matchpoints_step s z d
+  pub points-short : s.used < 1 → stopped s ≡ matchpoints_step s g
   unfolding matchpoints_step
   points-short h = rw (few s 1 h)
 
-  pub points-long : 16 < s.used → stopped s ≡ matchpoints_step s z d
+  pub points-long : 16 < s.used → stopped s ≡ matchpoints_step s g
   unfolding matchpoints_step
   points-long h = rw (many s 1 h)
 
   pub points-said : 1 ≤ s.used → s.used ≤ 16
-      → record { stack = s; said = said_of (matchpoints_of (tally_at s (s.used - 1)) (result_of z d)) } ≡ matchpoints_step s z d
+      → record { stack = s; said = said_of (matchpoints_of (tally_at s (s.used - 1)) (result_of g)) } ≡ matchpoints_step s g
   unfolding matchpoints_step
   points-said h k = rw (enough s 1 h k)
 
-  pub cell-short : s.used < 1 → stopped s ≡ cell_step s z d
+  pub cell-short : s.used < 1 → stopped s ≡ cell_step s g
   unfolding cell_step
   cell-short h = rw (few s 1 h)
 
-  pub cell-long : 16 < s.used → stopped s ≡ cell_step s z d
+  pub cell-long : 16 < s.used → stopped s ≡ cell_step s g
   unfolding cell_step
   cell-long h = rw (many s 1 h)
 
   pub cell-said : 1 ≤ s.used → s.used ≤ 16
-      → record { stack = s; said = said_cell (cell_of_tally (tally_at s (s.used - 1)) (result_of z d)) } ≡ cell_step s z d
+      → record { stack = s; said = said_cell (cell_of_tally (tally_at s (s.used - 1)) (result_of g)) } ≡ cell_step s g
   unfolding cell_step
   cell-said h k = rw (enough s 1 h k)
 

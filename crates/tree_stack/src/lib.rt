@@ -3,31 +3,32 @@
 
 ghost use Rattle.std.specs.Prelude.{◌≡◌, ◌<◌, set};
 ghost use Rattle.laws.specs.Refusals.{given};
+ghost use Rattle.tally.specs.Tallies.{tallied_of};
 ghost use Rattle.percentages.specs.Cells.{entered, cell_answer, Numbered};
 ghost use Rattle.matchpoints.specs.Points.{points_answer};
 ghost use Rattle.tree_stack.specs.Deals.{suits, deal_numbered};
 ghost use Rattle.tree_stack.specs.Stacks.{stopped, landed, said_of, fresh_step, add_step, merge_step, matchpoints_step, said_cell, cell_step, award_step, step_of};
 
 use deal::SUITS;
-use laws::ACCEPTED;
-use matchpoints::MatchpointAnswer;
-use percentages::{Cell, CellAnswer};
-use tally::{Tallied, Tally};
-use tree_script::Call;
+use laws::Refused;
+use matchpoints::BothSides;
+use percentages::Cell;
+use tally::Tally;
+use tree_script::{Call, Given};
 
-// The first `used` of 16 places hold tallies, the top last.
-#[derive(Clone, Copy)]
+// The first `used` of 16 places hold tallies, the top last: a rule of the project (no heap, fixed memory).
+#[derive(Clone, Copy, Debug, PartialEq, Eq)]
 pub struct Stack {
     pub tallies: [Tally; 16],
     pub used: usize,
 }
 
-// What a call answers: that it is done, a refusal and its place, the matchpoints of both sides, a cell with the 64 bits of its float; or that the run ends
+// What a call answers: that it is done, a refusal with its place, the matchpoints of both sides, a cell with the 64 bits of its float; or that the run ends
 // there.
-#[derive(Clone, Copy)]
+#[derive(Clone, Copy, Debug, PartialEq, Eq)]
 pub enum Said {
     Done,
-    Refused(u8, u8),
+    Refused(Refused),
     Points(u32, u32),
     Played(u64),
     Awarded(u64),
@@ -36,7 +37,7 @@ pub enum Said {
 }
 
 // The stack after a call, and what the call answers.
-#[derive(Clone, Copy)]
+#[derive(Clone, Copy, Debug, PartialEq, Eq)]
 pub struct Step {
     pub stack: Stack,
     pub said: Said,
@@ -57,22 +58,14 @@ fn with_two(card: usize, holder: u8, card2: usize, holder2: u8) -> [u8; 52]
 fn holders_of(deal: u8) -> [u8; 52]
     ensures { result ≡ deal_numbered deal }
 {
-    if deal == 1 {
-        return with_two(0, 1, 13, 0);
+    match deal {
+        1 => with_two(0, 1, 13, 0),
+        2 => with_two(26, 3, 39, 2),
+        3 => with_two(12, 3, 51, 0),
+        4 => with_two(51, 4, 51, 4),
+        5 => with_two(13, 2, 13, 2),
+        _ => SUITS,
     }
-    if deal == 2 {
-        return with_two(26, 3, 39, 2);
-    }
-    if deal == 3 {
-        return with_two(12, 3, 51, 0);
-    }
-    if deal == 4 {
-        return with_two(51, 4, 51, 4);
-    }
-    if deal == 5 {
-        return with_two(13, 2, 13, 2);
-    }
-    SUITS
 }
 
 // The run ends with the stack as it is.
@@ -86,25 +79,24 @@ fn stop(s: Stack) -> Step
 }
 
 // The tally that a call made, at a place, with so many used; refused, the stack as it is.
-fn land(s: Stack, at: usize, used: usize, made: Tallied) -> Step
+fn land(s: Stack, at: usize, used: usize, made: Result<Tally, Refused>) -> Step
     requires { at < 16 }
-    ensures { result ≡ landed s at used made }
+    ensures { result ≡ landed s at used (tallied_of made) }
 {
-    let refusal = made.refusal;
-    let place = made.place;
-    if refusal != ACCEPTED {
-        return Step {
+    match made {
+        Ok(t) => {
+            let mut next = s;
+            next.tallies[at] = t;
+            next.used = used;
+            Step {
+                stack: next,
+                said: Said::Done,
+            }
+        }
+        Err(refused) => Step {
             stack: s,
-            said: Said::Refused(refusal, place),
-        };
-    }
-    let t = made.tally;
-    let mut next = s;
-    next.tallies[at] = t;
-    next.used = used;
-    Step {
-        stack: next,
-        said: Said::Done,
+            said: Said::Refused(refused),
+        },
     }
 }
 
@@ -120,8 +112,8 @@ fn fresh_step(s: Stack, board: u8) -> Step
 }
 
 // A result added to the top tally.
-fn add_step(s: Stack, score: i16, deal: u8) -> Step
-    ensures { result ≡ add_step s score deal }
+fn add_step(s: Stack, given: Given) -> Step
+    ensures { result ≡ add_step s given }
 {
     let n = s.used;
     if n < 1 {
@@ -131,8 +123,8 @@ fn add_step(s: Stack, score: i16, deal: u8) -> Step
         return stop(s);
     }
     let top = s.tallies[n - 1];
-    let holders = holders_of(deal);
-    land(s, n - 1, n, merging::add(top, score, &holders))
+    let holders = holders_of(given.deal);
+    land(s, n - 1, n, merging::add(top, given.score, &holders))
 }
 
 // The two topmost tallies merged, the lower one first; refused, the lower one is left.
@@ -154,18 +146,18 @@ fn merge_step(s: Stack) -> Step
 }
 
 // An answer for matchpoints.
-fn said_of(answer: MatchpointAnswer) -> Said
+fn said_of(answer: Result<BothSides, Refused>) -> Said
     ensures { result ≡ said_of (points_answer answer) }
 {
     match answer {
-        MatchpointAnswer::Refused(n, place) => Said::Refused(n, place),
-        MatchpointAnswer::Points { ns, ew } => Said::Points(ns.0, ew.0),
+        Ok(points) => Said::Points(points.ns.0, points.ew.0),
+        Err(refused) => Said::Refused(refused),
     }
 }
 
 // The matchpoints of a result in the top tally.
-fn matchpoints_step(s: Stack, score: i16, deal: u8) -> Step
-    ensures { result ≡ matchpoints_step s score deal }
+fn matchpoints_step(s: Stack, given: Given) -> Step
+    ensures { result ≡ matchpoints_step s given }
 {
     let n = s.used;
     if n < 1 {
@@ -175,12 +167,9 @@ fn matchpoints_step(s: Stack, score: i16, deal: u8) -> Step
         return stop(s);
     }
     let top = s.tallies[n - 1];
-    let holders = holders_of(deal);
-    let said = said_of(matchpoints::matchpoints(top, score, &holders));
-    Step {
-        stack: s,
-        said: said,
-    }
+    let holders = holders_of(given.deal);
+    let said = said_of(matchpoints::matchpoints(top, given.score, &holders));
+    Step { stack: s, said }
 }
 
 // A cell, as it is said.
@@ -196,19 +185,19 @@ fn said_entered(cell: Cell) -> Said
 }
 
 // An answer for a cell, as it is said.
-fn said_cell(answer: CellAnswer) -> Said
+fn said_cell(answer: Result<Cell, Refused>) -> Said
     requires { Numbered (cell_answer answer) }
     ensures { result ≡ said_cell (cell_answer answer) }
 {
     match answer {
-        CellAnswer::Refused(n, place) => Said::Refused(n, place),
-        CellAnswer::Is(cell) => said_entered(cell),
+        Ok(cell) => said_entered(cell),
+        Err(refused) => Said::Refused(refused),
     }
 }
 
 // The cell of a result in the top tally.
-fn cell_step(s: Stack, score: i16, deal: u8) -> Step
-    ensures { result ≡ cell_step s score deal }
+fn cell_step(s: Stack, given: Given) -> Step
+    ensures { result ≡ cell_step s given }
 {
     let n = s.used;
     if n < 1 {
@@ -218,12 +207,9 @@ fn cell_step(s: Stack, score: i16, deal: u8) -> Step
         return stop(s);
     }
     let top = s.tallies[n - 1];
-    let holders = holders_of(deal);
-    let said = said_cell(percentages::cell_of(top, score, &holders));
-    Step {
-        stack: s,
-        said: said,
-    }
+    let holders = holders_of(given.deal);
+    let said = said_cell(percentages::cell_of(top, given.score, &holders));
+    Step { stack: s, said }
 }
 
 // An award, which no tally takes.
@@ -231,23 +217,22 @@ fn award_step(s: Stack, percent: u32) -> Step
     ensures { result ≡ award_step s percent }
 {
     let said = said_cell(percentages::award(percent));
-    Step {
-        stack: s,
-        said: said,
-    }
+    Step { stack: s, said }
 }
 
-// A call on a stack. A line that cannot be read, and a stack that is too short or too full, end the run.
-pub fn make_call(s: Stack, call: Call) -> Step
+// A call on a stack, or none where a line could not be read. That, and a stack that is too short or too full, end the run.
+pub fn make_call(s: Stack, call: Option<Call>) -> Step
     ensures { result ≡ step_of s call }
 {
-    match call {
+    let Some(made) = call else {
+        return stop(s);
+    };
+    match made {
         Call::Fresh(board) => fresh_step(s, board),
-        Call::Add(score, deal) => add_step(s, score, deal),
+        Call::Add(given) => add_step(s, given),
         Call::Merge => merge_step(s),
-        Call::Matchpoints(score, deal) => matchpoints_step(s, score, deal),
-        Call::Cell(score, deal) => cell_step(s, score, deal),
+        Call::Matchpoints(given) => matchpoints_step(s, given),
+        Call::Cell(given) => cell_step(s, given),
         Call::Award(percent) => award_step(s, percent),
-        Call::Unreadable => stop(s),
     }
 }

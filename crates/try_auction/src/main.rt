@@ -5,6 +5,7 @@
 ghost use Rattle.std.specs.Prelude.{◌≤◌, length};
 
 use auction::Auction;
+use laws::Refused;
 use std::io;
 use std::io::Write;
 
@@ -17,11 +18,11 @@ fn text<W: Write>(out: &mut W, bytes: &[u8]) -> io::Result<()> {
 }
 
 // A refused call: its number and its place.
-fn refused<W: Write>(out: &mut W, why: u8, place: u16) -> io::Result<()> {
+fn refused<W: Write>(out: &mut W, why: Refused) -> io::Result<()> {
     text(out, b"refused ")?;
-    number(out, why as u64)?;
+    number(out, why.refusal.number() as u64)?;
     text(out, b" at ")?;
-    number(out, place as u64)?;
+    number(out, why.place as u64)?;
     text(out, b"\n")
 }
 
@@ -54,15 +55,11 @@ fn show<W: Write>(out: &mut W, dealer: u8, calls: &[u8]) -> io::Result<()>
     requires { length calls.now ≤ 511 }
 {
     let mut a = Auction::new(dealer);
-    let mut i = 0;
-    while i < calls.len() {
-        let code = calls[i];
-        let why = a.refusal(code);
-        if why != 0 {
-            return refused(out, why, auction::place_of(why, i as u16));
+    for i in 0..calls.len() {
+        match a.take(calls[i], i as u16) {
+            Ok(next) => a = next,
+            Err(why) => return refused(out, why),
         }
-        a = a.call(code);
-        i += 1;
     }
     ending(out, a)
 }

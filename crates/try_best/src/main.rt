@@ -3,7 +3,6 @@
 
 use std::io::Write;
 use std::{fs, io};
-use text::Outcome;
 
 // The answer for a record.
 fn show<W: Write>(out: &mut W, name: &[u8], record: &[u8]) -> io::Result<()> {
@@ -11,8 +10,8 @@ fn show<W: Write>(out: &mut W, name: &[u8], record: &[u8]) -> io::Result<()> {
     out.write_all(b": ")?;
     let mut text = [0u8; 8];
     match best_text::write(record, &mut text) {
-        Outcome::Written(length) => out.write_all(&text[..length]),
-        Outcome::TooShort => Ok(()),
+        Some(length) => out.write_all(&text[..length]),
+        None => Ok(()),
     }
 }
 
@@ -27,8 +26,8 @@ fn file<W: Write>(rt: &HostRuntime, out: &mut W, name: &str) -> io::Result<()> {
 // What the answer for no bytes gives in lent bytes, all `.` before.
 fn lend<W: Write>(out: &mut W, bytes: &mut [u8]) -> io::Result<()> {
     match best_text::write(b"", bytes) {
-        Outcome::Written(_) => out.write_all(b"written:\n"),
-        Outcome::TooShort => out.write_all(b"too short:\n"),
+        Some(_) => out.write_all(b"written:\n"),
+        None => out.write_all(b"too short:\n"),
     }?;
     out.write_all(bytes)?;
     out.write_all(b"\n")

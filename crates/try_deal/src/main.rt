@@ -24,17 +24,15 @@ fn board<W: Write>(out: &mut W, b: u8) -> io::Result<()> {
 // A deal in which each suit is one seat's: clubs North's, diamonds East's, hearts South's, spades West's.
 fn by_suits() -> [u8; 52] {
     let mut holders = [0u8; 52];
-    let mut card: usize = 0;
-    while card < 52 {
+    for card in 0..52 {
         holders[card] = (card / 13) as u8;
-        card += 1;
     }
     holders
 }
 
 fn holdings<W: Write>(out: &mut W, holders: [u8; 52]) -> io::Result<()> {
     let hands = deal::hands(holders);
-    let first = deal::seat_without_thirteen(hands);
+    let first = deal::seat_without_thirteen(hands).unwrap_or(4);
     write!(out, "{first}")?;
     let north = hands[0];
     for suit in 0..5u8 {

@@ -3,7 +3,7 @@
 #![tactic(auto)]
 
 use deal::SUITS;
-use matchpoints::MatchpointAnswer;
+use laws::Refused;
 use std::io;
 use std::io::Write;
 use tally::Tally;
@@ -81,34 +81,17 @@ fn deal_alone() -> Tally {
     t
 }
 
-// The tally beside a refusal.
-fn beside_refusal() -> Tally {
-    let deal = SUITS;
-    let r = merging::add(with_board(0), 100, &deal);
-    let t = r.tally;
-    t
+// The tally that stands beside a refusal where a buffer has one: all zero.
+fn zeros() -> Tally {
+    tally::empty(0, [0u8; 52])
 }
 
-// The refusal of the matchpoints of 420, 0 for none.
-fn points_refusal(t: Tally) -> u8 {
-    let deal = SUITS;
-    match matchpoints::matchpoints(t, 420, &deal) {
-        MatchpointAnswer::Refused(n, _) => n,
-        MatchpointAnswer::Points { ns: _, ew: _ } => 0,
+// The number of a refusal, 0 for none.
+fn refusal_of<T: Copy>(answer: Result<T, Refused>) -> u8 {
+    match answer {
+        Ok(_) => 0,
+        Err(refused) => refused.refusal.number(),
     }
-}
-
-// The refusal of 100 added, 0 for none.
-fn add_refusal(t: Tally) -> u8 {
-    let deal = SUITS;
-    let r = merging::add(t, 100, &deal);
-    r.refusal
-}
-
-// The refusal of a merge, 0 for none.
-fn merge_refusal(a: Tally, b: Tally) -> u8 {
-    let r = merging::merge(a, b);
-    r.refusal
 }
 
 // Writes a space and a number.
@@ -116,21 +99,16 @@ fn number<W: Write>(out: &mut W, n: u8) -> io::Result<()> {
     write!(out, " {n}")
 }
 
-// 1 for yes, 0 for no.
-fn yes(b: bool) -> u8 {
-    if b { 1 } else { 0 }
-}
-
 // Writes a kind of tally, and what each call answers to one of that kind.
 fn line<W: Write>(out: &mut W, kind: &[u8], t: Tally) -> io::Result<()> {
     let good = described();
     out.write_all(kind)?;
-    number(out, yes(tally::well_formed(t)))?;
-    number(out, add_refusal(t))?;
-    number(out, merge_refusal(t, good))?;
-    number(out, merge_refusal(good, t))?;
-    number(out, merge_refusal(t, t))?;
-    number(out, points_refusal(t))?;
+    number(out, u8::from(tally::well_formed(t)))?;
+    number(out, refusal_of(merging::add(t, 100, &SUITS)))?;
+    number(out, refusal_of(merging::merge(t, good)))?;
+    number(out, refusal_of(merging::merge(good, t)))?;
+    number(out, refusal_of(merging::merge(t, t)))?;
+    number(out, refusal_of(matchpoints::matchpoints(t, 420, &SUITS)))?;
     out.write_all(b"\n")
 }
 
@@ -178,7 +156,7 @@ fn main(rt: HostRuntime) -> io::Result<()> {
     line(&mut out, b"board 0:", with_board(0))?;
     line(&mut out, b"board 128:", with_board(128))?;
     line(&mut out, b"board 255:", with_board(255))?;
-    line(&mut out, b"beside a refusal:", beside_refusal())?;
+    line(&mut out, b"beside a refusal:", zeros())?;
     line(&mut out, b"another deal:", with_holders(0, 1, 13, 0))?;
     line(
         &mut out,

@@ -18,37 +18,22 @@ fn filled(top: u16) -> Tally
         scores: [0i16; 128],
         counts: [0u8; 128],
     };
-    let mut score = top;
-    let mut i: usize = 0;
-    while i < 64 {
-        let s = score as i16;
-        t.scores[i] = s;
+    for i in 0..64 {
+        t.scores[i] = (top - 20 * i as u16) as i16;
         t.counts[i] = 1;
-        score -= 20;
-        i += 1;
     }
     t
-}
-
-// 1 for a merge that was accepted.
-fn accepted(refusal: u8) -> usize
-    ensures { result ≤ 1 }
-{
-    if refusal == 0 { 1 } else { 0 }
 }
 
 // How many of n merges are accepted.
 fn merges(a: Tally, b: Tally, n: usize) -> usize {
     let mut other = b;
     let mut sum: usize = 0;
-    let mut k: usize = 0;
-    while k < n {
-        let r = merging::merge(a, other);
-        let t = r.tally;
-        let c = t.counts[127];
-        other.counts[63] = c;
-        sum += accepted(r.refusal);
-        k += 1;
+    for _ in 0..n {
+        if let Ok(t) = merging::merge(a, other) {
+            other.counts[63] = t.counts[127];
+            sum += 1;
+        }
     }
     sum
 }

@@ -3,6 +3,7 @@
 // A card is 13 × suit + rank: clubs from 0, diamonds from 13, hearts from 26, spades from 39, the two first. Seats are 0 North to 3 West.
 #![tactic(auto)]
 
+use laws::Refusal;
 use position::{Listed, Table};
 use std::io;
 use std::io::Write;
@@ -27,24 +28,28 @@ const HOLDERS: [u8; 52] = [
     0, 1, 2, 3, 0, 1, 2, 3, 0, 1, 2, 3, 0, 1, 2, 3, 0, 1, 2, 3,
 ];
 
-// The exposure of a card: its refusal is printed, and it stands where there is none.
-fn expose<W: Write>(out: &mut W, t: Table, card: u8, deliberate: bool) -> io::Result<Table> {
-    let refusal = t.exposure_refusal(card);
-    line(out, refusal)?;
-    if refusal != 0 {
-        return Ok(t);
+// What a code makes of a position: its refusal is printed, 0 for none, and the position stands where it is refused.
+fn stand<W: Write>(out: &mut W, t: Table, taken: Result<Table, Refusal>) -> io::Result<Table> {
+    match taken {
+        Ok(next) => {
+            line(out, 0)?;
+            Ok(next)
+        }
+        Err(refusal) => {
+            line(out, refusal.number())?;
+            Ok(t)
+        }
     }
-    Ok(t.expose(card, deliberate))
 }
 
-// A lead choice, likewise.
+// The exposure of a card.
+fn expose<W: Write>(out: &mut W, t: Table, card: u8, deliberate: bool) -> io::Result<Table> {
+    stand(out, t, t.take_exposure(card, deliberate))
+}
+
+// A lead choice.
 fn choose<W: Write>(out: &mut W, t: Table, kind: u8, suit: u8) -> io::Result<Table> {
-    let refusal = t.choice_refusal(kind, suit);
-    line(out, refusal)?;
-    if refusal != 0 {
-        return Ok(t);
-    }
-    Ok(t.choose(kind, suit))
+    stand(out, t, t.take_choice(kind, suit))
 }
 
 fn trick(t: Table, a: u8, b: u8, c: u8, d: u8) -> Table {

@@ -3,8 +3,6 @@
 // A card is 13 × suit + rank: clubs from 0, diamonds from 13, hearts from 26, spades from 39, the two first. Seats are 0 North to 3 West.
 #![tactic(auto)]
 
-ghost use Rattle.std.specs.Prelude.{◌<◌};
-
 use play::{Play, Tricks};
 use position::{Listed, Table};
 use std::io;
@@ -22,44 +20,33 @@ fn text<W: Write>(out: &mut W, bytes: &[u8]) -> io::Result<()> {
 // East the 3 7 J, 2 6 T A, 5 9 K and 4 8 Q; South the 4 8 Q, 3 7 J, 2 6 T A and 5 9 K; West the 5 9 K, 4 8 Q, 3 7 J and 2 6 T A.
 fn deal() -> [u8; 52] {
     let mut holders = [0u8; 52];
-    let mut card: usize = 0;
-    while card < 52 {
+    for card in 0..52 {
         holders[card] = ((card % 13 + card / 13) % 4) as u8;
-        card += 1;
     }
     holders
 }
 
 fn show_winners<W: Write>(out: &mut W, ts: Tricks) -> io::Result<()> {
     text(out, b"winners")?;
-    let mut i: usize = 0;
-    while i < 13 {
-        if i < ts.count as usize {
-            let won = ts.answers[i];
-            text(out, b" ")?;
-            number(out, won.seat as u64)?;
-            text(out, b",")?;
-            number(out, won.card as u64)?;
-        }
-        i += 1;
+    for won in ts.answers.iter().take(ts.count as usize) {
+        text(out, b" ")?;
+        number(out, won.seat as u64)?;
+        text(out, b",")?;
+        number(out, won.card as u64)?;
     }
     text(out, b"\n")
 }
 
 fn show_revokes<W: Write>(out: &mut W, rs: Listed) -> io::Result<()> {
     text(out, b"revokes")?;
-    let mut i: usize = 0;
-    while i < 48 {
-        if i < rs.count as usize {
-            text(out, b" ")?;
-            let revoke = rs.list[i] as u64;
-            number(out, revoke / 16)?;
-            text(out, b",")?;
-            number(out, revoke / 4 % 4)?;
-            text(out, b",")?;
-            number(out, revoke % 4)?;
-        }
-        i += 1;
+    for byte in rs.list.iter().take(rs.count as usize) {
+        let revoke = *byte as u64;
+        text(out, b" ")?;
+        number(out, revoke / 16)?;
+        text(out, b",")?;
+        number(out, revoke / 4 % 4)?;
+        text(out, b",")?;
+        number(out, revoke % 4)?;
     }
     text(out, b"\n")
 }
@@ -72,12 +59,6 @@ fn show_sides<W: Write>(out: &mut W, ts: Tricks) -> io::Result<()> {
     text(out, b"\n")
 }
 
-fn wide(x: u8) -> u16
-    ensures { result < 256 }
-{
-    x as u16
-}
-
 // South's claim of so many of the tricks left.
 fn show_claim<W: Write>(
     out: &mut W,
@@ -86,7 +67,7 @@ fn show_claim<W: Write>(
     claim: u8,
     left: u8,
 ) -> io::Result<()> {
-    let won = wide(ts.won[0]) + wide(claim);
+    let won = u16::from(ts.won[0]) + u16::from(claim);
     let moved = transfer::transferred(rs, ts, 2, claim, left);
     text(out, b"claim ")?;
     number(out, claim as u64)?;
@@ -101,19 +82,17 @@ fn show_claim<W: Write>(
 fn show<W: Write>(out: &mut W, cards: &[u8], claim: u8, left: u8) -> io::Result<()> {
     let holders = deal();
     let mut p = Play::new(holders, deal::hands(holders), 2, 3);
-    let mut i = 0;
-    while i < cards.len() {
-        let card = cards[i];
-        let why = p.refusal(card);
-        if why != 0 {
-            text(out, b"refused ")?;
-            number(out, why as u64)?;
-            text(out, b" at ")?;
-            number(out, i as u64)?;
-            return text(out, b"\n");
+    for i in 0..cards.len() {
+        match p.take(cards[i]) {
+            Ok(next) => p = next,
+            Err(why) => {
+                text(out, b"refused ")?;
+                number(out, why.number() as u64)?;
+                text(out, b" at ")?;
+                number(out, i as u64)?;
+                return text(out, b"\n");
+            }
         }
-        p = p.play(card);
-        i += 1;
     }
     let ts = p.tricks();
     let rs = Table::after_cards(p, 3).revokes();

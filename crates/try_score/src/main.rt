@@ -2,7 +2,7 @@
 // difference, and scores that are not valid. Then sums of IMPs and of matchpoints, at the ends of what a number holds.
 #![tactic(auto)]
 
-use score::{ImpAnswer, ImpSum, Imps, MatchpointSum, Matchpoints};
+use score::{Imps, Matchpoints};
 use std::io;
 use std::io::Write;
 
@@ -20,15 +20,15 @@ fn signed<W: Write>(out: &mut W, n: i32) -> io::Result<()> {
 
 // Writes two scores and their IMPs.
 fn imps<W: Write>(out: &mut W, first: i16, second: i16) -> io::Result<()> {
-    signed(out, first as i32)?;
+    signed(out, i32::from(first))?;
     text(out, b" ")?;
-    signed(out, second as i32)?;
+    signed(out, i32::from(second))?;
     match score::imps_of(first, second) {
-        ImpAnswer::Refused(n) => {
+        Err(refusal) => {
             text(out, b" refused ")?;
-            number(out, n as u64)?;
+            number(out, u64::from(refusal.number()))?;
         }
-        ImpAnswer::Scored(i) => {
+        Ok(i) => {
             text(out, b" ")?;
             signed(out, i.0)?;
         }
@@ -43,11 +43,11 @@ fn imp_sum<W: Write>(out: &mut W, a: i32, b: i32) -> io::Result<()> {
     text(out, b" ")?;
     signed(out, b)?;
     match score::add_imps(Imps(a), Imps(b)) {
-        ImpSum::ImpTotal(i) => {
+        Some(i) => {
             text(out, b" ")?;
             signed(out, i.0)?;
         }
-        ImpSum::ImpsDoNotFit => text(out, b" does not fit")?,
+        None => text(out, b" does not fit")?,
     }
     text(out, b"\n")
 }
@@ -55,15 +55,15 @@ fn imp_sum<W: Write>(out: &mut W, a: i32, b: i32) -> io::Result<()> {
 // Writes two numbers of matchpoints and their sum.
 fn matchpoint_sum<W: Write>(out: &mut W, a: u32, b: u32) -> io::Result<()> {
     text(out, b"matchpoints ")?;
-    number(out, a as u64)?;
+    number(out, u64::from(a))?;
     text(out, b" ")?;
-    number(out, b as u64)?;
+    number(out, u64::from(b))?;
     match score::add_matchpoints(Matchpoints(a), Matchpoints(b)) {
-        MatchpointSum::MatchpointTotal(m) => {
+        Some(m) => {
             text(out, b" ")?;
-            number(out, m.0 as u64)?;
+            number(out, u64::from(m.0))?;
         }
-        MatchpointSum::MatchpointsDoNotFit => text(out, b" does not fit")?,
+        None => text(out, b" does not fit")?,
     }
     text(out, b"\n")
 }

@@ -5,7 +5,6 @@ ghost use Rattle.std.specs.Prelude.{◌≤◌};
 
 use std::io;
 use std::io::Write;
-use text::Outcome;
 
 // The sheet of an input.
 fn show<W: Write>(out: &mut W, name: &[u8], input: &[u8]) -> io::Result<()> {
@@ -13,8 +12,8 @@ fn show<W: Write>(out: &mut W, name: &[u8], input: &[u8]) -> io::Result<()> {
     out.write_all(b":\n")?;
     let mut text = [0u8; 2331];
     match sheet_text::write(input, &mut text) {
-        Outcome::Written(length) => out.write_all(&text[..length]),
-        Outcome::TooShort => Ok(()),
+        Some(length) => out.write_all(&text[..length]),
+        None => Ok(()),
     }
 }
 
@@ -25,10 +24,8 @@ fn repeated<W: Write>(out: &mut W, name: &[u8], times: usize) -> io::Result<()>
     let line = b"-7600\n";
     let mut input = [0u8; 1536];
     let n = times * 6;
-    let mut i: usize = 0;
-    while i < n {
+    for i in 0..n {
         input[i] = line[i % 6];
-        i += 1;
     }
     show(out, name, &input[..n])
 }
@@ -36,8 +33,8 @@ fn repeated<W: Write>(out: &mut W, name: &[u8], times: usize) -> io::Result<()>
 // What the example of docs/RULES.md gives in lent bytes, all `.` before.
 fn lend<W: Write>(out: &mut W, bytes: &mut [u8]) -> io::Result<()> {
     match sheet_text::write(b"420\n420\n-50\n450\n", bytes) {
-        Outcome::Written(_) => out.write_all(b"written:\n"),
-        Outcome::TooShort => out.write_all(b"too short:\n"),
+        Some(_) => out.write_all(b"written:\n"),
+        None => out.write_all(b"too short:\n"),
     }?;
     out.write_all(bytes)?;
     out.write_all(b"\n")

@@ -2,10 +2,11 @@
 // totals asked, 0 for none, and whether the state after the play is the state before it.
 #![tactic(auto)]
 
-use score::{ImpAnswer, Imps};
+use laws::Refusal;
+use score::Imps;
 use std::io;
 use std::io::Write;
-use team_match::{TeamMatch, TotalsAnswer};
+use team_match::TeamMatch;
 
 // A state with a total, and the boards from a number up to another used.
 fn state(total: i32, from: usize, to: usize) -> TeamMatch {
@@ -13,52 +14,18 @@ fn state(total: i32, from: usize, to: usize) -> TeamMatch {
         total: Imps(total),
         used: [false; 128],
     };
-    let mut i: usize = from;
-    while i < 128 {
-        if i <= to {
-            m.used[i] = true;
-        }
-        i += 1;
+    for (i, used) in m.used.iter_mut().enumerate() {
+        *used = from <= i && i <= to;
     }
     m
 }
 
-// The refusal of board 127 with 420 and -50, 0 for none.
-fn play_refusal(m: TeamMatch) -> u8 {
-    let played = team_match::play(m, 127, 420, -50);
-    let answer = played.answer;
+// The number of a refusal, 0 for none.
+fn refusal_of<T: Copy>(answer: Result<T, Refusal>) -> u8 {
     match answer {
-        ImpAnswer::Refused(n) => n,
-        ImpAnswer::Scored(_) => 0,
+        Ok(_) => 0,
+        Err(refusal) => refusal.number(),
     }
-}
-
-// The refusal of the totals, 0 for none.
-fn totals_refusal(m: TeamMatch) -> u8 {
-    match team_match::totals(m) {
-        TotalsAnswer::Refused(n) => n,
-        TotalsAnswer::Totals {
-            first: _,
-            second: _,
-        } => 0,
-    }
-}
-
-// Whether two states are the same.
-fn same(a: TeamMatch, b: TeamMatch) -> bool {
-    let x = a.total;
-    let y = b.total;
-    if x.0 != y.0 {
-        return false;
-    }
-    let mut i: usize = 0;
-    while i < 128 {
-        if a.used[i] != b.used[i] {
-            return false;
-        }
-        i += 1;
-    }
-    true
 }
 
 // Writes a space and a number.
@@ -66,21 +33,15 @@ fn number<W: Write>(out: &mut W, n: u8) -> io::Result<()> {
     write!(out, " {n}")
 }
 
-// 1 for yes, 0 for no.
-fn yes(b: bool) -> u8 {
-    if b { 1 } else { 0 }
-}
-
 // Writes a kind of state, and what each call answers to it.
 fn line<W: Write>(out: &mut W, kind: &[u8], m: TeamMatch) -> io::Result<()> {
     out.write_all(kind)?;
     out.write_all(b":")?;
-    number(out, yes(team_match::is_match(m)))?;
-    number(out, play_refusal(m))?;
-    number(out, totals_refusal(m))?;
+    number(out, u8::from(team_match::is_match(m)))?;
     let played = team_match::play(m, 127, 420, -50);
-    let after = played.state;
-    number(out, yes(same(m, after)))?;
+    number(out, refusal_of(played.answer))?;
+    number(out, refusal_of(team_match::totals(m)))?;
+    number(out, u8::from(played.state == m))?;
     out.write_all(b"\n")
 }
 

@@ -5,26 +5,23 @@ use mathlib.Core.Path.{◌≡◌, refl, sym, ap, ◌∙◌}
 use mathlib.Core.Bool.{false}
 use mathlib.Core.List.{List, [], ◌∷◌, map}
 use borrow.Author.Tests.{le-ltb, lt-ltb}
-use lib.Dec.{ltb}
 use lib.ListN.{length}
-use Rattle.laws.specs.Refusals.{refusal_number, short_record_buffer}
+use Rattle.laws.specs.Refusals.{Placed, refused_at, given, short_record_buffer}
 use Rattle.laws.specs.Choice.{some}
 use Rattle.laws.specs.Events.{Event, played, exposed, choice, cards_of, cards_among, codes_of}
 use Rattle.laws.specs.FlatPlay.{event, items_of, is_broken, events_among, flat_of}
 use Rattle.laws.specs.Lawful.{Lawful}
 use Rattle.laws.specs.Record.{Parts, bits, layout, encode}
-use Rattle.laws.specs.Lent.{◌over◌}
-use Rattle.laws.specs.Judge as Judge
 use Rattle.laws.specs.Judge.{Outcome, Outcome.refused as declined, Outcome.accepted}
 use Rattle.laws.specs.Contents.{Given, given_of, Fits, contents_of}
-use Rattle.laws.specs.Writing.{write_of, number_of, record_left}
-use Rattle.laws.proofs.RecordNumbers.{contents_from_1}
+use Rattle.laws.specs.Writing.{write_of, record_left}
 use Rattle.laws.proofs.FlatPlay.{reads_back, all_events}
 use Rattle.laws.proofs.Taken.{fits_tell}
 use Rattle.laws.proofs.Lengths.{plays-bits, at_most_505}
 use Rattle.laws.proofs.Contents.{layout-fits}
 use Rattle.laws.proofs.ContentsLawful.{accepted-fits, accepted-lawful}
-use Rattle.laws.proofs.ContentsNumbered.{contents_numbered}
+use Rattle.contents.specs.Checked.{checked}
+use Rattle.writer.specs.Answer.{written_by}
 use Rattle.packing.specs.Packed.{bytes_packed}
 use Rattle.writer.specs.Fields.{events_in, parts_of, fields_of, length_of}
 use Rattle.writer.proofs.Lengths.{length_encoded}
@@ -44,33 +41,33 @@ flat-length (played c ∷ vs) = omega (arith, flat-length vs)
 flat-length (exposed c deliberate ∷ vs) = omega (arith, flat-length vs)
 flat-length (choice kind suit ∷ vs) = omega (arith, flat-length vs)
 
-module _ (c : Given) (old : List ℕ) (n : ℕ) (en : n ≡ Judge.number_of (contents_of c)) where
-  -- what is returned, and what is left in the buffer
-  abbrev Left : ℕ → List ℕ → Type 0
-  Left number left = (number ≡ number_of (write_of c (length old))) × (left ≡ record_left (write_of c (length old)) old)
+-- the outcome of contents, by what the code answers of them
+outcome-refused : (o : Outcome) {n place : ℕ} → refused_at n place ≡ checked o → o ≡ declined n place
+outcome-refused (declined m at) e = cc
+outcome-refused (accepted p) e = absurd cc
 
-  pub record_refused : (n ≡ 0 → ⊥) → Left n old
+outcome-accepted : (o : Outcome) → given tt ≡ checked o → (q : Parts) × (o ≡ accepted q)
+outcome-accepted (declined m at) e = absurd cc
+outcome-accepted (accepted q) e = (q, refl)
+
+module _ (c : Given) (old : List ℕ) where
+  -- what is answered, and what is left in the buffer
+  abbrev Left : Placed ℕ → List ℕ → Type 0
+  Left answer left = (answer ≡ written_by (write_of c (length old))) × (left ≡ record_left (write_of c (length old)) old)
+
+  pub record_refused : {n place : ℕ} → refused_at n place ≡ checked (contents_of c) → Left (refused_at n place) old
   unfolding write_of record_left
-  record_refused z = go (contents_of c) refl
-    where
-      go : (o : Outcome) → contents_of c ≡ o → Left n old
-      go (declined m place) e = (rw e (en ∙ ap Judge.number_of e), rw e)
-      go (accepted q) e = absurd (z (en ∙ ap Judge.number_of e))
+  record_refused e =
+      let q = outcome-refused (contents_of c) e in
+      (rw q, rw q)
 
-  module _ (z : n ≡ 0) where
+  module _ (z : given tt ≡ checked (contents_of c)) where
     -- the parts that the contents are
     abbrev p : Parts
     p = record { board = c.board; table = c.table; deal = c.deal; calls = c.calls; plays = events_in c.plays; claim = c.claim }
 
     taken_as : (q : Parts) × (contents_of c ≡ accepted q)
-    taken_as = go (contents_of c) refl
-      where
-        go : (o : Outcome) → contents_of c ≡ o → (q : Parts) × (contents_of c ≡ accepted q)
-        go (declined m place) e =
-            let f = contents_numbered c e in
-            let no : refusal_number m place ≡ 0 = sym (en ∙ ap Judge.number_of e) ∙ z in
-            absurd (omega (arith, contents_from_1 m f.number))
-        go (accepted q) e = (q, e)
+    taken_as = outcome-accepted (contents_of c) z
 
     -- they are these, with no broken code among their plays
     given_is : c ≡ given_of taken_as.0
@@ -119,16 +116,16 @@ module _ (c : Given) (old : List ℕ) (n : ℕ) (en : n ≡ Judge.number_of (con
     bits-low = omega (arith, (plays-bits (events_in c.plays)).1, lawful.layout.cards, lawful.cards.codes)
 
     module _ (size : ℕ) (es : size ≡ length (encode p)) where
-      pub record_short : length old < size → Left (refusal_number short_record_buffer 0) old
+      pub record_short : length old < size → Left (refused_at short_record_buffer 0) old
       unfolding write_of record_left
       record_short h = (rw (taken, lt-ltb (length old) (length (encode p)) (rw es at h)), rw (taken, lt-ltb (length old) (length (encode p)) (rw es at h)))
 
-      pub record_written : size ≤ length old → (left : List ℕ) → left ≡ bytes_packed (layout p) old → Left size left
+      pub record_written : size ≤ length old → (left : List ℕ) → left ≡ bytes_packed (layout p) old → Left (given size) left
       unfolding write_of record_left
       record_written h left e =
           let room : length (encode p) ≤ length old = rw es at h in
           let wrote = writes_encoded p old (layout-fits p fits) room in
-          (rw (taken, le-ltb (length old) (length (encode p)) room) es, rw (taken, le-ltb (length old) (length (encode p)) room) (e ∙ wrote))
+          (rw (taken, le-ltb (length old) (length (encode p)) room) (ap given es), rw (taken, le-ltb (length old) (length (encode p)) room) (e ∙ wrote))
 
 -- the length that the code counts
 pub size_is : (board table : ℕ) (holders calls plays : List ℕ) (marked tricks : ℕ) → Fits (parts_of board table holders calls plays marked tricks)

@@ -3,17 +3,18 @@
 
 mod write;
 
-ghost use Rattle.std.specs.Prelude.{◌≡◌, length};
-ghost use Rattle.laws.specs.Writing.{write_of, number_of, record_left};
+ghost use Rattle.std.specs.Prelude.{◌≡◌, ◌<◌, length, IfOk};
+ghost use Rattle.laws.specs.Refused.{placed_of};
+ghost use Rattle.laws.specs.Writing.{write_of, record_left};
 ghost use Rattle.contents.specs.Given.{given};
+ghost use Rattle.writer.specs.Answer.{written_by};
 
 use crate::write::{length_of, play_bits, write_contents};
-use contents::contents_refusal;
-use laws::{SHORT_RECORD_BUFFER, refusal_number};
+use contents::check_contents;
+use laws::{Refusal, Refused};
 
 // Writes a record from its contents over the front of a buffer. `plays` has the cards and the codes among them, a flat list of numbers; `marked` 0 is no
-// claim, anything else a claim of `claim`. The answer is how many bytes were written, which is below 1024; or a refusal × 1024 + its place, with the buffer as
-// it was.
+// claim, anything else a claim of `claim`. The answer is how many bytes were written; or a refusal with its place, with the buffer as it was.
 pub fn write_record(
     board: u32,
     table: u32,
@@ -23,22 +24,20 @@ pub fn write_record(
     marked: u32,
     claim: u32,
     out: &mut [u8],
-) -> u32
-    ensures number { result
-        ≡ number_of (write_of (given board table holders.now calls.now plays.now marked claim)
+) -> Result<usize, Refused>
+    ensures answer { placed_of result
+        ≡ written_by (write_of (given board table holders.now calls.now plays.now marked claim)
         (length out.old)) }
+    ensures most { IfOk result (λ size. size < 1024) }
     ensures left { out.new
         ≡ record_left (write_of (given board table holders.now calls.now plays.now marked claim)
         (length out.old)) out.old }
 {
-    let number = contents_refusal(board, table, holders, calls, plays, marked, claim);
-    if number != 0 {
-        return number;
-    }
+    check_contents(board, table, holders, calls, plays, marked, claim)?;
     let size = length_of(calls.len(), play_bits(plays), marked);
     if out.len() < size {
-        return refusal_number(SHORT_RECORD_BUFFER, 0);
+        return Err(Refusal::ShortRecordBuffer.at(0));
     }
     write_contents(board, table, holders, calls, plays, marked, claim, out);
-    size as u32
+    Ok(size)
 }

@@ -1,5 +1,5 @@
 // The contents of a record written over the front of a lent buffer, whatever they are, and how many bytes they take.
-ghost use Rattle.std.specs.Prelude.{◌≡◌, false, ◌∷◌, ◌≤◌, ◌<◌, min, eqb, length, if◌then◌else◌};
+ghost use Rattle.std.specs.Prelude.{◌≡◌, false, ◌∷◌, ◌≤◌, eqb, length, if◌then◌else◌};
 ghost use Rattle.laws.specs.Choice.{some};
 ghost use Rattle.laws.specs.FlatPlay.{items_of, is_broken};
 ghost use Rattle.laws.specs.Record.{field, row, bits, claim_fields, layout};
@@ -45,12 +45,6 @@ fn put_code(p: Packer, out: &mut [u8], code: u8, first: u8, second: u8) -> Packe
     c.put(out, 2, second as u64)
 }
 
-fn wide(x: u8) -> u64
-    ensures { (result ≡ x) × (result < 256) }
-{
-    x as u64
-}
-
 // The cards and the codes among them.
 fn put_events(p: Packer, out: &mut [u8], plays: &[u8]) -> Packer
     requires { some is_broken (items_of plays.now) ≡ false }
@@ -59,13 +53,14 @@ fn put_events(p: Packer, out: &mut [u8], plays: &[u8]) -> Packer
 {
     let mut q = p;
     let mut i: usize = 0;
+    // A code takes three numbers and a card one, so that no iterator of the library steps through them.
     while i < plays.len() {
         let x = plays[i];
         if begins_code(x) {
             q = put_code(q, out, x, plays[i + 1], plays[i + 2]);
             i += 3;
         } else {
-            q = q.put(out, 6, wide(x));
+            q = q.put(out, 6, u64::from(x));
             i += 1;
         }
     }
@@ -120,22 +115,18 @@ pub(crate) fn write_contents(
     claimed.finish(out);
 }
 
-fn at_most(n: usize, most: usize) -> usize
-    ensures { result ≡ min n most }
-{
-    if n < most { n } else { most }
-}
-
 // How many bits a code takes with the two numbers that follow it.
 fn code_bits(code: u8) -> usize
-    ensures { (result ≡ (if eqb code 52 then 13 else 10)) × (result ≤ 13) }
+    ensures value { result ≡ (if eqb code 52 then 13 else 10) }
+    ensures most { result ≤ 13 }
 {
     if code == 52 { 13 } else { 10 }
 }
 
 // How many bits the plays take: six for a card, thirteen for an exposure, ten for a choice.
 pub(crate) fn play_bits(plays: &[u8]) -> usize
-    requires { (some is_broken (items_of plays.now) ≡ false) × (length plays.now ≤ 512) }
+    requires whole { some is_broken (items_of plays.now) ≡ false }
+    requires few { length plays.now ≤ 512 }
     ensures { result ≡ bits (fields_of plays.now) }
 {
     if has_code(plays) {
@@ -146,11 +137,13 @@ pub(crate) fn play_bits(plays: &[u8]) -> usize
 
 // The same, number by number.
 fn bits_beside_codes(plays: &[u8]) -> usize
-    requires { (some is_broken (items_of plays.now) ≡ false) × (length plays.now ≤ 512) }
+    requires whole { some is_broken (items_of plays.now) ≡ false }
+    requires few { length plays.now ≤ 512 }
     ensures { result ≡ bits (fields_of plays.now) }
 {
     let mut sum: usize = 0;
     let mut i: usize = 0;
+    // A code takes three numbers and a card one, as above.
     while i < plays.len() {
         let x = plays[i];
         if begins_code(x) {
@@ -169,7 +162,7 @@ pub(crate) fn length_of(calls: usize, plays: usize, marked: u32) -> usize
     requires { plays ≤ 8192 }
     ensures { result ≡ length_of calls plays marked }
 {
-    let codes = 6 * at_most(calls, 511) + plays;
+    let codes = 6 * calls.min(511) + plays;
     if marked == 0 {
         return (143 + codes) / 8;
     }

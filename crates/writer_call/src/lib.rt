@@ -25,5 +25,8 @@ pub fn judge_write_record(
         ≡ record_left (write_of (given board table holders.now calls.now plays.now marked claim)
         (length out.old)) out.old }
 {
-    writer::write_record(board, table, holders, calls, plays, marked, claim, out)
+    match writer::write_record(board, table, holders, calls, plays, marked, claim, out) {
+        Ok(size) => size as u32,
+        Err(refused) => u32::from(refused),
+    }
 }

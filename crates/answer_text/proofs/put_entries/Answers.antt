@@ -25,12 +25,6 @@ returns-then-count-eq0 c =
     let e = ends _ _ _ _ _ c.loop-i.invariant (omega arith) c.if-count-eq0.true in
     (put_since c.put_bytes-at.ensures e.0, e.1)
 
-pub overflow_add-i : goal.overflow_add-i
-overflow_add-i c = omega arith
-
-pub loop-i-smaller : goal.loop-i-smaller
-loop-i-smaller c = omega arith
-
 pub loop-i-preserved : goal.loop-i-preserved
 loop-i-preserved c =
     let l = c.loop-i in

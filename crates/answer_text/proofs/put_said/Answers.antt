@@ -6,6 +6,8 @@ use Rattle.answer_text.specs.Answers.{said_text, played_word, awarded_word}
 use Rattle.answer_text.proofs.Answering.{refused_at_short, points-short, bits-length}
 use Rattle.text.proofs.RefusalLengths.{line-short}
 use borrow.Author.Rules.{rules}
+use Rattle.laws.specs.Refused.{number}
+use Rattle.laws.proofs.RefusalNumbers.{number_most}
 use Rattle.answer_text.proofs.put_said.Goals as goal
 
 pub returns-in-Done : goal.returns-in-Done
@@ -15,11 +17,9 @@ returns-in-Done c = rw c.in-Done.is (c.put_bytes.ensures, omega arith)
 pub returns-in-Refused : goal.returns-in-Refused
 unfolding said_text
 returns-in-Refused c =
-    let n = c.in-Refused.n in
-    let p = c.in-Refused.place in
-    let k : n < 256 = search rules in
-    let m : p < 256 = search rules in
-    rw c.in-Refused.is (c.put_refused_at.ensures, refused_at_short n p k m)
+    let e = c.in-Refused.refused in
+    let m : e.place < 65536 = search rules in
+    rw c.in-Refused.is (c.put_refused_at.ensures, refused_at_short (number e.refusal) e.place (omega (arith, number_most e.refusal)) m)
 
 pub returns-in-Points : goal.returns-in-Points
 unfolding said_text refusal_line

@@ -17,4 +17,4 @@ free e h =
     (λ (q : eqb e 0 ≡ false). rw q (omega (arith, eqb-false e 0 q)))
 
 pub returns : goal.returns
-returns c = (free c.args.entry (search rules), omega arith)
+returns c = record { value = free c.args.entry (search rules); bound = omega arith }

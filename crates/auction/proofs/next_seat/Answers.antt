@@ -1,6 +1,5 @@
 -- `next_seat` meets its contract. Assumes nothing.
 use native.Mathlib.Omega.{arith}
-use borrow.Author.Rules.{rules}
 use Rattle.laws.specs.Cards.{clockwise}
 use Rattle.auction.proofs.next_seat.Goals as goal
 

@@ -1,13 +1,11 @@
 -- `place_of` meets its contract. Assumes nothing.
-use borrow.Author.Rules.{rules}
-use Rattle.auction.proofs.Steps.{own_place, mark-place, first-mark}
+use Rattle.std.proofs.Common.{sym, ◌∙◌}
+use Rattle.auction.proofs.Steps.{own_place, mark-place}
+use Rattle.auction.proofs.place_of.Goals.{Then-refusal-number, Else-refusal-number}
 use Rattle.auction.proofs.place_of.Goals as goal
 
-pub returns-then-refusal-ne-WRONG_MARK : goal.returns-then-refusal-ne-WRONG_MARK
-returns-then-refusal-ne-WRONG_MARK c = own_place _ _ c.if-refusal-ne-WRONG_MARK.true
+pub returns-then-refusal-number : goal.returns-then-refusal-number
+returns-then-refusal-number c = own_place _ _ (λ e. c.if-refusal-number.true (e ∙ sym c.number.ensures))
 
-pub returns-then-codes-eq0 : goal.returns-then-codes-eq0
-returns-then-codes-eq0 c = first-mark _ _ c.if-refusal-ne-WRONG_MARK.false c.if-codes-eq0.true
-
-pub returns-else-codes-eq0 : goal.returns-else-codes-eq0
-returns-else-codes-eq0 c = mark-place _ _ c.if-refusal-ne-WRONG_MARK.false
+pub returns : goal.returns
+returns c = c.saturating_sub.ensures ∙ mark-place _ _ (c.if-refusal-number.false ∙ c.number.ensures)

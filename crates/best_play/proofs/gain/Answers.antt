@@ -1,17 +1,16 @@
 -- `gain` meets its contract. Assumes nothing.
-use native.Mathlib.Omega.{arith}
-use borrow.Author.Tests.{eq-eqb, ne_eqb}
 use Rattle.best_play.specs.Search.{gain_in}
+use borrow.Author.Tests.{eq-eqb, ne_eqb}
 use Rattle.best_play.proofs.gain.Goals as goal
 
-pub returns-then-after-side : goal.returns-then-after-side
+pub returns-then-after-ne0-clause-gain : goal.returns-then-after-ne0-clause-gain
 unfolding gain_in
-returns-then-after-side c = (simp (eq-eqb _ _ c.if-after-eq0.true, eq-eqb _ _ c.if-after-side.true), omega arith)
+returns-then-after-ne0-clause-gain c = simp (ne_eqb _ _ c.if-after-ne0.true)
 
-pub returns-then-after-eq0 : goal.returns-then-after-eq0
+pub returns-then-after-side-clause-gain : goal.returns-then-after-side-clause-gain
 unfolding gain_in
-returns-then-after-eq0 c = (simp (eq-eqb _ _ c.if-after-eq0.true, ne_eqb _ _ c.if-after-side.false), omega arith)
+returns-then-after-side-clause-gain c = simp (eq-eqb _ _ c.if-after-ne0.false, ne_eqb _ _ c.if-after-side.true)
 
-pub returns : goal.returns
+pub returns-clause-gain : goal.returns-clause-gain
 unfolding gain_in
-returns c = (simp (ne_eqb _ _ c.if-after-eq0.false), omega arith)
+returns-clause-gain c = simp (eq-eqb _ _ c.if-after-ne0.false, eq-eqb _ _ c.if-after-side.false)

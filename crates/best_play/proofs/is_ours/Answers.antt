@@ -1,5 +1,4 @@
 -- `is_ours` meets its contract. Assumes nothing.
-use borrow.Author.Rules.{rules}
 use Rattle.best_play.specs.Search.{ours_in}
 use Rattle.best_play.proofs.is_ours.Goals as goal
 

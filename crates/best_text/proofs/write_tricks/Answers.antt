@@ -1,5 +1,4 @@
 -- `write_tricks` meets its contract. Assumes nothing.
-use borrow.Author.Rules.{rules}
 use Rattle.best_text.proofs.Lines.{tricks-line}
 use Rattle.best_text.proofs.write_tricks.Goals as goal
 

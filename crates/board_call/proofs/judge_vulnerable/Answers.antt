@@ -14,4 +14,4 @@ returns-then-is_board c = c.sides.ensures ∙ answered _ _ (sym c.is_board.ensur
 
 pub returns : goal.returns
 unfolding vulnerable_asked
-returns c = c.refusal_number.ensures ∙ refused _ _ (sym c.is_board.ensures ∙ c.if-is_board.false)
+returns c = c.from.ensures ∙ refused _ _ (sym c.is_board.ensures ∙ c.if-is_board.false)

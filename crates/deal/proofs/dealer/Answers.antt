@@ -1,10 +1,9 @@
--- `deal::dealer` meets its contract. Assumes nothing.
-use Prim.Native.Nat.{ℕ, ◌%◌}
+-- `dealer` meets its contract. Assumes nothing.
 use mathlib.Core.Path.{ap}
-use borrow.Author.Rules.{rules}
+use Prim.Native.Nat.{ℕ, ◌%◌}
 use Rattle.laws.specs.Law2.{dealer}
 use Rattle.deal.proofs.dealer.Goals as goal
 
 pub returns : goal.returns
 unfolding dealer
-returns c = ap (λ (n : ℕ). n % 4) c.boards_before.ensures
+returns c = ap (λ (n : ℕ). n % 4) c.saturating_sub.ensures

@@ -1,8 +1,7 @@
 -- `deal::holds_suit` meets its contract. Assumes nothing.
 use Prim.Native.Nat.{ℕ}
-use mathlib.Core.Path.{◌≡◌, ap}
+use mathlib.Core.Path.{ap}
 use mathlib.Core.Bool.{not}
-use borrow.Author.Rules.{rules}
 use lib.Dec.{eqb}
 use Rattle.deal.specs.Hands.{has_suit}
 use Rattle.deal.proofs.holds_suit.Goals as goal

@@ -1,8 +1,6 @@
 -- `deal::suit_held` meets its contract: the set bits among the suit's thirteen. Assumes nothing.
-use Prim.Native.Nat.{◌*◌, ◌^◌, ◌<◌}
-use mathlib.Core.Path.{◌≡◌}
+use Prim.Native.Nat.{◌*◌}
 use native.Mathlib.Omega.{arith}
-use borrow.Author.Rules.{rules}
 use lib.Pow.{pow_pos}
 use Rattle.deal.proofs.Held.{suit_in, suit_out}
 use Rattle.deal.proofs.suit_held.Goals as goal

@@ -1,66 +1,48 @@
 -- `decimal::read_number` meets its contract. The loop's invariant: what is read, and the bytes left to read, say what the whole says.
 -- Assumes nothing.
-use Prim.Native.Nat.{◌≤◌, ◌<◌, ◌-◌}
+use Prim.Native.Nat.{◌<◌}
 use native.Mathlib.Omega.{arith}
-use mathlib.Core.Path.{◌≡◌, sym, ◌∙◌}
+use mathlib.Core.Path.{sym, ◌∙◌}
 use borrow.Author.Rules.{rules}
-use lib.ListN.{length, drop}
-use Rattle.decimal.specs.Numbers.{number_on}
-use Rattle.decimal.proofs.Reading.{tens, tens_zero, small, grows, onward, begins, none, long, low, high, goes, ends}
+use borrow.Author.Tests.{tests}
+use Rattle.decimal.proofs.Reading.{tens_zero, small, grows, begins, none, long, goes, ends, other}
+use Rattle.decimal.proofs.read_number.Goals.{then-is_empty-via-then-is_empty, then-is_empty-via-else-is_empty+then-bytes-gt5}
 use Rattle.decimal.proofs.read_number.Goals as goal
 
-pub returns-then-bytes-eq0 : goal.returns-then-bytes-eq0
-returns-then-bytes-eq0 c = none _ c.if-bytes-eq0.true
+pub returns-then-is_empty : goal.returns-then-is_empty
+returns-then-is_empty c =
+    elim c.then-is_empty.branch [
+      | then-is_empty-via-then-is_empty w ↦ none _ (search (rules, tests))
+      | then-is_empty-via-else-is_empty+then-bytes-gt5 w ↦ long _ w.if-bytes-gt5.true
+    ]
 
-pub returns-then-bytes-gt5 : goal.returns-then-bytes-gt5
-returns-then-bytes-gt5 c = long _ c.if-bytes-gt5.true
+pub loop-b-init : goal.loop-b-init
+loop-b-init c = (omega arith, tens_zero, begins _ (search (rules, tests)) c.if-bytes-gt5.false)
 
-pub loop-i-init : goal.loop-i-init
-loop-i-init c = (omega arith, omega arith, tens_zero, begins _ c.if-bytes-eq0.false c.if-bytes-gt5.false)
-
-pub bounds-bytes-i : goal.bounds-bytes-i
-bounds-bytes-i c = omega arith
-
-pub returns-then-b-lt48 : goal.returns-then-b-lt48
-returns-then-b-lt48 c =
-    let l = c.loop-i in
-    low _ l.i l.n c.loop-i-test.true c.if-b-lt48.true ∙ sym l.invariant.3
-
-pub returns-then-b-gt57 : goal.returns-then-b-gt57
-returns-then-b-gt57 c =
-    let l = c.loop-i in
-    high _ l.i l.n c.loop-i-test.true c.if-b-lt48.false c.if-b-gt57.true ∙ sym l.invariant.3
+pub returns-then-not-is_ascii_digit : goal.returns-then-not-is_ascii_digit
+returns-then-not-is_ascii_digit c =
+    other _ c.loop-b.b-index c.loop-b.n c.loop-b-test.true c.if-not-is_ascii_digit.ensures.cases ∙ sym c.loop-b.invariant.2
 
 pub overflow_mul-n : goal.overflow_mul-n
 overflow_mul-n c =
-    let l = c.loop-i in
-    let n : l.n < 10000 = small l.n l.i l.invariant.2 (omega arith) in
+    let l = c.loop-b in
+    let n : l.n < 10000 = small l.n l.b-index l.invariant.1 (omega arith) in
     omega arith
-
-pub digit_value-requires : goal.digit_value-requires
-digit_value-requires c = (c.if-b-lt48.false, c.if-b-gt57.false)
 
 pub overflow_add-n : goal.overflow_add-n
 overflow_add-n c =
-    let l = c.loop-i in
-    let n : l.n < 10000 = small l.n l.i l.invariant.2 (omega arith) in
-    omega arith
+    let l = c.loop-b in
+    let n : l.n < 10000 = small l.n l.b-index l.invariant.1 (omega arith) in
+    omega (arith, c.from.ensures, c.if-not-is_ascii_digit.ensures.cases)
 
-pub overflow_add-i : goal.overflow_add-i
-overflow_add-i c = omega arith
-
-pub loop-i-smaller : goal.loop-i-smaller
-loop-i-smaller c = omega arith
-
-pub loop-i-preserved : goal.loop-i-preserved
-loop-i-preserved c =
-    let l = c.loop-i in
-    let d = c.digit_value.ensures in (
+pub loop-b-preserved : goal.loop-b-preserved
+loop-b-preserved c =
+    let l = c.loop-b in
+    let d = c.if-not-is_ascii_digit.ensures.cases in (
       omega arith,
-      omega arith,
-      grows l.n l.i c.digit_value.result l.invariant.2 (omega arith),
-      l.invariant.3 ∙ rw d (goes _ l.i l.n c.loop-i-test.true c.if-b-lt48.false c.if-b-gt57.false),
+      grows l.n l.b-index c.from.result l.invariant.1 (omega (arith, c.from.ensures)),
+      l.invariant.2 ∙ rw c.from.ensures (goes _ l.b-index l.n c.loop-b-test.true d.0 d.1),
     )
 
 pub returns : goal.returns
-returns c = ends _ c.loop-i.i c.loop-i.n c.loop-i-test.false ∙ sym c.loop-i.invariant.3
+returns c = ends _ c.loop-b.b-index c.loop-b.n c.loop-b-test.false ∙ sym c.loop-b.invariant.2

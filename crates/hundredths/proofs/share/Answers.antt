@@ -10,4 +10,4 @@ returns-then-most-eq0 c = rw (eq-eqb _ _ c.if-most-eq0.true)
 
 pub returns : goal.returns
 unfolding share_of hundredths
-returns c = rw (ne_eqb _ _ c.if-most-eq0.false)
+returns c = rw (ne_eqb _ _ c.if-most-eq0.false, c.from.ensures, c.from-2.ensures, c.from-3.ensures)

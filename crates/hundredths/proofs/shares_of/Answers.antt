@@ -1,20 +1,19 @@
 -- `shares_of` meets its contract, by what the call for the matchpoints answers. Assumes nothing.
-use mathlib.Core.Path.{sym, ap, ◌∙◌, subst}
+use Rattle.std.proofs.Common.{sym, ap, ◌∙◌}
+use Rattle.std.proofs.lemmas.Result.{err_from_is_err_and}
+use mathlib.Core.Path.{subst}
 use mir.Facts.{to_z-of_z}
-use Rattle.laws.specs.Tally.{Result}
-use Rattle.matchpoints.specs.Points.{points_answer}
 use Rattle.percentages.proofs.Told.{Few, few}
 use Rattle.hundredths.proofs.Told.{by_points, by_points_lem}
 use Rattle.hundredths.proofs.shares_of.Goals as goal
 
+pub returns-in_err-points : goal.returns-in_err-points
+returns-in_err-points c =
+    let p = err_from_is_err_and c.from_residual.result c.from_residual.ensures.1 in
+    rw (p.1, p.2) (ap by_points (rw (to_z-of_z c.ranges.score) at c.in_err-points.ensures) ∙ by_points_lem c.args.t _)
+
 pub shares_by-requires : goal.shares_by-requires
-shares_by-requires c = subst Few (sym (rw (to_z-of_z c.ranges.score) at c.matchpoints-answer.ensures) ∙ ap points_answer c.in-Points.is) (few c.args.t (let h : Result = record { score = c.args.score; deal = c.args.holders.now } in h))
+shares_by-requires c = subst Few (sym (rw (to_z-of_z c.ranges.score) at c.in_ok-points.ensures)) (few c.args.t _)
 
-pub returns-in-Refused : goal.returns-in-Refused
-returns-in-Refused c = ap by_points (sym (ap points_answer c.in-Refused.is) ∙ (rw (to_z-of_z c.ranges.score) at c.matchpoints-answer.ensures)) ∙ by_points_lem c.args.t (let h : Result = record { score = c.args.score; deal = c.args.holders.now } in h)
-
-pub returns-in-Points : goal.returns-in-Points
-returns-in-Points c =
-    c.shares_by.ensures
-    ∙ ap by_points (sym (ap points_answer c.in-Points.is) ∙ (rw (to_z-of_z c.ranges.score) at c.matchpoints-answer.ensures))
-    ∙ by_points_lem c.args.t (let h : Result = record { score = c.args.score; deal = c.args.holders.now } in h)
+pub returns : goal.returns
+returns c = c.shares_by.ensures ∙ (ap by_points (rw (to_z-of_z c.ranges.score) at c.in_ok-points.ensures) ∙ by_points_lem c.args.t _)

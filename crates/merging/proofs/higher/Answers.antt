@@ -1,42 +1,31 @@
 -- `merging::higher` meets its contract, by its tests. Assumes nothing.
-use mathlib.Core.Path.{◌≡◌, ap}
-use mathlib.Core.Bool.{false}
-use borrow.Author.Rules.{rules}
+use Rattle.std.proofs.Common.{ap, rules}
 use mir.Syntax.{w16}
 use mir.Val.{SFits, of_z}
 use mir.Facts.{to_z-of_z}
-use Rattle.laws.specs.Law78.{same_score}
 use Rattle.laws.proofs.Scores.{true_same, ne_same}
 use Rattle.tally.specs.Entries.{score}
 use Rattle.merging.specs.Joins.{higher_of}
 use Rattle.tally.proofs.Places.{same_of}
-use Rattle.merging.proofs.higher.Goals.{After-struct_told-2-1, Else-s-r}
 use Rattle.merging.proofs.higher.Goals as goal
 
-x_fits : (c : After-struct_told-2-1) → SFits w16 c.args.x.score
-x_fits c = search rules
-
-y-fits : (c : After-struct_told-2-1) → SFits w16 c.args.y.score
-y-fits c = search rules
-
--- the scores differ
-apart : (c : Else-s-r) → let a = c.args in same_score (score a.x) (score a.y) ≡ false
-apart c = let a = c.args in ne_same (score a.x) (score a.y) (λ e. c.if-s-r.false (ap (of_z w16) e))
-
-pub returns-then-s-r : goal.returns-then-s-r
+pub returns-then-x-y : goal.returns-then-x-y
 unfolding higher_of
-returns-then-s-r c =
-    let a = c.args in
-    rw (to_z-of_z (x_fits c.before), true_same (score a.x) (score a.y) (same_of _ _ (x_fits c.before) (y-fits c.before) c.if-s-r.true))
+returns-then-x-y c =
+    let f : SFits w16 c.args.x.score = search rules in
+    let g : SFits w16 c.args.y.score = search rules in
+    rw (to_z-of_z f, true_same (score c.args.x) (score c.args.y) (same_of _ _ f g c.if-x-y.true))
 
-pub returns-then-r-s : goal.returns-then-r-s
+pub returns-then-y-x : goal.returns-then-y-x
 unfolding higher_of
-returns-then-r-s c =
-    let q = rw (to_z-of_z (x_fits c.before.before), to_z-of_z (y-fits c.before.before)) at c.if-r-s.true in
-    rw (to_z-of_z (x_fits c.before.before), apart c.before, q)
+returns-then-y-x c =
+    let f : SFits w16 c.args.x.score = search rules in
+    let g : SFits w16 c.args.y.score = search rules in
+    rw (to_z-of_z f, ne_same (score c.args.x) (score c.args.y) (λ e. c.if-x-y.false (ap (of_z w16) e)), rw (to_z-of_z f, to_z-of_z g) at c.if-y-x.true)
 
 pub returns : goal.returns
 unfolding higher_of
 returns c =
-    let q = rw (to_z-of_z (x_fits c.before.before), to_z-of_z (y-fits c.before.before)) at c.if-r-s.false in
-    rw (to_z-of_z (y-fits c.before.before), apart c.before, q)
+    let f : SFits w16 c.args.x.score = search rules in
+    let g : SFits w16 c.args.y.score = search rules in
+    rw (to_z-of_z g, ne_same (score c.args.x) (score c.args.y) (λ e. c.if-x-y.false (ap (of_z w16) e)), rw (to_z-of_z f, to_z-of_z g) at c.if-y-x.false)

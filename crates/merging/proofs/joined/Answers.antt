@@ -40,10 +40,10 @@ higher-e-requires c =
     let l = c.loop-k in
     fits _ _ _ _ _ _ _ _ _ l.invariant.0 _ _ l.invariant.1 l.invariant.2
 
-pub returns-then-c-eq0 : goal.returns-then-c-eq0
-returns-then-c-eq0 c =
+pub returns-then-e-eq0 : goal.returns-then-e-eq0
+returns-then-e-eq0 c =
     let l = c.loop-k in
-    ends _ _ _ _ _ _ _ _ _ l.invariant.0 _ _ l.invariant.1 l.invariant.2 _ c.higher-e.ensures c.if-c-eq0.true
+    ends _ _ _ _ _ _ _ _ _ l.invariant.0 _ _ l.invariant.1 l.invariant.2 _ c.higher-e.ensures c.if-e-eq0.true
 
 pub overflow_add-i-in-loop-k : goal.overflow_add-i-in-loop-k
 overflow_add-i-in-loop-k c =
@@ -67,16 +67,10 @@ overflow_add-j-in-loop-k c =
       l.invariant.0.places,
     )
 
-pub overflow_add-k : goal.overflow_add-k
-overflow_add-k c = omega (arith, c.loop-k-test.true)
-
-pub loop-k-smaller : goal.loop-k-smaller
-loop-k-smaller c = omega (arith, c.loop-k-test.true)
-
 pub loop-k-preserved : goal.loop-k-preserved
 loop-k-preserved c =
     let l = c.loop-k in
-    let turn = goes _ _ _ _ _ _ _ _ _ l.invariant.0 _ _ l.invariant.1 l.invariant.2 _ c.higher-e.ensures c.if-c-eq0.false
+    let turn = goes _ _ _ _ _ _ _ _ _ l.invariant.0 _ _ l.invariant.1 l.invariant.2 _ c.higher-e.ensures c.if-e-eq0.false
     c.loop-k-test.true in (
       rw (to_z-of_z (record { sfits = c.struct_told-1.given.0.1 })) turn,
       c.next_of-x.ensures ∙ next-entry _ _ _ _ _ _ _ (let l = c.loop-k in

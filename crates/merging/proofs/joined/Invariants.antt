@@ -1,6 +1,5 @@
 -- `merging::joined` meets its contract. The loop's invariant: the first `k` entries of the whole are written, the others are still in the two
 -- tallies from `i` and `j` on, and `x` and `y` are the entries there. Assumes nothing.
-use Prim.Native.Nat.{◌-◌}
 use mathlib.Core.Path.{◌≡◌}
 use Rattle.merging.specs.Joins.{entry_at}
 use Rattle.merging.proofs.Reached.{Reached}
@@ -8,6 +7,3 @@ use Rattle.merging.proofs.joined.Given as goal
 
 abbrev pub invariant-loop-k : goal.invariant-loop-k
 invariant-loop-k l = Reached l.initial.u l.a l.n l.b l.m l.u l.i l.j l.k × (l.x ≡ entry_at l.a.scores l.a.counts l.i l.n) × (l.y ≡ entry_at l.b.scores l.b.counts l.j l.m)
-
-abbrev pub decreases-loop-k : goal.decreases-loop-k
-decreases-loop-k l = 128 - l.k

@@ -1,8 +1,7 @@
 -- `write` meets its contract: a law of Printed for each way out. Assumes nothing.
-use Prim.Native.Nat.{◌+◌, ◌≤◌, ◌<◌}
+use Prim.Native.Nat.{◌+◌, ◌≤◌}
 use native.Mathlib.Omega.{arith}
 use mathlib.Core.Path.{refl, sym}
-use borrow.Author.Rules.{rules}
 use lib.ListN.{length}
 use lib.Seq.{length-take-le}
 use Rattle.decimal.proofs.Scores.{rest-is}
@@ -13,7 +12,9 @@ pub returns-then-input-gt65536 : goal.returns-then-input-gt65536
 returns-then-input-gt65536 c = record { answer = rw (held-not c.args.input.now c.if-input-gt65536.true) c.lend.ensures.answer; bytes = rw (held-not c.args.input.now c.if-input-gt65536.true) c.lend.ensures.bytes }
 
 pub returns-then-end-input : goal.returns-then-end-input
-returns-then-end-input c = record { answer = rw (no_text c.args.input.now c.if-input-gt65536.false _ c.line_end-end.ensures c.if-end-input.true) c.write_pair.ensures.answer; bytes = rw (no_text c.args.input.now c.if-input-gt65536.false _ c.line_end-end.ensures c.if-end-input.true) c.write_pair.ensures.bytes }
+returns-then-end-input c =
+    let e = no_text c.args.input.now c.if-input-gt65536.false _ c.line_end-end.ensures c.if-end-input.true in
+    record { answer = rw e (rw c.number.ensures at c.write_pair.ensures.answer); bytes = rw e (rw c.number.ensures at c.write_pair.ensures.bytes) }
 
 pub slice_bounds-table_on-end : goal.slice_bounds-table_on-end
 slice_bounds-table_on-end c =

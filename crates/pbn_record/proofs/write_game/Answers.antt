@@ -1,4 +1,5 @@
 -- `write_game` meets its contract: what is given to the writer is what stands in the text. Assumes nothing.
+use Rattle.std.specs.Prelude.{Ok}
 use Prim.Native.Nat.{◌≤◌}
 use native.Mathlib.Omega.{arith}
 use mathlib.Core.Path.{◌≡◌, refl, sym, ap, ◌∙◌}
@@ -9,12 +10,13 @@ use lib.Seq.{length-take-le}
 use Rattle.laws.specs.Auction.{trump_after}
 use Rattle.laws.specs.PbnText.{Game, Sayable}
 use Rattle.laws.specs.PbnReading.{game}
-use Rattle.laws.specs.Writing.{write_of, number_of, record_left}
+use Rattle.laws.specs.Writing.{write_of, record_left}
 use Rattle.laws.specs.Pbn.{contents_in}
 use Rattle.contents.specs.Given.{given}
+use Rattle.writer.specs.Answer.{written_by}
 use Rattle.pbn_text.specs.GameIn.{game_in}
 use Rattle.pbn_record.proofs.Written.{given_is}
-use Rattle.pbn_record.proofs.write_game.Goals.{After-cards_listed-n, After-numbers-1, After-order_of_play-order, After-write_record, Start}
+use Rattle.pbn_record.proofs.write_game.Goals.{After-cards_listed-n, After-numbers-1, After-order_of_play-cards, After-write_record, Start}
 use Rattle.pbn_record.proofs.write_game.Goals as goal
 
 pub slice_bounds-numbers-end : goal.slice_bounds-numbers-end
@@ -28,22 +30,26 @@ slice_bounds-write_record-end-2 c =
     omega (arith, c.requires) in h)))
 
 pub slice_bounds-cards-end : goal.slice_bounds-cards-end
-slice_bounds-cards-end c = (let h : c.cards_listed-n.result ≤ length c.order_of_play-order.result.cards = omega (arith, c.cards_listed-n.ensures.1, (let h : length c.order_of_play-order.result.cards ≡ 52 = search rules in h)) in h)
+slice_bounds-cards-end c =
+    let long : length c.order_of_play-cards.result ≡ 52 = search rules in
+    omega (arith, c.cards_listed-n.ensures.1)
 
 pub slice_bounds-write_record-end-3 : goal.slice_bounds-write_record-end-3
-slice_bounds-write_record-end-3 c = sym (length-take-le _ _ ((let h : c.cards_listed-n.result ≤ length c.order_of_play-order.result.cards = omega (arith, c.cards_listed-n.ensures.1, (let h : length c.order_of_play-order.result.cards ≡ 52 = search rules in h)) in h)))
+slice_bounds-write_record-end-3 c =
+    let long : length c.order_of_play-cards.result ≡ 52 = search rules in
+    sym (length-take-le _ _ (omega (arith, c.cards_listed-n.ensures.1)))
 
 same : (w : After-write_record) (x : Game) → let a = w.args in
-    Sayable x → a.g ≡ game_in (game x) → a.trump ≡ trump_after (reverse x.calls)
+    Sayable x → Ok a.g ≡ game_in (game x) → a.trump ≡ trump_after (reverse x.calls)
     → given a.g.board a.table a.g.holders (take a.g.calls.count a.g.calls.numbers)
-    (take w.cards_listed-n.result w.order_of_play-order.result.cards) 0 0
+    (take w.cards_listed-n.result w.order_of_play-cards.result) 0 0
     ≡ contents_in x a.table
 same w x ok eg et =
-    let long : length w.order_of_play-order.result.cards ≡ 52 = search rules in
-    given_is x ok _ eg _ _ et w.requires _ _ _ _ refl refl w.order_of_play-order.ensures long
-    (ap (λ k. take k w.order_of_play-order.result.cards) w.cards_listed-n.ensures.0)
+    let long : length w.order_of_play-cards.result ≡ 52 = search rules in
+    given_is x ok _ eg _ _ et w.requires _ _ _ _ refl refl (rw w.unwrap_or.ensures at w.order_of_play-cards.ensures) long
+    (ap (λ k. take k w.order_of_play-cards.result) w.cards_listed-n.ensures.0)
 
 pub returns : goal.returns
 returns c =
     let out = c.args.out.now in
-    record { number = λ x ok eg et. c.write_record.ensures.number ∙ ap (λ k. number_of (write_of k (length out))) (same c.before.before.before x ok eg et); left = λ x ok eg et. c.write_record.ensures.left ∙ ap (λ k. record_left (write_of k (length out)) out) (same c.before.before.before x ok eg et) }
+    record { answer = λ x ok eg et. c.write_record.ensures.answer ∙ ap (λ k. written_by (write_of k (length out))) (same c.before.before.before x ok eg et); most = c.write_record.ensures.most; left = λ x ok eg et. c.write_record.ensures.left ∙ ap (λ k. record_left (write_of k (length out)) out) (same c.before.before.before x ok eg et) }

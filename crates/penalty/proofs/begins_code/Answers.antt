@@ -5,5 +5,5 @@ use Rattle.penalty.proofs.begins_code.Goals as goal
 pub returns-then-number-eq52 : goal.returns-then-number-eq52
 returns-then-number-eq52 c = rw (eq-eqb _ _ c.if-number-eq52.true)
 
-pub returns : goal.returns
-returns c = rw (ne_eqb _ _ c.if-number-eq52.false)
+pub returns-else-number-eq52 : goal.returns-else-number-eq52
+returns-else-number-eq52 c = rw (ne_eqb _ _ c.if-number-eq52.false)

@@ -9,4 +9,4 @@ returns-then-results-eq1 c = rw (eq-eqb _ _ c.if-results-eq1.true)
 
 pub returns : goal.returns
 unfolding cell_by
-returns c = rw (ne_eqb _ _ c.if-results-eq1.false, c.percentage_of-percentage.ensures)
+returns c = rw (ne_eqb _ _ c.if-results-eq1.false, c.percentage_of.ensures)

@@ -1,23 +1,26 @@
 -- `percentages::cell_of` meets its contract, by what the call for the matchpoints answers. Assumes nothing.
-use native.Mathlib.Omega.{arith}
-use mathlib.Core.Path.{sym, ap, ◌∙◌, subst}
+use Rattle.std.proofs.Common.{sym, ap, ◌∙◌, arith}
+use Rattle.std.proofs.lemmas.Result.{err_from_is_err_and}
+use mathlib.Core.Path.{subst}
 use mir.Facts.{to_z-of_z}
-use Rattle.laws.specs.Tally.{Result}
-use Rattle.matchpoints.specs.Points.{points_answer}
 use Rattle.percentages.proofs.Told.{by_points, by_points_lem, Few, few}
 use Rattle.percentages.proofs.cell_of.Goals as goal
 
+pub returns-in_err-points : goal.returns-in_err-points
+returns-in_err-points c =
+    let p = err_from_is_err_and c.from_residual.result c.from_residual.ensures.1 in
+    rw (p.1, p.2) (ap by_points (rw (to_z-of_z c.ranges.score) at c.in_err-points.ensures) ∙ by_points_lem c.args.t _)
+
 pub results_of-results-requires : goal.results_of-results-requires
-results_of-results-requires c = (subst Few (sym (rw (to_z-of_z c.ranges.score) at c.matchpoints-answer.ensures) ∙ ap points_answer c.in-Points.is) (few c.args.t (let h : Result = record { score = c.args.score; deal = c.args.holders.now } in h)))
+results_of-results-requires c = subst Few (sym (rw (to_z-of_z c.ranges.score) at c.in_ok-points.ensures)) (few c.args.t _)
 
 pub cell_by-requires : goal.cell_by-requires
-cell_by-requires c = let b = (subst Few (sym (rw (to_z-of_z c.ranges.score) at c.matchpoints-answer.ensures) ∙ ap points_answer c.in-Points.is) (few c.args.t (let h : Result = record { score = c.args.score; deal = c.args.holders.now } in h))) in let r = c.results_of-results.ensures in (omega arith, omega arith, omega arith)
+cell_by-requires c =
+    let b = subst Few (sym (rw (to_z-of_z c.ranges.score) at c.in_ok-points.ensures)) (few c.args.t _) in
+    let r = c.results_of-results.ensures in
+    (omega arith, omega arith, omega arith)
 
-pub returns-in-Refused : goal.returns-in-Refused
-returns-in-Refused c = ap by_points (sym (ap points_answer c.in-Refused.is) ∙ (rw (to_z-of_z c.ranges.score) at c.matchpoints-answer.ensures)) ∙ by_points_lem c.args.t (let h : Result = record { score = c.args.score; deal = c.args.holders.now } in h)
-
-pub returns-in-Points : goal.returns-in-Points
-returns-in-Points c =
+pub returns : goal.returns
+returns c =
     rw c.results_of-results.ensures at c.cell_by.ensures
-    ∙ ap by_points (sym (ap points_answer c.in-Points.is) ∙ (rw (to_z-of_z c.ranges.score) at c.matchpoints-answer.ensures))
-    ∙ by_points_lem c.args.t (let h : Result = record { score = c.args.score; deal = c.args.holders.now } in h)
+    ∙ (ap by_points (rw (to_z-of_z c.ranges.score) at c.in_ok-points.ensures) ∙ by_points_lem c.args.t _)

@@ -1,8 +1,7 @@
 -- `percentages::percentage_of` meets its contract. Assumes nothing.
-use mathlib.Core.Path.{refl}
 use Rattle.laws.specs.Percentages.{percentage}
 use Rattle.percentages.proofs.percentage_of.Goals as goal
 
 pub returns : goal.returns
 unfolding percentage
-returns c = refl
+returns c = rw (c.from-hundredfold.ensures, c.from-most.ensures)

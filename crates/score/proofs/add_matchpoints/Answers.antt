@@ -1,15 +1,13 @@
--- `score::add_matchpoints` meets its contract: the sum is exact in 64 bits, and is tested against the range of 32. Assumes nothing.
-use Prim.Native.Nat.{◌+◌, ◌^◌}
-use native.Mathlib.Omega.{arith}
-use borrow.Author.Rules.{rules}
-use borrow.Author.Tests.{lt-ltb, le-ltb}
-use Rattle.score.specs.Units.{matchpoints_added}
+-- `score::add_matchpoints` meets its contract: the sum fits exactly where it is below 2^32. Assumes nothing.
+use Rattle.std.proofs.Common.{◌∙◌, ap}
+use Rattle.score.specs.Units.{matchpoint_sum}
+use Rattle.score.proofs.Sums.{matchpoints_held, matchpoints-over}
 use Rattle.score.proofs.add_matchpoints.Goals as goal
 
-pub returns-then-sum-gt4294967295 : goal.returns-then-sum-gt4294967295
-unfolding matchpoints_added
-returns-then-sum-gt4294967295 c = simp (le-ltb _ _ c.if-sum-gt4294967295.true)
+pub returns-in_err-checked_add : goal.returns-in_err-checked_add
+returns-in_err-checked_add c = ap matchpoint_sum c.from_residual.ensures ∙ matchpoints-over _ _ (c.in_err-checked_add.ensures)
 
 pub returns : goal.returns
-unfolding matchpoints_added
-returns c = simp (lt-ltb (c.args.a.0 + c.args.b.0) (2 ^ 32) (omega arith))
+returns c =
+    let e = c.in_ok-checked_add.ensures in
+    rw (e.1) (matchpoints_held c.args.a.0 c.args.b.0 e.0)

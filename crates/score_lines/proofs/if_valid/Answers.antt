@@ -5,5 +5,5 @@ use Rattle.score_lines.proofs.Saying.{valid-said, not_valid}
 pub returns-then-valid : goal.returns-then-valid
 returns-then-valid c = valid-said _ _ c.ranges.score c.valid.ensures c.if-valid.true
 
-pub returns : goal.returns
-returns c = not_valid _ _ c.ranges.score c.valid.ensures c.if-valid.false
+pub returns-else-valid : goal.returns-else-valid
+returns-else-valid c = not_valid _ _ c.ranges.score c.valid.ensures c.if-valid.false

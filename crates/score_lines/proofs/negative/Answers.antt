@@ -9,10 +9,10 @@ unfolding negative_of
 returns-in_default c = rw c.in_default.is
 
 pub returns-then-size-gt7600 : goal.returns-then-size-gt7600
-returns-then-size-gt7600 c = negative_over _ c.if-size-gt7600.true ∙ ap negative_of (sym c.in-Is.is)
+returns-then-size-gt7600 c = negative_over _ c.if-size-gt7600.true ∙ ap negative_of (sym c.in-Some.is)
 
 pub overflow_sub-size : goal.overflow_sub-size
 overflow_sub-size c = minus-fits _ c.if-size-gt7600.false
 
 pub returns : goal.returns
-returns c = negative_said _ _ _ c.in-Is.is c.if-size-gt7600.false c.if_valid.ensures
+returns c = negative_said _ _ _ c.in-Some.is c.if-size-gt7600.false c.if_valid.ensures

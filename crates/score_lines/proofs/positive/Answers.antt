@@ -9,7 +9,7 @@ unfolding positive_of
 returns-in_default c = rw c.in_default.is
 
 pub returns-then-size-gt7600 : goal.returns-then-size-gt7600
-returns-then-size-gt7600 c = positive_over _ c.if-size-gt7600.true ∙ ap positive_of (sym c.in-Is.is)
+returns-then-size-gt7600 c = positive_over _ c.if-size-gt7600.true ∙ ap positive_of (sym c.in-Some.is)
 
 pub returns : goal.returns
-returns c = positive_said _ _ _ c.in-Is.is c.if-size-gt7600.false c.if_valid.ensures
+returns c = positive_said _ _ _ c.in-Some.is c.if-size-gt7600.false c.if_valid.ensures

@@ -1,10 +1,12 @@
 -- `score_lines::results_of` meets its contract. The loop's invariant: `Read`. Assumes nothing.
 use native.Mathlib.Omega.{arith}
+use mathlib.Core.Path.{refl}
+use Rattle.laws.proofs.RefusalNumbers.{number_not_none}
 use Rattle.score_lines.proofs.LinesRead.{begins, few, ends, end_after, end_within, bad, over, goes}
 use Rattle.score_lines.proofs.results_of.Goals as goal
 
 pub loop-at-init : goal.loop-at-init
-loop-at-init c = rw c.fresh-first.ensures (begins _)
+loop-at-init c = rw c.empty-t.ensures (begins _)
 
 pub slice_bounds-line-count : goal.slice_bounds-line-count
 slice_bounds-line-count c = end_after _ _ _ _ c.loop-at.invariant c.loop-at-test.true _ c.line_end-end.ensures
@@ -19,17 +21,12 @@ pub overflow_add-k : goal.overflow_add-k
 overflow_add-k c = omega (arith, few _ _ _ _ c.loop-at.invariant)
 
 pub returns-in_default : goal.returns-in_default
-returns-in_default c =
-    rw c.refused_at.ensures
-    (bad _ _ _ _ c.loop-at.invariant c.loop-at-test.true _ c.line_end-end.ensures _ c.said_on.ensures
-    c.in_default.is)
+returns-in_default c = bad _ _ _ _ c.loop-at.invariant c.loop-at-test.true _ c.line_end-end.ensures _ c.said_on.ensures c.in_default.is
 
-pub returns-then-more-ne0 : goal.returns-then-more-ne0
-returns-then-more-ne0 c =
-    rw c.refused_at-then-more-ne0.ensures
-    (over _ _ _ _ c.loop-at.invariant c.loop-at-test.true _ c.line_end-end.ensures _ _ c.said_on.ensures
-    c.in-Score.is _ c.with_score-more.ensures
-    (λ z. c.if-more-ne0.true (rw z)))
+pub returns-in-Err : goal.returns-in-Err
+returns-in-Err c =
+    over _ _ _ _ c.loop-at.invariant c.loop-at-test.true _ c.line_end-end.ensures _ _ c.said_on.ensures c.in-Some.is _ c.in-Err.ensures
+    (number_not_none _)
 
 pub overflow_add-at : goal.overflow_add-at
 overflow_add-at c =
@@ -55,8 +52,8 @@ loop-at-preserved c =
     goes _ _ _ _ c.loop-at.invariant
     c.loop-at-test.true _
     c.line_end-end.ensures _ _
-    c.said_on.ensures c.in-Score.is _
-    c.with_score-more.ensures c.if-more-ne0.false
+    c.said_on.ensures c.in-Some.is _
+    c.in-Ok.ensures refl
 
 pub returns : goal.returns
 returns c = ends _ _ _ _ c.loop-at.invariant c.loop-at-test.false

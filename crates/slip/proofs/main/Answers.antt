@@ -3,7 +3,7 @@ use Rattle.text.proofs.Puts.{written-prefix, written-length}
 use Rattle.slip.proofs.main.Goals as goal
 
 pub slice_bounds-text-end : goal.slice_bounds-text-end
-slice_bounds-text-end c = written-prefix _ _ _ _ _ c.write.ensures.answer c.write.ensures.bytes c.in-Written.is
+slice_bounds-text-end c = written-prefix _ _ _ _ _ c.write.ensures.answer c.write.ensures.bytes c.in-Some.is
 
 pub slice_bounds-write_all-end : goal.slice_bounds-write_all-end
-slice_bounds-write_all-end c = written-length _ _ _ _ _ c.write.ensures.answer c.write.ensures.bytes c.in-Written.is
+slice_bounds-write_all-end c = written-length _ _ _ _ _ c.write.ensures.answer c.write.ensures.bytes c.in-Some.is

@@ -1,7 +1,6 @@
 -- `put_item` meets its contract. Assumes nothing.
 use mir.Facts.{to_z-of_z}
 use Rattle.slip_text.proofs.Placing.{no_line, some-line}
-use borrow.Author.Rules.{rules}
 use Rattle.slip_text.proofs.put_item.Goals as goal
 
 pub returns-then-points-eq0 : goal.returns-then-points-eq0

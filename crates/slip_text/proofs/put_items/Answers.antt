@@ -1,14 +1,7 @@
 -- `put_items` meets its contract. Assumes nothing.
-use Prim.Native.Nat.{◌+◌, ◌≤◌}
-use native.Mathlib.Omega.{arith}
-use mathlib.Core.List.{◌++◌}
-use lib.ListN.{length}
 use mir.Syntax.{w16}
 use mir.Facts.{to_z-of_z}
-use Rattle.laws.specs.Slip.{sum_word, line}
 use Rattle.text.proofs.Puts.{then}
-use Rattle.slip_text.specs.Text.{tricks_text, premiums_text, items_text}
-use borrow.Author.Rules.{rules}
 use Rattle.slip_text.proofs.put_items.Goals as goal
 
 pub returns : goal.returns

@@ -1,13 +1,7 @@
 -- `put_tricks` meets its contract. Assumes nothing.
-use Prim.Native.Nat.{◌+◌, ◌≤◌}
-use native.Mathlib.Omega.{arith}
-use mathlib.Core.List.{◌++◌}
-use lib.ListN.{length}
 use Rattle.laws.specs.Slip.{TRICKS, OVERTRICKS, UNDERTRICKS, word_of}
 use Rattle.text.proofs.Puts.{then}
-use Rattle.slip_text.specs.Text.{item_line}
 use Rattle.slip_text.proofs.Placing.{item_put}
-use borrow.Author.Rules.{rules}
 use Rattle.slip_text.proofs.put_tricks.Goals as goal
 
 pub returns : goal.returns

@@ -1,6 +1,5 @@
 -- `write_items` meets its contract. Assumes nothing.
 use Rattle.text.proofs.Puts.{local_length, taken-length, taken}
-use borrow.Author.Rules.{rules}
 use Rattle.slip_text.proofs.write_items.Goals as goal
 
 pub slice_bounds-text-end : goal.slice_bounds-text-end

@@ -1,5 +1,5 @@
 -- `tally::carries_deal` meets its contract, by its test. Assumes nothing.
-use mathlib.Core.Path.{◌∙◌}
+use Rattle.std.proofs.Common.{◌∙◌}
 use Rattle.tally.proofs.Dealing.{carries-none, carries-deal}
 use Rattle.tally.proofs.carries_deal.Goals as goal
 
@@ -7,4 +7,4 @@ pub returns-then-results-eq0 : goal.returns-then-results-eq0
 returns-then-results-eq0 c = c.same_deal.ensures ∙ carries-none _ _ c.if-results-eq0.true
 
 pub returns : goal.returns
-returns c = carries-deal _ _ c.if-results-eq0.false _ c.take_places-dealt.ensures
+returns c = c.is_ok.ensures.value ∙ carries-deal _ _ c.if-results-eq0.false _ c.take_places.ensures

@@ -1,16 +1,21 @@
 -- `tally::check` meets its contract: the places first, then the deal. Assumes nothing.
-use mathlib.Core.Path.{sym, ◌∙◌}
-use borrow.Author.Tests.{not-true, not-false}
-use Rattle.tally.proofs.Checking.{bad_places, bad_deal, checked_bad, checked_good}
+use Rattle.std.proofs.Common.{ap, ◌∙◌, Result, Err}
+use Rattle.laws.specs.declared.Refused.{Refused}
+use Rattle.tally.specs.declared.Size.{Size}
+use Rattle.tally.proofs.Checking.{not_places, not_carried, is_carried}
 use Rattle.tally.proofs.check.Goals as goal
 
-pub returns-then-not-places : goal.returns-then-not-places
-returns-then-not-places c = checked_bad _ _ c.malformed.ensures (bad_places _ (sym c.check_places-places.ensures.good ∙ not-true _ c.if-not-places.true))
+-- a refusal, as the answer
+answer : Refused → Result Size Refused
+answer e = Err e
+
+pub returns-in_default : goal.returns-in_default
+unfolding answer
+returns-in_default c = ap answer c.at.ensures ∙ not_places _ c.in_default.ensures
 
 pub returns-then-not-carries_deal : goal.returns-then-not-carries_deal
-returns-then-not-carries_deal c =
-    checked_bad _ _ c.malformed-then-not-carries_deal.ensures
-    (bad_deal _ _ c.check_places-places.ensures (not-false _ c.if-not-places.false) (sym c.carries_deal.ensures ∙ c.if-not-carries_deal.true))
+unfolding answer
+returns-then-not-carries_deal c = ap answer c.at-then-not-carries_deal.ensures ∙ not_carried _ _ c.in-Some.ensures c.if-not-carries_deal.ensures
 
 pub returns : goal.returns
-returns c = checked_good _ _ c.check_places-places.ensures (not-false _ c.if-not-places.false) (sym c.carries_deal.ensures ∙ c.if-not-carries_deal.false)
+returns c = is_carried _ _ c.in-Some.ensures c.if-not-carries_deal.ensures

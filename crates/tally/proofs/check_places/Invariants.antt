@@ -10,10 +10,7 @@ use Rattle.tally.proofs.check_places.Given as goal
 
 abbrev pub invariant-loop-i : goal.invariant-loop-i
 invariant-loop-i l =
-    (l.i ≤ 128) × (length l.t.scores ≡ 128) × (length l.t.counts ≡ 128) × (l.room ≤ 128)
+    (l.room ≤ 128)
     × (order_at l.t.scores l.t.counts ceiling 128 0 ≡ order_at l.t.scores l.t.counts l.top l.room l.i)
     × (sum_of (entries_in l.t) ≡ 128 - l.room + sum_of (entries_at l.t.scores l.t.counts l.i))
     × (length (entries_in l.t) ≡ l.i + length (entries_at l.t.scores l.t.counts l.i))
-
-abbrev pub decreases-loop-i : goal.decreases-loop-i
-decreases-loop-i l = 128 - l.i

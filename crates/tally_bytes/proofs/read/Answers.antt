@@ -4,12 +4,13 @@ use borrow.Author.Rules.{rules}
 use borrow.Author.Tests.{eq-eqb, ne_eqb}
 use lib.ListN.{length}
 use Rattle.tally.specs.InBytes.{tally_from, tally_in}
+use Rattle.tally.specs.Tallies.{tally_of}
 use Rattle.tally_bytes.proofs.read.Goals as goal
 
 pub returns-then-bytes-ne-TALLY_LENGTH : goal.returns-then-bytes-ne-TALLY_LENGTH
-unfolding tally_in
-returns-then-bytes-ne-TALLY_LENGTH c = c.no_tally.ensures ∙ rw (ne_eqb (length c.args.bytes.now) 398 c.if-bytes-ne-TALLY_LENGTH.true)
+unfolding tally_in tally_of
+returns-then-bytes-ne-TALLY_LENGTH c = c.empty.ensures ∙ rw (ne_eqb (length c.args.bytes.now) 398 c.if-bytes-ne-TALLY_LENGTH.true)
 
 pub returns : goal.returns
 unfolding tally_in tally_from
-returns c = rw (eq-eqb (length c.args.bytes.now) 398 (search rules), c.deal_in-deal.ensures, c.scores_in-scores.ensures, c.counts_in-counts.ensures)
+returns c = rw (eq-eqb (length c.args.bytes.now) 398 (search rules), c.deal_in.ensures, c.scores_in.ensures, c.counts_in.ensures)

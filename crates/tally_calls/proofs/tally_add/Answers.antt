@@ -13,7 +13,7 @@ use Rattle.tally_calls.proofs.tally_add.Goals as goal
 pub returns-then-out-lt-TALLY_LENGTH : goal.returns-then-out-lt-TALLY_LENGTH
 unfolding add_call
 returns-then-out-lt-TALLY_LENGTH c =
-    let s = says-short 398 _ c.args.out.now c.if-out-lt-TALLY_LENGTH.true c.refusal_number.ensures in
+    let s = says-short 398 _ c.args.out.now c.if-out-lt-TALLY_LENGTH.true c.short.ensures in
     record { number = s.0; left = s.1 }
 
 pub returns : goal.returns

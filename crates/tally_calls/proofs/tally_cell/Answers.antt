@@ -15,7 +15,7 @@ use Rattle.tally_calls.proofs.tally_cell.Goals as goal
 pub returns-then-cell-lt9 : goal.returns-then-cell-lt9
 unfolding cell_call
 returns-then-cell-lt9 c =
-    let s = says-short 9 _ c.args.cell.now c.if-cell-lt9.true c.refusal_number.ensures in
+    let s = says-short 9 _ c.args.cell.now c.if-cell-lt9.true c.short.ensures in
     record { number = s.0; left = s.1 }
 
 pub put_cell-requires : goal.put_cell-requires

@@ -13,7 +13,7 @@ use Rattle.tally_calls.proofs.tally_hundredths.Goals as goal
 pub returns-then-shares-lt4 : goal.returns-then-shares-lt4
 unfolding hundredths_call
 returns-then-shares-lt4 c =
-    let s = says-short 4 _ c.args.shares.now c.if-shares-lt4.true c.refusal_number.ensures in
+    let s = says-short 4 _ c.args.shares.now c.if-shares-lt4.true c.short.ensures in
     record { number = s.0; left = s.1 }
 
 pub returns : goal.returns

@@ -13,7 +13,7 @@ use Rattle.tally_calls.proofs.tally_matchpoints.Goals as goal
 pub returns-then-points-lt4 : goal.returns-then-points-lt4
 unfolding matchpoints_call
 returns-then-points-lt4 c =
-    let s = says-short 4 _ c.args.points.now c.if-points-lt4.true c.refusal_number.ensures in
+    let s = says-short 4 _ c.args.points.now c.if-points-lt4.true c.short.ensures in
     record { number = s.0; left = s.1 }
 
 pub returns : goal.returns

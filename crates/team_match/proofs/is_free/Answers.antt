@@ -1,23 +1,21 @@
 -- `team_match::is_free` meets its contract. Assumes nothing.
+use Rattle.std.proofs.Common.{arith}
 use borrow.Author.Tests.{lt-leb, le-leb}
-use native.Mathlib.Omega.{arith}
 use Rattle.laws.specs.TeamMatch.{is_free}
 use Rattle.team_match.specs.Matches.{boards_in}
 use Rattle.team_match.proofs.Boards.{used-place}
 use Rattle.team_match.proofs.is_free.Goals as goal
 
-pub returns-then-board-eq0 : goal.returns-then-board-eq0
-unfolding is_free
-returns-then-board-eq0 c = rw c.if-board-eq0.true
-
-pub returns-then-board-gt127 : goal.returns-then-board-gt127
-unfolding is_free
-returns-then-board-gt127 c =
-    let b = c.args.board in
-    rw (le-leb 1 b (omega arith), lt-leb b 127 (omega arith))
-
-pub returns : goal.returns
+pub returns-in-1-to-127 : goal.returns-in-1-to-127
 unfolding is_free boards_in
-returns c =
+returns-in-1-to-127 c =
     let b = c.args.board in
-    rw (le-leb 1 b (omega arith), le-leb b 127 (omega arith), used-place)
+    rw (le-leb 1 b (omega arith), le-leb b 127 (omega arith), used-place, c.from.ensures)
+
+pub returns-in_default : goal.returns-in_default
+unfolding is_free
+returns-in_default c = let b = c.args.board in rw (lt-leb 1 b (omega arith))
+
+pub returns-in_default-2 : goal.returns-in_default-2
+unfolding is_free
+returns-in_default-2 c = let b = c.args.board in rw (le-leb 1 b (omega arith), lt-leb b 127 (omega arith))

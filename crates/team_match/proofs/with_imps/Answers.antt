@@ -1,11 +1,21 @@
 -- `team_match::with_imps` meets its contract: the sum of so few IMPs fits. Assumes nothing.
-use mathlib.Core.Path.{sym, ap, ◌∙◌}
+use Rattle.std.proofs.Common.{ℕ, Bool, true, List, sym, ap, ◌∙◌}
+use mathlib.Core.Path.{ap₂}
+use lib.IntN.{ℤ}
+use lib.ListN.{set}
+use Rattle.team_match.specs.declared.TeamMatch.{TeamMatch}
 use Rattle.score.specs.Units.{imp_sum}
-use Rattle.team_match.proofs.States.{sum_fits, answered_sum, not_lost}
+use Rattle.team_match.proofs.States.{sum_fits, summed, has_sum}
 use Rattle.team_match.proofs.with_imps.Goals as goal
 
-pub returns-in_default : goal.returns-in_default
-returns-in_default c = not_lost _ (sym (ap imp_sum c.in_default.is) ∙ (c.add_imps.ensures ∙ sum_fits c.args.m _ c.requires.0 c.requires.2))
+pub unwrap-next-requires : goal.unwrap-next-requires
+unwrap-next-requires c = has_sum _ _ (c.add_imps.ensures ∙ sum_fits c.args.m _ c.requires.0 c.requires.2)
+
+made : ℤ → List Bool → TeamMatch
+made z used = record { total = record { 0 = z }; used = used }
 
 pub returns : goal.returns
-returns c = rw (answered_sum _ _ (sym (ap imp_sum c.in-ImpTotal.is) ∙ (c.add_imps.ensures ∙ sum_fits c.args.m _ c.requires.0 c.requires.2)))
+unfolding made
+returns c =
+    let e = summed _ _ (sym (ap imp_sum c.unwrap-next.ensures) ∙ (c.add_imps.ensures ∙ sum_fits c.args.m _ c.requires.0 c.requires.2)) in
+    ap₂ made e (ap (λ (i : ℕ). set c.args.m.used i true) c.from.ensures)

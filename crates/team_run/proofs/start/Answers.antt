@@ -4,4 +4,4 @@ use Rattle.team_run.proofs.start.Goals as goal
 
 pub returns : goal.returns
 unfolding start_of
-returns c = rw (c.start-state.ensures, c.first_line-line.ensures)
+returns c = rw (c.start.ensures, c.first_line.ensures)

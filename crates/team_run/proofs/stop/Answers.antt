@@ -4,4 +4,4 @@ use Rattle.team_run.proofs.stop.Goals as goal
 
 pub returns : goal.returns
 unfolding done_with
-returns c = rw c.next_line-empty.ensures
+returns c = rw c.next_line.ensures

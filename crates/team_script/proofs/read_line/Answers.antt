@@ -19,4 +19,4 @@ unfolding asked_on asked
 returns c =
     let s = c.args.line.now in
     let e = rest-is c.behind_space-at.result s ∙ c.behind_space-at.ensures.0 in
-    rw (← (c.read_number.ensures ∙ ap number_on (field_is _ _ c.to_space-end.ensures.0)), c.in-Is.is, ← e, ← c.board_in.ensures) c.with_scores.ensures
+    rw (← (c.read_number.ensures ∙ ap number_on (field_is _ _ c.to_space-end.ensures.0)), c.in-Some.is, ← e, ← c.board_in.ensures) c.with_scores.ensures

@@ -18,7 +18,7 @@ unfolding scored
 returns-in_default-read_score c =
     rw (
       ← c.score_in.ensures,
-      c.in-Of.is,
+      c.in-Some.is,
       ← (let s = c.args.bytes.now in
           c.read_score.ensures ∙ ap score_on (rest-is c.behind_space-at.result s ∙ c.behind_space-at.ensures.0)),
       c.in_default-read_score.is,
@@ -27,14 +27,14 @@ returns-in_default-read_score c =
 pub returns : goal.returns
 unfolding scored
 returns c =
-    let f : SFits w16 c.in-Of.first = search rules in
-    let g : SFits w16 c.in-Of-read_score.second = search rules in
+    let f : SFits w16 c.in-Some.first = search rules in
+    let g : SFits w16 c.in-Some-read_score.second = search rules in
     rw (
       ← c.score_in.ensures,
-      c.in-Of.is,
+      c.in-Some.is,
       ← (let s = c.args.bytes.now in
           c.read_score.ensures ∙ ap score_on (rest-is c.behind_space-at.result s ∙ c.behind_space-at.ensures.0)),
-      c.in-Of-read_score.is,
+      c.in-Some-read_score.is,
       to_z-of_z f,
       to_z-of_z g,
     )

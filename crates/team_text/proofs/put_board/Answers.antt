@@ -7,14 +7,14 @@ use Rattle.team_text.proofs.Teams.{refused-short, imps-short}
 use borrow.Author.Rules.{rules}
 use Rattle.team_text.proofs.put_board.Goals as goal
 
-pub returns-in-Refused : goal.returns-in-Refused
+pub returns-in-Err : goal.returns-in-Err
 unfolding board_text
-returns-in-Refused c =
-    let b : c.in-Refused.n < 256 = search rules in
-    rw c.in-Refused.is (c.put_refused.ensures, refused-short c.in-Refused.n b)
+returns-in-Err c =
+    let b : c.number.result < 256 = search rules in
+    rw (c.in-Err.is, ← c.number.ensures) (c.put_refused.ensures, refused-short c.number.result b)
 
-pub returns-in-Scored : goal.returns-in-Scored
+pub returns-in-Ok : goal.returns-in-Ok
 unfolding board_text
-returns-in-Scored c =
-    let f : SFits w32 c.in-Scored.imps.0 = search rules in
-    rw c.in-Scored.is (c.put_gained.ensures, imps-short c.in-Scored.imps.0 f)
+returns-in-Ok c =
+    let f : SFits w32 c.in-Ok.imps.0 = search rules in
+    rw c.in-Ok.is (c.put_gained.ensures, imps-short c.in-Ok.imps.0 f)

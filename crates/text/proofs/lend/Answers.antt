@@ -1,4 +1,4 @@
--- `sheet_text::whole::lend` meets its contract. Assumes nothing.
+-- `text::lend` meets its contract. Assumes nothing.
 use Rattle.text.proofs.Puts.{too_short, copied}
 use Rattle.text.proofs.lend.Goals as goal
 
@@ -9,5 +9,5 @@ returns-then-out-n c =
 
 pub returns : goal.returns
 returns c =
-    let s = copied _ _ _ _ c.if-out-n.false c.put_bytes.ensures in
-    record { answer = s.0; bytes = s.1 }
+    let s = copied c.args.text.now c.args.out.now c.if-out-n.false in
+    record { answer = s.0; bytes = rw c.copy_from_slice.ensures.after s.1 }

@@ -6,5 +6,5 @@ use Rattle.text.proofs.put_pair.Goals as goal
 pub returns : goal.returns
 unfolding refusal_line
 returns c =
-    then (then c.put_decimal-next.ensures
+    then (then (rw c.from.ensures at c.put_decimal-next.ensures)
     c.put_field-end.ensures) c.put_byte.ensures

@@ -5,4 +5,4 @@ use Rattle.text.proofs.put_refused.Goals as goal
 pub returns : goal.returns
 returns c =
     then (then c.put_bytes-number.ensures
-    c.put_decimal-end.ensures) c.put_byte.ensures
+    (rw c.from.ensures at c.put_decimal-end.ensures)) c.put_byte.ensures

@@ -1,9 +1,9 @@
 -- `transfer::available` meets its contract: the tricks won, and those claimed. Assumes nothing.
-use Prim.Native.Nat.{ℕ, ◌≤◌, ◌<◌, ◌+◌, ◌-◌, ◌*◌, ◌/◌, ◌%◌, min}
-use mathlib.Core.Path.{◌≡◌, refl, sym, ap, ◌∙◌}
+use Prim.Native.Nat.{◌-◌, ◌/◌, ◌%◌}
+use mathlib.Core.Path.{◌≡◌}
 use native.Mathlib.Omega.{arith}
 use borrow.Author.Rules.{rules}
-use lib.ListN.{length, get_or, drop}
+use lib.ListN.{length}
 use Rattle.laws.specs.Law64.{won_from}
 use Rattle.laws.proofs.Padded.{length_under}
 use Rattle.transfer.proofs.Counting.{won_bound, claimed_bound}

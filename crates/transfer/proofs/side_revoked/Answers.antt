@@ -1,43 +1,18 @@
--- `transfer::side_revoked` meets its contract: what is left to find is what the whole has. Assumes nothing.
-use Rattle.transfer.proofs.Lists.{side_at, side_end}
-use Prim.Native.Nat.{ℕ, ◌≤◌, ◌<◌, ◌+◌, ◌-◌, ◌*◌, ◌/◌, ◌%◌, min}
-use mathlib.Core.Path.{◌≡◌, refl, sym, ap, ◌∙◌}
-use native.Mathlib.Omega.{arith}
-use borrow.Author.Rules.{rules}
-use borrow.Author.Tests.{eq-eqb, ne_eqb}
-use lib.ListN.{length, get_or, drop}
-use native.Mathlib.Numerals.{add-one}
-use Rattle.laws.specs.Law64.{side_revoked}
-use Rattle.transfer.specs.Inputs.{revokes_in}
-use Rattle.transfer.proofs.Lists.{next-revoke, revokes_end, side_none, side_next}
+-- `transfer::side_revoked` meets its contract. Assumes nothing.
+use Rattle.std.proofs.Common.{◌≡◌, ℕ, ◌/◌, ◌%◌, eqb, length, take, rules, ap, ◌∙◌}
+use borrow.Author.Tests.{tests}
+use Rattle.std.specs.List.{list_any}
+use Rattle.std.proofs.lemmas.Iterator.{YieldsList-from_slice}
+use Rattle.std.proofs.lemmas.Iterator.Search.{any_from_yields_List}
+use Rattle.transfer.proofs.Lists.{side-listed}
 use Rattle.transfer.proofs.side_revoked.Goals as goal
-
-pub loop-i-init : goal.loop-i-init
-loop-i-init c = (c.at_most-end.ensures, refl)
-
-pub returns-then-rs-i : goal.returns-then-rs-i
-returns-then-rs-i c =
-    let l = c.loop-i in
-    let rs = c.args.rs in
-    let n : length rs.list ≡ 48 = search rules in
-    let f : length rs.excused ≡ 48 = search rules in
-    sym (l.invariant.1 ∙ side_at rs n f c.args.side l.i (omega arith) ∙ rw (eq-eqb (get_or rs.list l.i 0 / 4 % 2) c.args.side c.if-rs-i.true))
-
-pub loop-i-preserved : goal.loop-i-preserved
-loop-i-preserved c =
-    let l = c.loop-i in
-    let rs = c.args.rs in
-    let n : length rs.list ≡ 48 = search rules in
-    let f : length rs.excused ≡ 48 = search rules in (
-      l.invariant.0,
-      l.invariant.1 ∙ side_at rs n f c.args.side l.i (omega arith)
-          ∙ rw (ne_eqb (get_or rs.list l.i 0 / 4 % 2) c.args.side c.if-rs-i.false),
-    )
 
 pub returns : goal.returns
 returns c =
-    let l = c.loop-i in
     let rs = c.args.rs in
     let n : length rs.list ≡ 48 = search rules in
     let f : length rs.excused ≡ 48 = search rules in
-    sym (l.invariant.1 ∙ side_end rs n f c.args.side l.i (omega arith))
+    any_from_yields_List (λ (b : ℕ). eqb (b / 4 % 2) c.args.side) _ _ c.any.result c.any.ensures.ran
+    (YieldsList-from_slice _ c.iter.ensures.rest) (λ x b q k. search (rules, tests))
+    ∙ ap (λ k. list_any (λ (b : ℕ). eqb (b / 4 % 2) c.args.side) (take k rs.list)) c.min-count.ensures
+    ∙ side-listed rs n f c.args.side

@@ -1,11 +1,10 @@
 -- `transfer::total` meets its contract. The loop goes from the last revoke to the first: the sum is the count from `i` on, at most two for each
 -- revoke. Assumes nothing.
-use Prim.Native.Nat.{ℕ, ◌≤◌, ◌<◌, ◌+◌, ◌-◌, ◌*◌, ◌/◌, ◌%◌, min}
-use mathlib.Core.Path.{◌≡◌, refl, sym, ap, ◌∙◌}
+use Prim.Native.Nat.{◌≤◌}
+use mathlib.Core.Path.{◌≡◌, sym, ◌∙◌}
 use native.Mathlib.Omega.{arith}
 use borrow.Author.Rules.{rules}
-use lib.ListN.{length, get_or, drop}
-use Rattle.transfer.specs.Inputs.{total_from}
+use lib.ListN.{length}
 use Rattle.transfer.proofs.Counting.{total_end, total-before, due_bound, dummy_is}
 use Rattle.transfer.proofs.total.Goals as goal
 
@@ -13,9 +12,9 @@ pub loop-i-init : goal.loop-i-init
 loop-i-init c =
     let n : length c.args.rs.list ≡ 48 = search rules in
     let f : length c.args.rs.excused ≡ 48 = search rules in
-    let e = c.at_most-i.ensures in
+    let e = c.min-i.ensures in
     let a = c.args in
-    (omega arith, omega arith, sym (total_end a.rs a.ts a.declarer a.claim a.left n f c.at_most-i.result (omega arith)))
+    (omega arith, omega arith, sym (total_end a.rs a.ts a.declarer a.claim a.left n f c.min-i.result (omega arith)))
 
 pub overflow_add-sum : goal.overflow_add-sum
 overflow_add-sum c =
@@ -28,7 +27,7 @@ loop-i-preserved c =
     let n : length c.args.rs.list ≡ 48 = search rules in
     let f : length c.args.rs.excused ≡ 48 = search rules in
     let two : c.entitled-due.result ≤ 2 = due_bound _ _ _ _ _ c.entitled-due.ensures in
-    let sum = c.at_most-sum.ensures in (
+    let sum = c.min-sum.ensures in (
       omega arith,
       omega arith,
       let a = c.args in

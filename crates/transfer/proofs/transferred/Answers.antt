@@ -1,7 +1,6 @@
 -- `transfer::transferred` meets its contract. Assumes nothing.
-use mathlib.Core.Path.{◌≡◌, refl, sym, ap, ◌∙◌}
-use borrow.Author.Rules.{rules}
-use Rattle.laws.specs.Law64.{transferred_tricks, dues}
+use mathlib.Core.Path.{sym, ◌∙◌}
+use Rattle.laws.specs.Law64.{transferred_tricks}
 use Rattle.transfer.specs.Inputs.{transferred_in, total_from, earlier}
 use Rattle.transfer.proofs.transferred.Goals as goal
 

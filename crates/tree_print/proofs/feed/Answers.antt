@@ -1,11 +1,10 @@
 -- `tree_print::feed` meets its contract. Assumes nothing.
-use native.Mathlib.Omega.{arith}
-use mathlib.Core.Path.{sym, ◌∙◌}
+use Rattle.std.proofs.Common.{sym, ◌∙◌}
 use Rattle.tree_print.proofs.Feeding.{fed_more, fed_all}
 use Rattle.tree_print.proofs.feed.Goals as goal
 
-pub loop-i-preserved : goal.loop-i-preserved
-loop-i-preserved g c = (omega arith, c.loop-i.invariant.1 ∙ rw c.take-fed.ensures (fed_more _ _ _ c.loop-i-test.true))
+pub loop-b-preserved : goal.loop-b-preserved
+loop-b-preserved g c = c.loop-b.invariant ∙ rw c.take-fed.ensures (fed_more _ _ _ c.loop-b-test.true)
 
 pub returns : goal.returns
-returns g c = fed_all _ _ _ c.loop-i-test.false ∙ sym c.loop-i.invariant.1
+returns g c = fed_all _ _ _ c.loop-b-test.false ∙ sym c.loop-b.invariant

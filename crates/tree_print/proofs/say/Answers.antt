@@ -3,7 +3,7 @@ use Rattle.text.proofs.Puts.{written-prefix, written-length}
 use Rattle.tree_print.proofs.say.Goals as goal
 
 pub slice_bounds-text-end : goal.slice_bounds-text-end
-slice_bounds-text-end g c = written-prefix _ _ _ _ _ c.write_said.ensures.answer c.write_said.ensures.bytes c.in-Written.is
+slice_bounds-text-end g c = written-prefix _ _ _ _ _ c.write_said.ensures.answer c.write_said.ensures.bytes c.in-Some.is
 
 pub slice_bounds-write_all-end : goal.slice_bounds-write_all-end
-slice_bounds-write_all-end g c = written-length _ _ _ _ _ c.write_said.ensures.answer c.write_said.ensures.bytes c.in-Written.is
+slice_bounds-write_all-end g c = written-length _ _ _ _ _ c.write_said.ensures.answer c.write_said.ensures.bytes c.in-Some.is

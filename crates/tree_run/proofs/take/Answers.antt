@@ -14,4 +14,4 @@ returns-then-b-eq10 c = c.line_done.ensures ∙ rw (c.if-run.false, eq-eqb _ _ c
 
 pub returns : goal.returns
 unfolding taken_byte
-returns c = c.silent-2.ensures ∙ rw (c.with_byte-longer.ensures, c.if-run.false, ne_eqb _ _ c.if-b-eq10.false)
+returns c = c.silent-2.ensures ∙ rw (c.with_byte.ensures, c.if-run.false, ne_eqb _ _ c.if-b-eq10.false)

@@ -1,16 +1,15 @@
 -- `tree_run::top` meets its contract. Assumes nothing.
-use mathlib.Core.Path.{◌∙◌}
 use Rattle.tree_stack.proofs.Steps.{few, many, enough}
 use Rattle.tree_run.specs.Runs.{top_of}
 use Rattle.tree_run.proofs.top.Goals as goal
 
 pub returns-then-n-lt1 : goal.returns-then-n-lt1
 unfolding top_of
-returns-then-n-lt1 c = c.no_tally.ensures ∙ rw (few c.args.s 1 c.if-n-lt1.true)
+returns-then-n-lt1 c = rw (few c.args.s 1 c.if-n-lt1.true)
 
 pub returns-then-n-gt16 : goal.returns-then-n-gt16
 unfolding top_of
-returns-then-n-gt16 c = c.no_tally-then-n-gt16.ensures ∙ rw (many c.args.s 1 c.if-n-gt16.true)
+returns-then-n-gt16 c = rw (many c.args.s 1 c.if-n-gt16.true)
 
 pub returns : goal.returns
 unfolding top_of

@@ -10,5 +10,5 @@ returns-in_default c = rw (no_number_lem _ _ c.read_number.ensures c.in_default.
 pub returns : goal.returns
 unfolding fresh_on
 returns c =
-    let n = is-number _ _ _ c.read_number.ensures c.in-Is.is in
+    let n = is-number _ _ _ c.read_number.ensures c.in-Some.is in
     rw (c.board_in.ensures, n.0, n.1)

@@ -6,18 +6,24 @@ use Rattle.decimal.proofs.Scores.{rest-is}
 use Rattle.tree_script.proofs.Lines.{prefix-length}
 use Rattle.tree_script.proofs.read_call.Goals as goal
 
-pub slice_bounds-cell_on-count : goal.slice_bounds-cell_on-count
-slice_bounds-cell_on-count c = prefix-length cell_word _ (sym c.starts.ensures ∙ c.if-starts.true)
+pub slice_bounds-given_on-count : goal.slice_bounds-given_on-count
+slice_bounds-given_on-count c = prefix-length cell_word _ (sym c.starts.ensures ∙ c.if-starts.true)
 
-pub slice_bounds-cell_on-start : goal.slice_bounds-cell_on-start
-slice_bounds-cell_on-start c = prefix-length cell_word _ (sym c.starts.ensures ∙ c.if-starts.true)
+pub slice_bounds-given_on-start : goal.slice_bounds-given_on-start
+slice_bounds-given_on-start c = prefix-length cell_word _ (sym c.starts.ensures ∙ c.if-starts.true)
+
+pub returns-in_err-given : goal.returns-in_err-given
+unfolding call_on
+returns-in_err-given c =
+    let s = c.args.line.now in
+    c.from_residual.ensures
+    ∙ (ap (with_given Cell) (c.in_err-given.ensures ∙ ap given_on (rest-is 5 s)) ∙ rw (sym c.starts.ensures ∙ c.if-starts.true))
 
 pub returns-then-starts : goal.returns-then-starts
 unfolding call_on
 returns-then-starts c =
     let s = c.args.line.now in
-    c.cell_on.ensures ∙ ap (λ (l : _). with_given Cell (given_on l)) (rest-is 5 s)
-    ∙ rw (sym c.starts.ensures ∙ c.if-starts.true)
+    ap (with_given Cell) (c.in_ok-given.ensures ∙ ap given_on (rest-is 5 s)) ∙ rw (sym c.starts.ensures ∙ c.if-starts.true)
 
 pub slice_bounds-award_on-count : goal.slice_bounds-award_on-count
 slice_bounds-award_on-count c = prefix-length award_word _ (sym c.starts-2.ensures ∙ c.if-starts-2.true)

@@ -10,5 +10,5 @@ returns-in_default c = rw (← c.read_score.ensures, c.in_default.is)
 
 pub returns : goal.returns
 returns c =
-    let f : SFits w16 c.in-Of.s = search rules in
-    rw (← c.read_score.ensures, c.in-Of.is, to_z-of_z f)
+    let f : SFits w16 c.in-Some.score = search rules in
+    rw (← c.read_score.ensures, c.in-Some.is, to_z-of_z f)

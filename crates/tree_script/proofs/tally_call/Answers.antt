@@ -17,32 +17,44 @@ returns-then-starts c =
     let s = c.args.line.now in
     c.fresh_on.ensures ∙ ap fresh_on (rest-is 6 s) ∙ to-fresh s (sym c.starts.ensures ∙ c.if-starts.true)
 
-pub slice_bounds-add_on-count : goal.slice_bounds-add_on-count
-slice_bounds-add_on-count c = prefix-length add_word _ (sym c.starts-2.ensures ∙ c.if-starts-2.true)
+pub slice_bounds-given_on-count : goal.slice_bounds-given_on-count
+slice_bounds-given_on-count c = prefix-length add_word _ (sym c.starts-2.ensures ∙ c.if-starts-2.true)
 
-pub slice_bounds-add_on-start : goal.slice_bounds-add_on-start
-slice_bounds-add_on-start c = prefix-length add_word _ (sym c.starts-2.ensures ∙ c.if-starts-2.true)
+pub slice_bounds-given_on-start : goal.slice_bounds-given_on-start
+slice_bounds-given_on-start c = prefix-length add_word _ (sym c.starts-2.ensures ∙ c.if-starts-2.true)
+
+pub returns-in_err-given : goal.returns-in_err-given
+returns-in_err-given c =
+    let s = c.args.line.now in
+    c.from_residual.ensures
+    ∙ (ap (with_given Add) (c.in_err-given.ensures ∙ ap given_on (rest-is 4 s))
+    ∙ to-add s (sym c.starts.ensures ∙ c.if-starts.false) (sym c.starts-2.ensures ∙ c.if-starts-2.true))
 
 pub returns-then-starts-2 : goal.returns-then-starts-2
 returns-then-starts-2 c =
     let s = c.args.line.now in
-    c.add_on.ensures ∙ ap (λ (l : _). with_given Add (given_on l)) (rest-is 4 s) ∙ to-add s
-    (sym c.starts.ensures ∙ c.if-starts.false)
-    (sym c.starts-2.ensures ∙ c.if-starts-2.true)
+    ap (with_given Add) (c.in_ok-given.ensures ∙ ap given_on (rest-is 4 s))
+    ∙ to-add s (sym c.starts.ensures ∙ c.if-starts.false) (sym c.starts-2.ensures ∙ c.if-starts-2.true)
 
-pub slice_bounds-matchpoints_on-count : goal.slice_bounds-matchpoints_on-count
-slice_bounds-matchpoints_on-count c = prefix-length matchpoints_word _ (sym c.starts-3.ensures ∙ c.if-starts-3.true)
+pub slice_bounds-given_on-count-then-starts-3 : goal.slice_bounds-given_on-count-then-starts-3
+slice_bounds-given_on-count-then-starts-3 c = prefix-length matchpoints_word _ (sym c.starts-3.ensures ∙ c.if-starts-3.true)
 
-pub slice_bounds-matchpoints_on-start : goal.slice_bounds-matchpoints_on-start
-slice_bounds-matchpoints_on-start c = prefix-length matchpoints_word _ (sym c.starts-3.ensures ∙ c.if-starts-3.true)
+pub slice_bounds-given_on-start-then-starts-3 : goal.slice_bounds-given_on-start-then-starts-3
+slice_bounds-given_on-start-then-starts-3 c = prefix-length matchpoints_word _ (sym c.starts-3.ensures ∙ c.if-starts-3.true)
+
+pub returns-in_err-given-2 : goal.returns-in_err-given-2
+returns-in_err-given-2 c =
+    let s = c.args.line.now in
+    c.from_residual-in_err-given-2.ensures
+    ∙ (ap (with_given Matchpoints) (c.in_err-given-2.ensures ∙ ap given_on (rest-is 12 s))
+    ∙ to-matchpoints s (sym c.starts.ensures ∙ c.if-starts.false) (sym c.starts-2.ensures ∙ c.if-starts-2.false)
+    (sym c.starts-3.ensures ∙ c.if-starts-3.true))
 
 pub returns-then-starts-3 : goal.returns-then-starts-3
 returns-then-starts-3 c =
     let s = c.args.line.now in
-    c.matchpoints_on.ensures ∙ ap (λ (l : _). with_given Matchpoints (given_on l)) (rest-is 12 s)
-    ∙ to-matchpoints s (sym c.starts.ensures
-    ∙ c.if-starts.false)
-    (sym c.starts-2.ensures ∙ c.if-starts-2.false)
+    ap (with_given Matchpoints) (c.in_ok-given-2.ensures ∙ ap given_on (rest-is 12 s))
+    ∙ to-matchpoints s (sym c.starts.ensures ∙ c.if-starts.false) (sym c.starts-2.ensures ∙ c.if-starts-2.false)
     (sym c.starts-3.ensures ∙ c.if-starts-3.true)
 
 pub returns-then-line-ne5 : goal.returns-then-line-ne5

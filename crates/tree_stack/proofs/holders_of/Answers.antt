@@ -1,46 +1,31 @@
--- `tree_stack::holders_of` meets its contract, by its tests. Assumes nothing.
-use mathlib.Core.Path.{◌∙◌}
-use borrow.Author.Tests.{eq-eqb, ne_eqb}
+-- `tree_stack::holders_of` meets its contract, by the deal's number. Assumes nothing.
+use Rattle.std.proofs.Common.{arith}
+use borrow.Author.Tests.{ne_eqb}
 use Rattle.tree_stack.specs.Deals.{deal_numbered}
 use Rattle.tree_stack.proofs.holders_of.Goals as goal
 
-pub returns-then-deal-eq1 : goal.returns-then-deal-eq1
+pub returns-in-1 : goal.returns-in-1
 unfolding deal_numbered
-returns-then-deal-eq1 c = c.with_two.ensures ∙ rw (eq-eqb _ 1 c.if-deal-eq1.true)
+returns-in-1 c = rw c.in-1.is c.with_two.ensures
 
-pub returns-then-deal-eq2 : goal.returns-then-deal-eq2
+pub returns-in-2 : goal.returns-in-2
 unfolding deal_numbered
-returns-then-deal-eq2 c = c.with_two-then-deal-eq2.ensures ∙ rw (ne_eqb _ 1 c.if-deal-eq1.false, eq-eqb _ 2 c.if-deal-eq2.true)
+returns-in-2 c = rw c.in-2.is c.with_two-in-2.ensures
 
-pub returns-then-deal-eq3 : goal.returns-then-deal-eq3
+pub returns-in-3 : goal.returns-in-3
 unfolding deal_numbered
-returns-then-deal-eq3 c = c.with_two-then-deal-eq3.ensures ∙ rw (ne_eqb _ 1 c.if-deal-eq1.false, ne_eqb _ 2 c.if-deal-eq2.false, eq-eqb _ 3 c.if-deal-eq3.true)
+returns-in-3 c = rw c.in-3.is c.with_two-in-3.ensures
 
-pub returns-then-deal-eq4 : goal.returns-then-deal-eq4
+pub returns-in-4 : goal.returns-in-4
 unfolding deal_numbered
-returns-then-deal-eq4 c =
-    c.with_two-then-deal-eq4.ensures
-    ∙ rw (ne_eqb _ 1 c.if-deal-eq1.false, ne_eqb _ 2 c.if-deal-eq2.false, ne_eqb _ 3 c.if-deal-eq3.false, eq-eqb _ 4 c.if-deal-eq4.true)
+returns-in-4 c = rw c.in-4.is c.with_two-in-4.ensures
 
-pub returns-then-deal-eq5 : goal.returns-then-deal-eq5
+pub returns-in-5 : goal.returns-in-5
 unfolding deal_numbered
-returns-then-deal-eq5 c =
-    c.with_two-then-deal-eq5.ensures
-    ∙ rw (
-      ne_eqb _ 1 c.if-deal-eq1.false,
-      ne_eqb _ 2 c.if-deal-eq2.false,
-      ne_eqb _ 3 c.if-deal-eq3.false,
-      ne_eqb _ 4 c.if-deal-eq4.false,
-      eq-eqb _ 5 c.if-deal-eq5.true,
-    )
+returns-in-5 c = rw c.in-5.is c.with_two-in-5.ensures
 
-pub returns : goal.returns
+pub returns-in_default : goal.returns-in_default
 unfolding deal_numbered
-returns c =
-    rw (
-      ne_eqb _ 1 c.if-deal-eq1.false,
-      ne_eqb _ 2 c.if-deal-eq2.false,
-      ne_eqb _ 3 c.if-deal-eq3.false,
-      ne_eqb _ 4 c.if-deal-eq4.false,
-      ne_eqb _ 5 c.if-deal-eq5.false,
-    )
+returns-in_default c =
+    let d = c.args.deal in
+    rw (ne_eqb d 1 (λ e. omega arith), ne_eqb d 2 (λ e. omega arith), ne_eqb d 3 (λ e. omega arith), ne_eqb d 4 (λ e. omega arith), ne_eqb d 5 (λ e. omega arith))

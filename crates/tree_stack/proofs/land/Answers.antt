@@ -1,12 +1,17 @@
--- `tree_stack::land` meets its contract. Assumes nothing.
-use borrow.Author.Tests.{eq-eqb, ne_eqb}
+-- `tree_stack::land` meets its contract, by whether a tally was made. Assumes nothing.
+use borrow.Author.Tests.{ne_eqb}
+use Rattle.laws.specs.Refused.{number}
+use Rattle.laws.proofs.RefusalNumbers.{number_not_none}
+use Rattle.laws.proofs.NamedBack.{named_at_back}
 use Rattle.tree_stack.specs.Stacks.{landed}
 use Rattle.tree_stack.proofs.land.Goals as goal
 
-pub returns-then-refusal-ne-ACCEPTED : goal.returns-then-refusal-ne-ACCEPTED
+pub returns-in-Ok : goal.returns-in-Ok
 unfolding landed
-returns-then-refusal-ne-ACCEPTED c = rw (ne_eqb _ _ c.if-refusal-ne-ACCEPTED.true)
+returns-in-Ok c = rw c.in-Ok.is
 
-pub returns : goal.returns
+pub returns-in-Err : goal.returns-in-Err
 unfolding landed
-returns c = rw (eq-eqb _ _ c.if-refusal-ne-ACCEPTED.false)
+returns-in-Err c =
+    let e = c.in-Err.refused in
+    rw (c.in-Err.is, ne_eqb (number e.refusal) 0 (number_not_none e.refusal), named_at_back e)

@@ -1,61 +1,55 @@
 -- `write_record` meets its contract: a law of Records for each way out. Assumes nothing.
-use mathlib.Core.Path.{◌≡◌, ◌∙◌}
-use mathlib.Core.List.{[]}
-use native.Mathlib.Omega.{arith}
-use lib.ListN.{length}
-use Rattle.laws.specs.Record.{Parts, bits, encode}
-use Rattle.laws.specs.Contents.{Given}
+use Rattle.std.proofs.Common.{◌≡◌, ◌∙◌, [], length, arith}
+use Rattle.std.proofs.lemmas.Result.{err_from_is_err_and}
+use Rattle.laws.specs.Record.{encode}
 use Rattle.contents.specs.Given.{given}
-use Rattle.writer.specs.Fields.{parts_of, fields_of}
+use Rattle.writer.specs.Fields.{parts_of}
 use Rattle.writer.proofs.Records.{record_refused, fits, none-broken, plays-low, bits-low, length-low, record_short, record_written, size_is}
-use borrow.Author.Rules.{rules}
-use Rattle.writer.proofs.write_record.Goals.{After-contents_refusal-number, After-length_of-size, After-play_bits, Start}
 use Rattle.writer.proofs.write_record.Goals as goal
 
-pub returns-then-number-ne0 : goal.returns-then-number-ne0
-returns-then-number-ne0 c = record { number = (record_refused ((let a = c.args in given a.board a.table a.holders.now a.calls.now a.plays.now a.marked a.claim)) _ _ c.contents_refusal-number.ensures c.if-number-ne0.true).0; left = (record_refused ((let a = c.args in given a.board a.table a.holders.now a.calls.now a.plays.now a.marked a.claim)) _ _ c.contents_refusal-number.ensures c.if-number-ne0.true).1 }
+pub returns-in_err-check_contents-clause-answer : goal.returns-in_err-check_contents-clause-answer
+returns-in_err-check_contents-clause-answer c =
+    let a = c.args in
+    let p = err_from_is_err_and c.from_residual.result c.from_residual.ensures.1 in
+    rw (p.1, p.2) (record_refused (given a.board a.table a.holders.now a.calls.now a.plays.now a.marked a.claim) a.out.now c.in_err-check_contents.ensures).0
+
+pub returns-in_err-check_contents-clause-left : goal.returns-in_err-check_contents-clause-left
+returns-in_err-check_contents-clause-left c =
+    let a = c.args in
+    (record_refused (given a.board a.table a.holders.now a.calls.now a.plays.now a.marked a.claim) a.out.now c.in_err-check_contents.ensures).1
 
 pub play_bits-requires : goal.play_bits-requires
 play_bits-requires c =
-    let k = (let a = c.args in given a.board a.table a.holders.now a.calls.now a.plays.now a.marked a.claim) in
-    (none-broken k [] _ c.contents_refusal-number.ensures c.if-number-ne0.false, plays-low k [] _ c.contents_refusal-number.ensures c.if-number-ne0.false)
+    let a = c.args in
+    let k = (given a.board a.table a.holders.now a.calls.now a.plays.now a.marked a.claim) in
+    record { whole = none-broken k [] c.in_ok-check_contents.ensures; few = plays-low k [] c.in_ok-check_contents.ensures }
 
 pub length_of-size-requires : goal.length_of-size-requires
-length_of-size-requires c = rw ((c.play_bits.ensures)) (bits-low ((let a = c.args in given a.board a.table a.holders.now a.calls.now a.plays.now a.marked a.claim)) [] _ c.contents_refusal-number.ensures c.if-number-ne0.false)
+length_of-size-requires c =
+    let a = c.args in
+    rw c.play_bits.ensures (bits-low (given a.board a.table a.holders.now a.calls.now a.plays.now a.marked a.claim) [] c.in_ok-check_contents.ensures)
 
 pub returns-then-out-size : goal.returns-then-out-size
 returns-then-out-size c =
-    let s = record_short ((let a = c.args in given a.board a.table a.holders.now a.calls.now a.plays.now a.marked a.claim)) _ _ c.contents_refusal-number.ensures c.if-number-ne0.false _ ((let h : c.length_of-size.result ≡ length (encode ((let a = c.args in parts_of a.board a.table a.holders.now a.calls.now a.plays.now a.marked a.claim))) = let a = c.args in
+    let a = c.args in
+    let k = (given a.board a.table a.holders.now a.calls.now a.plays.now a.marked a.claim) in
+    let size : c.length_of-size.result ≡ length (encode (parts_of a.board a.table a.holders.now a.calls.now a.plays.now a.marked a.claim)) =
     c.length_of-size.ensures
-    ∙ rw ((c.play_bits.ensures)) (size_is a.board a.table a.holders.now a.calls.now a.plays.now a.marked a.claim
-    (fits ((let a = c.args in given a.board a.table a.holders.now a.calls.now a.plays.now a.marked a.claim)) [] _ c.contents_refusal-number.ensures c.if-number-ne0.false)) in h)) c.if-out-size.true in
-    record { number = c.refusal_number.ensures ∙ s.0; left = s.1 }
+    ∙ rw c.play_bits.ensures (size_is a.board a.table a.holders.now a.calls.now a.plays.now a.marked a.claim (fits k [] c.in_ok-check_contents.ensures)) in
+    let s = record_short k a.out.now c.in_ok-check_contents.ensures _ size c.if-out-size.true in
+    record { answer = rw c.at.ensures s.0; most = tt; left = s.1 }
 
 pub write_contents-requires : goal.write_contents-requires
-write_contents-requires c = none-broken ((let a = c.args in given a.board a.table a.holders.now a.calls.now a.plays.now a.marked a.claim)) [] _ c.contents_refusal-number.ensures c.if-number-ne0.false
-
-pub overflow_cast-result : goal.overflow_cast-result
-overflow_cast-result c =
-    omega (
-      arith,
-      (let h : c.length_of-size.result ≡ length (encode ((let a = c.args in parts_of a.board a.table a.holders.now a.calls.now a.plays.now a.marked a.claim))) = let a = c.args in
-          c.length_of-size.ensures
-          ∙ rw ((c.play_bits.ensures)) (size_is a.board a.table a.holders.now a.calls.now a.plays.now a.marked a.claim
-          (fits ((let a = c.args in given a.board a.table a.holders.now a.calls.now a.plays.now a.marked a.claim)) [] _ c.contents_refusal-number.ensures c.if-number-ne0.false)) in h),
-      length-low ((let a = c.args in given a.board a.table a.holders.now a.calls.now a.plays.now a.marked a.claim)) [] _ c.contents_refusal-number.ensures c.if-number-ne0.false,
-    )
+write_contents-requires c =
+    let a = c.args in
+    none-broken (given a.board a.table a.holders.now a.calls.now a.plays.now a.marked a.claim) [] c.in_ok-check_contents.ensures
 
 pub returns : goal.returns
 returns c =
-    record {
-      number = (record_written ((let a = c.args in given a.board a.table a.holders.now a.calls.now a.plays.now a.marked a.claim)) _ _ c.contents_refusal-number.ensures c.if-number-ne0.false _ ((let h : c.length_of-size.result ≡ length (encode ((let a = c.args in parts_of a.board a.table a.holders.now a.calls.now a.plays.now a.marked a.claim))) = let a = c.args in
-          c.length_of-size.ensures
-          ∙ rw ((c.play_bits.ensures)) (size_is a.board a.table a.holders.now a.calls.now a.plays.now a.marked a.claim
-          (fits ((let a = c.args in given a.board a.table a.holders.now a.calls.now a.plays.now a.marked a.claim)) [] _ c.contents_refusal-number.ensures c.if-number-ne0.false)) in h)) c.if-out-size.false _
-          c.write_contents.ensures).0;
-      left = (record_written ((let a = c.args in given a.board a.table a.holders.now a.calls.now a.plays.now a.marked a.claim)) _ _ c.contents_refusal-number.ensures c.if-number-ne0.false _ ((let h : c.length_of-size.result ≡ length (encode ((let a = c.args in parts_of a.board a.table a.holders.now a.calls.now a.plays.now a.marked a.claim))) = let a = c.args in
-          c.length_of-size.ensures
-          ∙ rw ((c.play_bits.ensures)) (size_is a.board a.table a.holders.now a.calls.now a.plays.now a.marked a.claim
-          (fits ((let a = c.args in given a.board a.table a.holders.now a.calls.now a.plays.now a.marked a.claim)) [] _ c.contents_refusal-number.ensures c.if-number-ne0.false)) in h)) c.if-out-size.false _
-          c.write_contents.ensures).1;
-    }
+    let a = c.args in
+    let k = (given a.board a.table a.holders.now a.calls.now a.plays.now a.marked a.claim) in
+    let size : c.length_of-size.result ≡ length (encode (parts_of a.board a.table a.holders.now a.calls.now a.plays.now a.marked a.claim)) =
+    c.length_of-size.ensures
+    ∙ rw c.play_bits.ensures (size_is a.board a.table a.holders.now a.calls.now a.plays.now a.marked a.claim (fits k [] c.in_ok-check_contents.ensures)) in
+    let s = record_written k a.out.now c.in_ok-check_contents.ensures _ size c.if-out-size.false _ c.write_contents.ensures in
+    record { answer = s.0; most = omega (arith, size, length-low k [] c.in_ok-check_contents.ensures); left = s.1 }

@@ -10,7 +10,7 @@ returns-then-code-eq-MARK c = marked _ _ c.if-code-eq-MARK.true
 
 pub returns-then-code-eq0 : goal.returns-then-code-eq0
 unfolding after_call
-returns-then-code-eq0 c = simp (c.next_seat.ensures, c.one_less.ensures, c.if-code-eq0.true)
+returns-then-code-eq0 c = simp (c.next_seat.ensures, c.saturating_sub.ensures, c.if-code-eq0.true)
 
 pub returns-then-code-lt3 : goal.returns-then-code-lt3
 returns-then-code-lt3 c = doubled _ _ (search rules) (search rules) c.next_seat.ensures c.passes_to_end.ensures c.doubled.ensures

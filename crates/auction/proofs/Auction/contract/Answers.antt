@@ -1,7 +1,6 @@
 -- `Auction::contract` meets its contract. Assumes nothing.
 use Prim.Native.Nat.{ℕ, ◌+◌, ◌-◌, ◌*◌, ◌/◌, ◌%◌}
 use mathlib.Core.Path.{◌≡◌}
-use borrow.Author.Rules.{rules}
 use Rattle.laws.specs.Auction.{level_of, strain_of}
 use Rattle.auction.specs.declared.Auction.{Auction}
 use Rattle.auction.specs.Position.{first_place, seat_at}
@@ -15,4 +14,4 @@ unfolding contract_of level_of strain_of first_place
 told a e f = rw (f, e)
 
 pub returns : goal.returns
-returns c = told _ c.above_club-above.ensures c.seat_at-first.ensures
+returns c = told _ c.saturating_sub-above.ensures c.seat_at-first.ensures

@@ -1,5 +1,4 @@
 -- `Auction::may_double` meets its contract. Assumes nothing.
-use native.Mathlib.Omega.{arith}
 use borrow.Author.Rules.{rules}
 use Rattle.auction.proofs.Steps.{may_stand, may_not}
 use Rattle.auction.proofs.Auction.may_double.Goals as goal

@@ -1,26 +1,20 @@
 -- `take_calls` meets its contract: a law of Called for each way out. Assumes nothing.
-use mathlib.Core.Path.{sym, ◌∙◌}
-use borrow.Author.Tests.{not-true, not-false}
+use Rattle.std.proofs.Common.{sym, ◌∙◌}
+use Rattle.std.proofs.lemmas.Result.{err_from_is_err_and}
 use Rattle.contents.proofs.Called.{calls-many, calls-stopped, calls_open, calls-over}
-use borrow.Author.Rules.{rules}
 use Rattle.contents.proofs.calls.take_calls.Goals as goal
 
 pub returns-then-calls-gt511 : goal.returns-then-calls-gt511
-returns-then-calls-gt511 c = c.no_calls.ensures ∙ calls-many _ _ c.if-calls-gt511.true
+returns-then-calls-gt511 c = rw c.at.ensures (calls-many _ _ c.if-calls-gt511.true)
 
-pub take_each_call-called-requires : goal.take_each_call-called-requires
-take_each_call-called-requires c = c.if-calls-gt511.false
-
-pub returns-then-called-ne0 : goal.returns-then-called-ne0
-returns-then-called-ne0 c = calls-stopped _ _ c.if-calls-gt511.false _ c.take_each_call-called.ensures c.if-called-ne0.true
+pub returns-in_err-after : goal.returns-in_err-after
+returns-in_err-after c =
+    let p = err_from_is_err_and c.from_residual.result c.from_residual.ensures.1 in
+    rw (p.1, p.2) (calls-stopped _ _ c.if-calls-gt511.false c.in_err-after.ensures)
 
 pub returns-then-not-is_over : goal.returns-then-not-is_over
 returns-then-not-is_over c =
-    c.no_calls-then-not-is_over.ensures
-    ∙ calls_open _ _ c.if-calls-gt511.false _ c.take_each_call-called.ensures c.if-called-ne0.false
-    (sym c.is_over.ensures ∙ c.if-not-is_over.true)
+    rw c.at-then-not-is_over.ensures (calls_open _ _ c.if-calls-gt511.false c.in_ok-after.ensures (sym c.is_over.ensures ∙ c.if-not-is_over.true))
 
 pub returns : goal.returns
-returns c =
-    calls-over _ _ c.if-calls-gt511.false _ c.take_each_call-called.ensures c.if-called-ne0.false
-    (sym c.is_over.ensures ∙ c.if-not-is_over.false)
+returns c = calls-over _ _ c.if-calls-gt511.false c.in_ok-after.ensures (sym c.is_over.ensures ∙ c.if-not-is_over.false)

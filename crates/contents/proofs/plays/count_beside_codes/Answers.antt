@@ -1,10 +1,7 @@
 -- `count_beside_codes` meets its contract: the cards so far and those to come are all of them. Assumes nothing.
-use Prim.Native.Nat.{ℕ, ◌≤◌, ◌<◌, ◌+◌, ◌-◌, ◌*◌}
-use mathlib.Core.Path.{◌≡◌, refl, sym, ap, ◌∙◌}
+use mathlib.Core.Path.{sym, ◌∙◌}
 use native.Mathlib.Omega.{arith}
-use borrow.Author.Rules.{rules}
-use lib.ListN.{length, get_or}
-use Rattle.contents.proofs.Items.{Counted, count-begins, count_ends, count-card, count_code}
+use Rattle.contents.proofs.Items.{count-begins, count_ends, count-card, count_code}
 use Rattle.contents.proofs.plays.count_beside_codes.Goals as goal
 
 pub loop-i-init : goal.loop-i-init

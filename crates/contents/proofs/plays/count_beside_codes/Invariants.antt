@@ -1,10 +1,7 @@
 -- `count_beside_codes` meets its contract: the cards so far and those to come are all of them. Assumes nothing.
-use Prim.Native.Nat.{ℕ, ◌≤◌, ◌<◌, ◌+◌, ◌-◌, ◌*◌}
-use mathlib.Core.Path.{◌≡◌, refl, sym, ap, ◌∙◌}
-use native.Mathlib.Omega.{arith}
-use borrow.Author.Rules.{rules}
-use lib.ListN.{length, get_or}
-use Rattle.contents.proofs.Items.{Counted, count-begins, count_ends, count-card, count_code}
+use Prim.Native.Nat.{◌≤◌, ◌+◌, ◌-◌}
+use lib.ListN.{length}
+use Rattle.contents.proofs.Items.{Counted}
 use Rattle.contents.proofs.plays.count_beside_codes.Given as goal
 
 abbrev pub invariant-loop-i : goal.invariant-loop-i

@@ -1,6 +1,5 @@
 -- `count_cards` meets its contract: without a code each number is a card. Assumes nothing.
 use mathlib.Core.Path.{sym, ◌∙◌}
-use borrow.Author.Rules.{rules}
 use Rattle.laws.proofs.FlatPlay.{cards-alone}
 use Rattle.contents.proofs.plays.count_cards.Goals as goal
 

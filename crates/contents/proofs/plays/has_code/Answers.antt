@@ -1,21 +1,12 @@
--- `has_code` meets its contract: after i turns it is known whether one of the first i numbers begins a code. Assumes nothing.
-use Prim.Native.Nat.{◌≤◌, ◌-◌}
-use mathlib.Core.Path.{◌≡◌, refl}
-use native.Mathlib.Omega.{arith}
-use borrow.Author.Rules.{rules}
-use lib.ListN.{length, take}
+-- `has_code` meets its contract: a number more is looked at. Assumes nothing.
+use Rattle.std.proofs.Common.{refl, sym}
 use Rattle.laws.specs.Choice.{some}
-use Rattle.laws.specs.Events.{begins_code}
-use Rattle.play.specs.Words.{bit_of}
-use Rattle.contents.proofs.CodesSeen.{seen_more, seen_all}
+use Rattle.contents.proofs.CodesSeen.{seen_more}
 use Rattle.contents.proofs.plays.has_code.Goals as goal
 
-pub loop-i-init : goal.loop-i-init
+pub loop-number-init : goal.loop-number-init
 unfolding some
-loop-i-init c = (omega arith, refl)
+loop-number-init c = refl
 
-pub loop-i-preserved : goal.loop-i-preserved
-loop-i-preserved c = (omega (arith, c.loop-i-test.true), seen_more _ _ c.loop-i-test.true c.loop-i.invariant.1 c.code_bit-seen.ensures)
-
-pub returns : goal.returns
-returns c = seen_all _ _ c.loop-i.invariant.0 (omega arith) c.loop-i.invariant.1
+pub loop-number-preserved : goal.loop-number-preserved
+loop-number-preserved c = rw (c.loop-number.invariant, c.begins_code-seen.ensures) (sym (seen_more _ _ c.loop-number-test.true))

@@ -1,24 +1,15 @@
--- `take_run` meets its contract: the run from a turn on is the run in all. Assumes nothing.
-use Prim.Native.Nat.{◌≤◌, ◌-◌}
-use mathlib.Core.Path.{◌≡◌, refl, ◌∙◌}
-use native.Mathlib.Omega.{arith}
-use borrow.Author.Rules.{rules}
-use Rattle.contents.specs.Checked.{run_of}
-use Rattle.contents.proofs.RunTurns.{run_stops, run_goes, run_ends}
+-- `take_run` meets its contract: a card more, or the one that stops. Assumes nothing.
+use Rattle.contents.proofs.RunTurns.{running-begins, running-goes, running-stops, running-ends}
 use Rattle.contents.proofs.runs.take_run.Goals as goal
 
-pub loop-i-init : goal.loop-i-init
-loop-i-init c = (omega arith, refl)
+pub loop-place-init : goal.loop-place-init
+loop-place-init c = running-begins _ _
 
-pub returns-then-f-ne0 : goal.returns-then-f-ne0
-returns-then-f-ne0 c = run_stops _ _ _ c.refusal-f.ensures _ (omega (arith, c.loop-i-test.true)) c.if-f-ne0.true ∙ c.loop-i.invariant.1
+pub returns-in-Err : goal.returns-in-Err
+returns-in-Err c = running-stops _ _ c.loop-place.invariant c.loop-place-test.true c.in-Err.ensures
 
-pub loop-i-preserved : goal.loop-i-preserved
-loop-i-preserved c =
-    let more = c.loop-i-test.true in (
-      omega (arith, more),
-      run_goes _ _ _ c.refusal-f.ensures _ _ (omega (arith, more)) c.if-f-ne0.false c.play-p.ensures ∙ c.loop-i.invariant.1,
-    )
+pub loop-place-preserved : goal.loop-place-preserved
+loop-place-preserved c = running-goes _ _ c.loop-place.invariant c.loop-place-test.true c.in-Ok.ensures
 
 pub returns : goal.returns
-returns c = run_ends _ _ _ _ (omega (arith, c.loop-i-test.false)) ∙ c.loop-i.invariant.1
+returns c = running-ends _ _ c.loop-place.invariant c.loop-place-test.false c.loop-place.auto.place-end

@@ -1,13 +1,15 @@
 -- `explain` meets its contract: a law of Explaining for each way out. Assumes nothing.
+use Rattle.std.proofs.lemmas.Result.{err_from_is_err_and}
 use Rattle.explanation.proofs.Explaining.{explained_refused, answer_possible, explained_granted}
-use borrow.Author.Rules.{rules}
 use Rattle.explanation.proofs.slip.explain.Goals as goal
 
-pub returns-then-refusal-ne0 : goal.returns-then-refusal-ne0
-returns-then-refusal-ne0 c = explained_refused c.args.bytes.now _ c.judge-judged.ensures c.if-refusal-ne0.true
+pub returns-in_err-judged : goal.returns-in_err-judged
+returns-in_err-judged c =
+    let p = err_from_is_err_and c.from_residual.result c.from_residual.ensures.1 in
+    rw (p.1, p.2) (explained_refused c.args.bytes.now c.in_err-judged.ensures)
 
-pub items_in-found-requires : goal.items_in-found-requires
-items_in-found-requires c = answer_possible c.args.bytes.now _ c.judge-judged.ensures c.if-refusal-ne0.false
+pub items_in-requires : goal.items_in-requires
+items_in-requires c = answer_possible c.args.bytes.now c.in_ok-judged.ensures
 
 pub returns : goal.returns
-returns c = explained_granted c.args.bytes.now _ c.judge-judged.ensures c.if-refusal-ne0.false _ c.items_in-found.ensures
+returns c = explained_granted c.args.bytes.now c.in_ok-judged.ensures _ c.items_in.ensures

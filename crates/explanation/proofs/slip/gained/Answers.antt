@@ -3,7 +3,6 @@ use mathlib.Core.Path.{ap, ◌∙◌}
 use lib.IntN.{pos}
 use Rattle.laws.specs.Law77.{ns_score}
 use Rattle.explanation.proofs.Granting.{told, ns-small, plain}
-use borrow.Author.Rules.{rules}
 use Rattle.explanation.proofs.slip.gained.Goals as goal
 
 pub from_ns-requires : goal.from_ns-requires

@@ -7,17 +7,16 @@ use Rattle.laws.specs.Law77.{is_made, undertrick_points}
 use Rattle.laws.specs.Slip.{TRICKS, OVERTRICKS, PARTSCORE, GAME, SLAM, DOUBLING}
 use Rattle.law77.specs.Scoring.{stake_of}
 use Rattle.explanation.specs.Explained.{items_for}
-use Rattle.explanation.proofs.Granting.{eight, sum_told, down-small, down-told, down-none}
-use borrow.Author.Rules.{rules}
+use Rattle.explanation.proofs.Granting.{eight, all_zero, sum_told, down-small, down-told, down-none}
 use Rattle.explanation.proofs.slip.items_down.Goals as goal
 
 pub overflow_sub-down : goal.overflow_sub-down
 unfolding is_made
-overflow_sub-down c = let a = c.args in omega (arith, leb-false (a.s.level + 6) a.tricks c.requires.1)
+overflow_sub-down c = let a = c.args in omega (arith, leb-false (a.s.level + 6) a.tricks c.requires.down)
 
 pub lost-requires : goal.lost-requires
 unfolding undertrick_points
-lost-requires c = rw c.undertricks.ensures (down-small c.args.declarer (stake_of c.args.s) c.args.tricks c.requires.0 c.requires.1)
+lost-requires c = rw c.undertricks.ensures (down-small c.args.declarer (stake_of c.args.s) c.args.tricks c.requires.possible c.requires.down)
 
 pub returns : goal.returns
 unfolding items_for undertrick_points
@@ -25,6 +24,6 @@ returns c =
     let d = c.args.declarer in
     let s = stake_of c.args.s in
     let t = c.args.tricks in
-    let none = down-none d s t c.requires.0 c.requires.1 in
-    eight (none TRICKS refl) (none OVERTRICKS refl) (down-told d s t c.requires.0 c.requires.1 c.undertricks.ensures c.lost.ensures)
-    (none PARTSCORE refl) (none GAME refl) (none SLAM refl) (none DOUBLING refl) (sum_told d s t c.requires.0 c.score-sum.ensures)
+    let none = down-none d s t c.requires.possible c.requires.down in
+    rw (all_zero c.default.ensures) (eight (none TRICKS refl) (none OVERTRICKS refl) (down-told d s t c.requires.possible c.requires.down c.undertricks.ensures c.lost.ensures)
+    (none PARTSCORE refl) (none GAME refl) (none SLAM refl) (none DOUBLING refl) (sum_told d s t c.requires.possible c.score.ensures))

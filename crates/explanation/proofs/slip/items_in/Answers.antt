@@ -2,13 +2,13 @@
 use mathlib.Core.Path.{sym, ◌∙◌}
 use borrow.Author.Tests.{eq-eqb}
 use Rattle.explanation.specs.Explained.{level_in, items_at}
+use Rattle.explanation.proofs.Granting.{all_zero}
 use Rattle.explanation.proofs.Explaining.{stake_read, items-read}
-use borrow.Author.Rules.{rules}
 use Rattle.explanation.proofs.slip.items_in.Goals as goal
 
 pub returns-then-level-eq0 : goal.returns-then-level-eq0
 unfolding items_at
-returns-then-level-eq0 c = rw (eq-eqb (level_in c.args.bits) 0 (sym c.part-level.ensures ∙ c.if-level-eq0.true)) c.no_items.ensures
+returns-then-level-eq0 c = rw (eq-eqb (level_in c.args.bits) 0 (sym c.part-level.ensures ∙ c.if-level-eq0.true)) (all_zero c.default.ensures)
 
 pub items_of-requires : goal.items_of-requires
 items_of-requires c =

@@ -7,32 +7,31 @@ use Rattle.laws.specs.Law77.{is_made, overtrick_points}
 use Rattle.laws.specs.Slip.{TRICKS, OVERTRICKS, UNDERTRICKS, PARTSCORE, GAME, SLAM, DOUBLING}
 use Rattle.law77.specs.Scoring.{stake_of}
 use Rattle.explanation.specs.Explained.{items_for}
-use Rattle.explanation.proofs.Granting.{eight, sum_told, made_small, made_told, made_none}
-use borrow.Author.Rules.{rules}
+use Rattle.explanation.proofs.Granting.{eight, all_zero, sum_told, made_small, made_told, made_none}
 use Rattle.explanation.proofs.slip.items_made.Goals as goal
 
 pub overflow_sub-over : goal.overflow_sub-over
 unfolding is_made
-overflow_sub-over c = let a = c.args in omega (arith, leb-true (a.s.level + 6) a.tricks c.requires.1)
+overflow_sub-over c = let a = c.args in omega (arith, leb-true (a.s.level + 6) a.tricks c.requires.made)
 
 pub gained-requires : goal.gained-requires
-gained-requires c = rw c.trick_points.ensures (made_small c.args.declarer (stake_of c.args.s) c.args.tricks c.requires.0 c.requires.1 TRICKS)
+gained-requires c = rw c.trick_points.ensures (made_small c.args.declarer (stake_of c.args.s) c.args.tricks c.requires.possible c.requires.made TRICKS)
 
 pub gained-requires-2 : goal.gained-requires-2
 unfolding overtrick_points
-gained-requires-2 c = rw c.overtricks.ensures (made_small c.args.declarer (stake_of c.args.s) c.args.tricks c.requires.0 c.requires.1 OVERTRICKS)
+gained-requires-2 c = rw c.overtricks.ensures (made_small c.args.declarer (stake_of c.args.s) c.args.tricks c.requires.possible c.requires.made OVERTRICKS)
 
 pub gained-requires-3 : goal.gained-requires-3
-gained-requires-3 c = rw c.part_score_points.ensures (made_small c.args.declarer (stake_of c.args.s) c.args.tricks c.requires.0 c.requires.1 PARTSCORE)
+gained-requires-3 c = rw c.part_score_points.ensures (made_small c.args.declarer (stake_of c.args.s) c.args.tricks c.requires.possible c.requires.made PARTSCORE)
 
 pub gained-requires-4 : goal.gained-requires-4
-gained-requires-4 c = rw c.game_points.ensures (made_small c.args.declarer (stake_of c.args.s) c.args.tricks c.requires.0 c.requires.1 GAME)
+gained-requires-4 c = rw c.game_points.ensures (made_small c.args.declarer (stake_of c.args.s) c.args.tricks c.requires.possible c.requires.made GAME)
 
 pub gained-requires-5 : goal.gained-requires-5
-gained-requires-5 c = rw c.slam_points.ensures (made_small c.args.declarer (stake_of c.args.s) c.args.tricks c.requires.0 c.requires.1 SLAM)
+gained-requires-5 c = rw c.slam_points.ensures (made_small c.args.declarer (stake_of c.args.s) c.args.tricks c.requires.possible c.requires.made SLAM)
 
 pub gained-requires-6 : goal.gained-requires-6
-gained-requires-6 c = rw c.doubling_points.ensures (made_small c.args.declarer (stake_of c.args.s) c.args.tricks c.requires.0 c.requires.1 DOUBLING)
+gained-requires-6 c = rw c.doubling_points.ensures (made_small c.args.declarer (stake_of c.args.s) c.args.tricks c.requires.possible c.requires.made DOUBLING)
 
 pub returns : goal.returns
 unfolding items_for overtrick_points
@@ -40,9 +39,9 @@ returns c =
     let d = c.args.declarer in
     let s = stake_of c.args.s in
     let t = c.args.tricks in
-    let told = made_told d s t c.requires.0 c.requires.1 in
-    eight (told TRICKS _ _ c.trick_points.ensures c.gained.ensures)
+    let told = made_told d s t c.requires.possible c.requires.made in
+    rw (all_zero c.default.ensures) (eight (told TRICKS _ _ c.trick_points.ensures c.gained.ensures)
     (told OVERTRICKS _ _ c.overtricks.ensures c.gained-2.ensures)
-    (made_none d s t c.requires.0 c.requires.1 UNDERTRICKS refl) (told PARTSCORE _ _ c.part_score_points.ensures c.gained-3.ensures)
+    (made_none d s t c.requires.possible c.requires.made UNDERTRICKS refl) (told PARTSCORE _ _ c.part_score_points.ensures c.gained-3.ensures)
     (told GAME _ _ c.game_points.ensures c.gained-4.ensures) (told SLAM _ _ c.slam_points.ensures c.gained-5.ensures)
-    (told DOUBLING _ _ c.doubling_points.ensures c.gained-6.ensures) (sum_told d s t c.requires.0 c.score-sum.ensures)
+    (told DOUBLING _ _ c.doubling_points.ensures c.gained-6.ensures) (sum_told d s t c.requires.possible c.score.ensures))

@@ -4,7 +4,6 @@ use lib.IntN.{pos, neg_ℤ}
 use Rattle.laws.specs.Law77.{ns_score}
 use Rattle.laws.proofs.Integers.{size_neg}
 use Rattle.explanation.proofs.Granting.{told, ns-small, minus-fits, minus}
-use borrow.Author.Rules.{rules}
 use Rattle.explanation.proofs.slip.lost.Goals as goal
 
 pub overflow_sub-points : goal.overflow_sub-points

@@ -4,7 +4,6 @@ use Rattle.laws.specs.Law77.{ns_score}
 use Rattle.law77.specs.Scoring.{stake_of}
 use Rattle.judgement.proofs.Settling.{read_small}
 use Rattle.explanation.proofs.Granting.{score-small, sum_told}
-use borrow.Author.Rules.{rules}
 use Rattle.explanation.proofs.slip.score.Goals as goal
 
 pub from_ns-requires : goal.from_ns-requires

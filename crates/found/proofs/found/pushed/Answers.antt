@@ -1,7 +1,6 @@
 -- `found::found::pushed` meets its contract. Assumes nothing.
 use mathlib.Core.Path.{refl}
 use Rattle.found.specs.Found.{push_word, last_of, pushed}
-use borrow.Author.Rules.{rules}
 use Rattle.found.proofs.found.pushed.Goals as goal
 
 pub returns : goal.returns

@@ -1,7 +1,6 @@
 -- `found::told::popped` meets its contract. Assumes nothing.
 use mathlib.Core.Path.{refl}
 use Rattle.found.specs.Told.{pop_word, popped}
-use borrow.Author.Rules.{rules}
 use Rattle.found.proofs.told.popped.Goals as goal
 
 pub returns : goal.returns

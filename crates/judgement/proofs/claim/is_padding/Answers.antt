@@ -1,10 +1,6 @@
 -- `is_padding` meets its contract. Assumes nothing.
-use Prim.Native.Nat.{◌-◌, ◌%◌}
-use mathlib.Core.Path.{sym, ap, ◌∙◌}
-use native.Mathlib.Omega.{arith}
-use borrow.Author.Rules.{rules}
-use Rattle.field.specs.Field.{field_answer}
-use Rattle.field.proofs.ThreeBytes.{value-is, short-is}
+use Rattle.std.proofs.Common.{◌-◌, ◌%◌, arith}
+use Rattle.field.proofs.ThreeBytes.{given-is, refused_short}
 use Rattle.judgement.proofs.Padding.{none-behind, whole-bytes, more_bytes, bits_left}
 use Rattle.judgement.proofs.claim.is_padding.Goals as goal
 
@@ -15,26 +11,15 @@ pub returns-then-used-eq0 : goal.returns-then-used-eq0
 returns-then-used-eq0 c = whole-bytes c.args.bytes.now c.args.at c.if-bytes-at.false c.if-used-eq0.true
 
 pub returns-then-bytes-at-2 : goal.returns-then-bytes-at-2
-returns-then-bytes-at-2 c =
-    more_bytes c.args.bytes.now c.args.at c.if-bytes-at.false
-    c.if-bytes-at-2.true
+returns-then-bytes-at-2 c = more_bytes c.args.bytes.now c.args.at c.if-bytes-at.false c.if-bytes-at-2.true
 
-pub returns-in_default : goal.returns-in_default
-returns-in_default c =
-    absurd (omega (
-      arith,
-      short-is c.args.bytes.now
-          c.args.at (8 - c.args.at % 8)
-          (omega arith) (sym c.read.ensures ∙ ap field_answer c.in_default.is),
-      c.if-bytes-at-2.false,
-    ))
+pub returns-in-Ok : goal.returns-in-Ok
+returns-in-Ok c =
+    let a = c.args in
+    bits_left a.bytes.now a.at c.if-bytes-at.false c.if-used-eq0.false c.if-bytes-at-2.false _
+    (given-is a.bytes.now a.at (8 - a.at % 8) c.in-Ok.ensures).0
 
-pub returns : goal.returns
-returns c =
-    bits_left c.args.bytes.now
-    c.args.at c.if-bytes-at.false
-    c.if-used-eq0.false c.if-bytes-at-2.false _
-    (value-is c.args.bytes.now
-    c.args.at
-    (8 - c.args.at % 8)
-    (sym c.read.ensures ∙ ap field_answer c.in-Value.is)).0
+pub returns-in-Err : goal.returns-in-Err
+returns-in-Err c =
+    let a = c.args in
+    absurd (omega (arith, refused_short a.bytes.now a.at (8 - a.at % 8) (omega arith) c.in-Err.ensures, c.if-bytes-at-2.false))

@@ -1,7 +1,6 @@
 -- `contract_bits` meets its contract. Assumes nothing.
 use Rattle.judgement.proofs.Settling.{play-number}
 use native.Mathlib.Omega.{arith}
-use borrow.Author.Rules.{rules}
 use Rattle.judgement.proofs.settle.contract_bits.Goals as goal
 
 pub returns : goal.returns

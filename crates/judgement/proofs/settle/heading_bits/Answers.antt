@@ -1,7 +1,6 @@
 -- `heading_bits` meets its contract. Assumes nothing.
 use Rattle.judgement.proofs.Settling.{head_number}
 use native.Mathlib.Omega.{arith}
-use borrow.Author.Rules.{rules}
 use Rattle.judgement.proofs.settle.heading_bits.Goals as goal
 
 pub returns : goal.returns

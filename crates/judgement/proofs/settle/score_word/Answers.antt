@@ -1,5 +1,5 @@
 -- `score_word` meets its contract. Assumes nothing.
-use Prim.Native.Nat.{◌<◌, ◌+◌, ◌-◌}
+use Prim.Native.Nat.{◌<◌}
 use native.Mathlib.Omega.{arith}
 use lib.IntN.{ℤ, neg_ℤ, nat_abs, +ℤ_idl}
 use mir.Syntax.{w64}

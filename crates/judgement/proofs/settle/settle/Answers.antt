@@ -2,9 +2,7 @@
 use Rattle.laws.specs.Law77.{ns_score}
 use Rattle.laws.specs.Judgement.{twos_complement}
 use mathlib.Core.Path.{ap, ◌∙◌}
-use Prim.Native.Nat.{◌-◌}
 use native.Mathlib.Omega.{arith}
-use borrow.Author.Rules.{rules}
 use Rattle.transfer.specs.Inputs.{revokes_in}
 use Rattle.judgement.proofs.Settling.{after-le, settled, read_small}
 use Rattle.judgement.proofs.settle.settle.Goals as goal

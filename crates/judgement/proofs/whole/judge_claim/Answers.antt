@@ -1,32 +1,32 @@
 -- `judge_claim` meets its contract: a law of Judging for each way out. Assumes nothing.
-use mathlib.Core.Path.{sym, ap, ◌∙◌}
+use Rattle.std.proofs.Common.{refl, sym, ◌∙◌}
 use borrow.Author.Tests.{not-true, not-false}
-use Rattle.judgement.specs.Whole.{no_judgement}
+use Rattle.std.proofs.lemmas.Result.{err_from_is_err_and}
 use Rattle.judgement.proofs.Judging.{claim-refused, not-padded, claim-accepted}
-use borrow.Author.Rules.{rules}
 use Rattle.judgement.proofs.whole.judge_claim.Goals as goal
 
-pub returns-then-claimed-ne0 : goal.returns-then-claimed-ne0
-returns-then-claimed-ne0 c =
+pub returns-in_err-claim : goal.returns-in_err-claim
+returns-in_err-claim c =
     λ deal h e told.
     let a = c.args in
-    c.refused.ensures
-    ∙ claim-refused a.board a.table a.out a.k deal h e a.t told a.bytes.now a.at _ c.count-played.ensures _ c.read_claim-claimed.ensures
-    c.if-claimed-ne0.true
+    let r = a.reached in
+    let p = err_from_is_err_and c.from_residual.result c.from_residual.ensures.1 in
+    rw (p.1, p.2) (claim-refused r.board r.table r.out r.contract deal h e r.after told a.bytes.now a.at _ refl c.in_err-claim.ensures)
 
 pub returns-then-not-is_padding : goal.returns-then-not-is_padding
 returns-then-not-is_padding c =
     λ deal h e told.
     let a = c.args in
-    c.refused-then-not-is_padding.ensures
-    ∙ ap no_judgement c.refusal_number.ensures
-    ∙ not-padded a.board a.table a.out a.k deal h e a.t told a.bytes.now a.at _ c.count-played.ensures _ c.read_claim-claimed.ensures
-    c.if-claimed-ne0.false (not-false _ (sym c.is_padding.ensures ∙ c.if-not-is_padding.true))
+    let r = a.reached in
+    rw c.at.ensures
+    (not-padded r.board r.table r.out r.contract deal h e r.after told a.bytes.now a.at _ refl c.in_ok-claim.ensures
+    (not-false _ (sym c.is_padding.ensures ∙ c.if-not-is_padding.true)))
 
 pub returns : goal.returns
 returns c =
     λ deal h e told.
     let a = c.args in
-    claim-accepted a.board a.table a.out a.k deal h e a.t told a.bytes.now a.at _ c.count-played.ensures _ c.read_claim-claimed.ensures
-    _ c.tricks_left.ensures _ _ _ c.tricks-ts.ensures c.revokes-rs.ensures c.failure_bytes.ensures _ c.if-claimed-ne0.false
+    let r = a.reached in
+    claim-accepted r.board r.table r.out r.contract deal h e r.after told a.bytes.now a.at _ refl c.in_ok-claim.ensures _ c.tricks_left.ensures
+    c.tricks-ts.ensures c.revokes-rs.ensures c.failure_bytes.ensures
     (not-true _ (sym c.is_padding.ensures ∙ c.if-not-is_padding.false)) c.settle_board-bits.ensures

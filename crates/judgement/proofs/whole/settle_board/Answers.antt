@@ -1,5 +1,4 @@
 -- `settle_board` meets its contract. Assumes nothing.
-use borrow.Author.Rules.{rules}
 use Rattle.judgement.specs.Whole.{board_fields}
 use Rattle.judgement.proofs.whole.settle_board.Goals as goal
 
@@ -7,10 +6,10 @@ pub returns-then-out : goal.returns-then-out
 unfolding board_fields
 returns-then-out c = rw c.if-out.true c.settle_passed_out.ensures
 
-pub returns-then-claimed : goal.returns-then-claimed
+pub returns-in-Some : goal.returns-in-Some
 unfolding board_fields
-returns-then-claimed c = rw (c.if-out.false, c.if-claimed.true) c.settle.ensures
+returns-in-Some c = rw (c.if-out.false, c.in-Some.is) c.settle.ensures
 
-pub returns : goal.returns
+pub returns-in-None : goal.returns-in-None
 unfolding board_fields
-returns c = rw (c.if-out.false, c.if-claimed.false) c.settle-2.ensures
+returns-in-None c = rw (c.if-out.false, c.in-None.is) c.settle-in-None.ensures

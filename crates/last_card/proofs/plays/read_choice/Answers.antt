@@ -1,63 +1,42 @@
 -- `read_choice` meets its contract: a law of CodeTurns for each way out. Assumes nothing.
-use Prim.Native.Nat.{ℕ, ◌<◌, ◌+◌}
-use mathlib.Core.Path.{◌≡◌, refl, sym, ap, ◌∙◌}
-use native.Mathlib.Omega.{arith}
-use borrow.Author.Rules.{rules}
-use lib.Dec.{lit≤}
-use Rattle.field.specs.Field.{field_answer}
-use Rattle.field.proofs.ThreeBytes.{value-reads, value_lt, short_stops}
-use Rattle.laws.specs.Reading.{Reading.found, read}
-use Rattle.last_card.specs.declared.plays.Cards.{Cards}
+use Rattle.std.proofs.Common.{◌+◌, arith}
+use Rattle.std.proofs.lemmas.Result.{err_from_is_err_and}
+use Rattle.field.proofs.ThreeBytes.{given_lt, given-reads, refused_stops}
 use Rattle.last_card.proofs.CodeTurns.{choice-counts, kind_short, suit-short, choice_stops, choice-goes}
-use Rattle.last_card.proofs.plays.read_choice.Goals.{In-Value, In-Value-read}
 use Rattle.last_card.proofs.plays.read_choice.Goals as goal
 
-pub returns-in_default : goal.returns-in_default
-returns-in_default c =
+pub returns-in_err-kind-clause-law : goal.returns-in_err-kind-clause-law
+returns-in_err-kind-clause-law c =
     let a = c.args in
-    record {
-      counted = λ z. let e = ap (λ (x : Cards). x.refusal) c.no_cards.ensures in absurd (omega (arith, e, z));
-      law = λ deal trump opening e o. c.no_cards.ensures ∙ kind_short deal trump opening e _ _ o _ _
-          (short_stops a.bytes.now a.at 2 (lit≤ tt) (sym c.read.ensures ∙ ap field_answer c.in_default.is));
-    }
+    let p = err_from_is_err_and c.from_residual.result c.from_residual.ensures.1 in
+    λ deal trump opening e o. rw (p.1, p.2) (kind_short deal trump opening e _ _ o _ _ (refused_stops a.bytes.now a.at 2 (omega arith) c.in_err-kind.ensures))
 
-pub returns-in_default-read : goal.returns-in_default-read
-returns-in_default-read c =
+pub returns-in_err-suit-clause-law : goal.returns-in_err-suit-clause-law
+returns-in_err-suit-clause-law c =
     let a = c.args in
-    record {
-      counted = λ z. let e = ap (λ (x : Cards). x.refusal) c.no_cards-in_default-read.ensures in absurd (omega (arith, e, z));
-      law = λ deal trump opening e o. c.no_cards-in_default-read.ensures ∙ suit-short deal trump opening e _ _ o _ _ _ ((let h : (let a = c.args in read 2 a.bytes.now a.at ≡ found c.in-Value.kind (a.at + 2)) = value-reads _ c.args.at 2 (sym c.read.ensures ∙ ap field_answer c.in-Value.is) in h))
-          (short_stops a.bytes.now (a.at + 2) 2 (lit≤ tt) (sym c.read-2.ensures ∙ ap field_answer c.in_default-read.is));
-    }
+    let p = err_from_is_err_and c.from_residual-in_err-suit.result c.from_residual-in_err-suit.ensures.1 in
+    λ deal trump opening e o. rw (p.1, p.2)
+    (suit-short deal trump opening e _ _ o _ _ _ (given-reads a.bytes.now a.at 2 c.in_ok-kind.ensures)
+    (refused_stops a.bytes.now (a.at + 2) 2 (omega arith) c.in_err-suit.ensures))
 
-pub narrow-chosen-requires : goal.narrow-chosen-requires
-narrow-chosen-requires c =
-    let a = c.args in
-    omega (arith, value_lt a.bytes.now a.at 2 (sym c.read.ensures ∙ ap field_answer c.in-Value.is))
+pub overflow_cast-kind : goal.overflow_cast-kind
+overflow_cast-kind c = omega (arith, given_lt c.args.bytes.now c.args.at 2 c.in_ok-kind.ensures)
 
-pub narrow-named-requires : goal.narrow-named-requires
-narrow-named-requires c =
-    let a = c.args in
-    omega (arith, value_lt a.bytes.now (a.at + 2) 2 (sym c.read-2.ensures ∙ ap field_answer c.in-Value-read.is))
+pub overflow_cast-suit : goal.overflow_cast-suit
+overflow_cast-suit c = omega (arith, given_lt c.args.bytes.now (c.args.at + 2) 2 c.in_ok-suit.ensures)
 
-pub returns-then-f-ne0 : goal.returns-then-f-ne0
-returns-then-f-ne0 c =
-    record {
-      counted = λ z. let e = ap (λ (x : Cards). x.refusal) c.no_cards-then-f-ne0.ensures in absurd (c.if-f-ne0.true (omega (arith, e, z)));
-      law = λ deal trump opening e o. c.no_cards-then-f-ne0.ensures ∙ choice_stops deal trump opening e _ _ o _ _ _ ((let h : (let a = c.args in read 2 a.bytes.now a.at ≡ found c.in-Value.kind (a.at + 2)) = value-reads _ c.args.at 2 (sym c.read.ensures ∙ ap field_answer c.in-Value.is) in h)) _ ((let h : (let a = c.args in
-          read 2 a.bytes.now (a.at + 2) ≡ found c.in-Value-read.suit (a.at + 2 + 2)) = value-reads _ (c.args.at + 2) 2 (sym c.read-2.ensures ∙ ap field_answer c.in-Value-read.is) in h)) _
-          (rw (c.narrow-chosen.ensures, c.narrow-named.ensures) at c.choice_refusal-f.ensures) c.if-f-ne0.true;
-    }
+pub returns-in-Ok-clause-counted : goal.returns-in-Ok-clause-counted
+returns-in-Ok-clause-counted c = (choice-counts _ _ _ c.in-Ok.ensures, omega arith, omega arith)
 
-pub overflow_add-result : goal.overflow_add-result
-overflow_add-result c = omega (arith, c.requires)
+pub returns-in-Ok-clause-law : goal.returns-in-Ok-clause-law
+returns-in-Ok-clause-law c =
+    let b = c.args.bytes.now in
+    λ deal trump opening e o. choice-goes deal trump opening e _ _ o _ _ _ (given-reads b c.args.at 2 c.in_ok-kind.ensures) _
+    (given-reads b (c.args.at + 2) 2 c.in_ok-suit.ensures) c.in-Ok.ensures
 
-pub returns : goal.returns
-returns c =
-    record {
-      counted = λ z. (choice-counts _ _ _ c.choose-after.ensures, omega arith, omega arith);
-      law = λ deal trump opening e o. choice-goes deal trump opening e _ _ o _ _ _ ((let h : (let a = c.args in read 2 a.bytes.now a.at ≡ found c.in-Value.kind (a.at + 2)) = value-reads _ c.args.at 2 (sym c.read.ensures ∙ ap field_answer c.in-Value.is) in h)) _ ((let h : (let a = c.args in
-          read 2 a.bytes.now (a.at + 2) ≡ found c.in-Value-read.suit (a.at + 2 + 2)) = value-reads _ (c.args.at + 2) 2 (sym c.read-2.ensures ∙ ap field_answer c.in-Value-read.is) in h)) _
-          (rw (c.narrow-chosen.ensures, c.narrow-named.ensures) at c.choice_refusal-f.ensures) c.if-f-ne0.false _
-          (rw (c.narrow-chosen.ensures, c.narrow-named.ensures) at c.choose-after.ensures);
-    }
+pub returns-in-Err-clause-law : goal.returns-in-Err-clause-law
+returns-in-Err-clause-law c =
+    let b = c.args.bytes.now in
+    λ deal trump opening e o. rw c.at.ensures
+    (choice_stops deal trump opening e _ _ o _ _ _ (given-reads b c.args.at 2 c.in_ok-kind.ensures) _
+    (given-reads b (c.args.at + 2) 2 c.in_ok-suit.ensures) c.in-Err.ensures)

@@ -1,36 +1,35 @@
 -- `read_code` meets its contract: a law of CodeTurns for each way out. Assumes nothing.
-use mathlib.Core.Path.{◌≡◌, sym, ap, ◌∙◌}
-use native.Mathlib.Omega.{arith}
-use borrow.Author.Rules.{rules}
-use borrow.Author.Tests.{not-true}
-use Rattle.last_card.specs.declared.plays.Cards.{Cards}
-use Rattle.last_card.proofs.CodeTurns.{room_in, code_over, code_exposes, code_chooses}
+use Rattle.std.proofs.Common.{sym, ◌∙◌}
+use Rattle.last_card.proofs.CodeTurns.{room_taken, one_taken, code_over, code_exposes, code_chooses}
 use Rattle.last_card.proofs.plays.read_code.Goals as goal
 
-pub returns-then-codes_full : goal.returns-then-codes_full
-returns-then-codes_full c =
-    record {
-      counted = λ z. let e = ap (λ (x : Cards). x.refusal) c.no_cards.ensures in absurd (omega (arith, e, z));
-      law = λ deal trump opening e o. c.no_cards.ensures
-          ∙ code_over deal trump opening e _ _ o _ _ _ (sym c.codes_full.ensures ∙ c.if-codes_full.true);
-    }
+pub returns-then-codes_full-clause-law : goal.returns-then-codes_full-clause-law
+returns-then-codes_full-clause-law c =
+    λ deal trump opening e o. rw c.at.ensures
+    (code_over deal trump opening e _ _ o _ _ _ (sym c.codes_full.ensures ∙ c.if-codes_full.true))
 
-pub returns-then-code-eq52 : goal.returns-then-code-eq52
-returns-then-code-eq52 c =
-    let room = sym c.codes_full.ensures ∙ c.if-codes_full.false in
-    let low = room_in _ room in
-    record {
-      counted = λ z. let k = c.read_exposed.ensures.counted z in (low, omega (arith, k.0, low), k.1, k.2);
-      law = λ deal trump opening e o. c.read_exposed.ensures.law deal trump opening e o
-          ∙ code_exposes deal trump opening e _ _ o _ _ _ room c.if-code-eq52.true;
-    }
+pub returns-then-code-eq52-clause-room : goal.returns-then-code-eq52-clause-room
+returns-then-code-eq52-clause-room c =
+    room_taken _ (sym c.codes_full.ensures ∙ c.if-codes_full.false) c.read_exposed.result c.args.at c.read_exposed.ensures.counted
 
-pub returns : goal.returns
-returns c =
+pub returns-then-code-eq52-clause-counted : goal.returns-then-code-eq52-clause-counted
+returns-then-code-eq52-clause-counted c =
+    one_taken _ (sym c.codes_full.ensures ∙ c.if-codes_full.false) c.read_exposed.result c.args.at c.read_exposed.ensures.counted
+
+pub returns-then-code-eq52-clause-law : goal.returns-then-code-eq52-clause-law
+returns-then-code-eq52-clause-law c =
     let room = sym c.codes_full.ensures ∙ c.if-codes_full.false in
-    let low = room_in _ room in
-    record {
-      counted = λ z. let k = c.read_choice.ensures.counted z in (low, omega (arith, k.0, low), k.1, k.2);
-      law = λ deal trump opening e o. c.read_choice.ensures.law deal trump opening e o
-          ∙ code_chooses deal trump opening e _ _ o _ _ _ room c.if-code-eq52.false;
-    }
+    λ deal trump opening e o. c.read_exposed.ensures.law deal trump opening e o
+    ∙ code_exposes deal trump opening e _ _ o _ _ _ room c.if-code-eq52.true
+
+pub returns-clause-room : goal.returns-clause-room
+returns-clause-room c = room_taken _ (sym c.codes_full.ensures ∙ c.if-codes_full.false) c.read_choice.result c.args.at c.read_choice.ensures.counted
+
+pub returns-clause-counted : goal.returns-clause-counted
+returns-clause-counted c = one_taken _ (sym c.codes_full.ensures ∙ c.if-codes_full.false) c.read_choice.result c.args.at c.read_choice.ensures.counted
+
+pub returns-clause-law : goal.returns-clause-law
+returns-clause-law c =
+    let room = sym c.codes_full.ensures ∙ c.if-codes_full.false in
+    λ deal trump opening e o. c.read_choice.ensures.law deal trump opening e o
+    ∙ code_chooses deal trump opening e _ _ o _ _ _ room c.if-code-eq52.false

@@ -1,55 +1,39 @@
 -- `read_exposed` meets its contract: a law of CodeTurns for each way out. Assumes nothing.
-use Prim.Native.Nat.{ℕ, ◌<◌, ◌+◌}
-use mathlib.Core.Path.{◌≡◌, refl, sym, ap, ◌∙◌}
-use native.Mathlib.Omega.{arith}
-use borrow.Author.Rules.{rules}
-use lib.Dec.{lit≤}
-use Rattle.field.specs.Field.{field_answer}
-use Rattle.field.proofs.ThreeBytes.{value-reads, value_lt, short_stops}
-use Rattle.laws.specs.Reading.{Reading.found, read}
-use Rattle.last_card.specs.declared.plays.Cards.{Cards}
+use Rattle.std.proofs.Common.{◌+◌, arith}
+use Rattle.std.proofs.lemmas.Result.{err_from_is_err_and}
+use Rattle.field.proofs.ThreeBytes.{given_lt, given-reads, refused_stops}
 use Rattle.last_card.proofs.CodeTurns.{exposed-counts, card-short, bit-short, exposed_stops, exposed-goes}
-use Rattle.last_card.proofs.plays.read_exposed.Goals.{In-Value, In-Value-read}
 use Rattle.last_card.proofs.plays.read_exposed.Goals as goal
 
-pub returns-in_default : goal.returns-in_default
-returns-in_default c =
+pub returns-in_err-card-clause-law : goal.returns-in_err-card-clause-law
+returns-in_err-card-clause-law c =
     let a = c.args in
-    record {
-      counted = λ z. let e = ap (λ (x : Cards). x.refusal) c.no_cards.ensures in absurd (omega (arith, e, z));
-      law = λ deal trump opening e o. c.no_cards.ensures ∙ card-short deal trump opening e _ _ o _ _
-          (short_stops a.bytes.now a.at 6 (lit≤ tt) (sym c.read.ensures ∙ ap field_answer c.in_default.is));
-    }
+    let p = err_from_is_err_and c.from_residual.result c.from_residual.ensures.1 in
+    λ deal trump opening e o. rw (p.1, p.2) (card-short deal trump opening e _ _ o _ _ (refused_stops a.bytes.now a.at 6 (omega arith) c.in_err-card.ensures))
 
-pub returns-in_default-read : goal.returns-in_default-read
-returns-in_default-read c =
+pub returns-in_err-bit-clause-law : goal.returns-in_err-bit-clause-law
+returns-in_err-bit-clause-law c =
     let a = c.args in
-    record {
-      counted = λ z. let e = ap (λ (x : Cards). x.refusal) c.no_cards-in_default-read.ensures in absurd (omega (arith, e, z));
-      law = λ deal trump opening e o. c.no_cards-in_default-read.ensures ∙ bit-short deal trump opening e _ _ o _ _ _ ((let h : (let a = c.args in read 6 a.bytes.now a.at ≡ found c.in-Value.card (a.at + 6)) = value-reads _ c.args.at 6 (sym c.read.ensures ∙ ap field_answer c.in-Value.is) in h))
-          (short_stops a.bytes.now (a.at + 6) 1 (lit≤ tt) (sym c.read-2.ensures ∙ ap field_answer c.in_default-read.is));
-    }
+    let p = err_from_is_err_and c.from_residual-in_err-bit.result c.from_residual-in_err-bit.ensures.1 in
+    λ deal trump opening e o. rw (p.1, p.2)
+    (bit-short deal trump opening e _ _ o _ _ _ (given-reads a.bytes.now a.at 6 c.in_ok-card.ensures)
+    (refused_stops a.bytes.now (a.at + 6) 1 (omega arith) c.in_err-bit.ensures))
 
-pub narrow-shown-requires : goal.narrow-shown-requires
-narrow-shown-requires c =
-    let a = c.args in
-    omega (arith, value_lt a.bytes.now a.at 6 (sym c.read.ensures ∙ ap field_answer c.in-Value.is))
+pub overflow_cast-card : goal.overflow_cast-card
+overflow_cast-card c = omega (arith, given_lt c.args.bytes.now c.args.at 6 c.in_ok-card.ensures)
 
-pub returns-then-f-ne0 : goal.returns-then-f-ne0
-returns-then-f-ne0 c =
-    record {
-      counted = λ z. let e = ap (λ (x : Cards). x.refusal) c.no_cards-then-f-ne0.ensures in absurd (c.if-f-ne0.true (omega (arith, e, z)));
-      law = λ deal trump opening e o. c.no_cards-then-f-ne0.ensures ∙ exposed_stops deal trump opening e _ _ o _ _ _ ((let h : (let a = c.args in read 6 a.bytes.now a.at ≡ found c.in-Value.card (a.at + 6)) = value-reads _ c.args.at 6 (sym c.read.ensures ∙ ap field_answer c.in-Value.is) in h)) _ ((let h : (let a = c.args in
-          read 1 a.bytes.now (a.at + 6) ≡ found c.in-Value-read.bit (a.at + 6 + 1)) = value-reads _ (c.args.at + 6) 1 (sym c.read-2.ensures ∙ ap field_answer c.in-Value-read.is) in h)) _
-          (rw c.narrow-shown.ensures at c.exposure_refusal-f.ensures) c.if-f-ne0.true;
-    }
+pub returns-in-Ok-clause-counted : goal.returns-in-Ok-clause-counted
+returns-in-Ok-clause-counted c = (exposed-counts _ _ _ c.in-Ok.ensures, omega arith, omega arith)
 
-pub returns : goal.returns
-returns c =
-    record {
-      counted = λ z. (exposed-counts _ _ _ c.expose-after.ensures, omega arith, omega arith);
-      law = λ deal trump opening e o. exposed-goes deal trump opening e _ _ o _ _ _ ((let h : (let a = c.args in read 6 a.bytes.now a.at ≡ found c.in-Value.card (a.at + 6)) = value-reads _ c.args.at 6 (sym c.read.ensures ∙ ap field_answer c.in-Value.is) in h)) _ ((let h : (let a = c.args in
-          read 1 a.bytes.now (a.at + 6) ≡ found c.in-Value-read.bit (a.at + 6 + 1)) = value-reads _ (c.args.at + 6) 1 (sym c.read-2.ensures ∙ ap field_answer c.in-Value-read.is) in h)) _
-          (rw c.narrow-shown.ensures at c.exposure_refusal-f.ensures) c.if-f-ne0.false _
-          (rw c.narrow-shown.ensures at c.expose-after.ensures);
-    }
+pub returns-in-Ok-clause-law : goal.returns-in-Ok-clause-law
+returns-in-Ok-clause-law c =
+    let b = c.args.bytes.now in
+    λ deal trump opening e o. exposed-goes deal trump opening e _ _ o _ _ _ (given-reads b c.args.at 6 c.in_ok-card.ensures) _
+    (given-reads b (c.args.at + 6) 1 c.in_ok-bit.ensures) c.in-Ok.ensures
+
+pub returns-in-Err-clause-law : goal.returns-in-Err-clause-law
+returns-in-Err-clause-law c =
+    let b = c.args.bytes.now in
+    λ deal trump opening e o. rw c.at.ensures
+    (exposed_stops deal trump opening e _ _ o _ _ _ (given-reads b c.args.at 6 c.in_ok-card.ensures) _
+    (given-reads b (c.args.at + 6) 1 c.in_ok-bit.ensures) c.in-Err.ensures)

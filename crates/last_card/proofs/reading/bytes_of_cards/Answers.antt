@@ -1,29 +1,24 @@
 -- `bytes_of_cards` meets its contract: the first i of the row are those of the record. Assumes nothing.
-use Prim.Native.Nat.{◌≤◌, ◌-◌}
-use mathlib.Core.Path.{◌≡◌, refl, sym, ◌∙◌}
-use native.Mathlib.Numerals.{add-one}
-use native.Mathlib.Omega.{arith}
-use borrow.Author.Rules.{rules}
-use lib.ListN.{length, take, length-set}
+use Rattle.std.proofs.Common.{◌≡◌, refl, sym, ◌∙◌, add-one, arith}
+use lib.ListN.{length-set}
 use lib.Seq.{take-suc-set, take-length}
 use Rattle.last_card.specs.Sections.{fours_of}
 use Rattle.last_card.proofs.reading.bytes_of_cards.Goals as goal
 
 pub loop-i-init : goal.loop-i-init
 unfolding fours_of
-loop-i-init c = (omega arith, refl, refl)
+loop-i-init c = record { long = refl; first = refl }
 
 pub loop-i-preserved : goal.loop-i-preserved
 unfolding fours_of
 loop-i-preserved c =
-    let l = c.loop-i in (
-      omega arith,
-      length-set l.row l.i _ ∙ l.invariant.1,
-      rw add-one (take-suc-set l.row l.i _ (omega (arith, l.invariant.1)) ∙ rw l.invariant.2),
-    )
+    let l = c.loop-i in record {
+      long = length-set l.row l.i _ ∙ l.invariant.long;
+      first = rw add-one (take-suc-set l.row l.i _ (omega (arith, l.invariant.long)) ∙ rw l.invariant.first);
+    }
 
 pub returns : goal.returns
 returns c =
     let l = c.loop-i in
     let e : l.i ≡ 52 = omega arith in
-    sym (take-length l.row) ∙ rw l.invariant.1 (rw e at l.invariant.2)
+    sym (take-length l.row) ∙ rw l.invariant.long (rw e at l.invariant.first)

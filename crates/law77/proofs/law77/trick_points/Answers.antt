@@ -11,14 +11,14 @@ pub overflow_mul-odd_tricks : goal.overflow_mul-odd_tricks
 overflow_mul-odd_tricks c = let s =
     c.args.s in
     let l : s.level < 256 = search rules in
-    record { fits = rw (c.less.ensures, c.trick_value.ensures) (omega (arith, later-le s.level s.strain l)) }
+    record { fits = rw (c.saturating_sub.ensures, c.trick_value.ensures) (omega (arith, later-le s.level s.strain l)) }
 
 pub overflow_add-odd_tricks : goal.overflow_add-odd_tricks
 overflow_add-odd_tricks c = let s =
     c.args.s in
     let l : s.level < 256 = search rules in
     record {
-      fits = rw (c.less.ensures, c.trick_value.ensures, c.first_trick_value.ensures)
+      fits = rw (c.saturating_sub.ensures, c.trick_value.ensures, c.first_trick_value.ensures)
           (omega (arith, later-le s.level s.strain l, first-le s.strain));
     }
 
@@ -29,7 +29,7 @@ overflow_mul-result c = let s =
     let l : s.level < 256 = search rules in
     record {
       fits = rw (
-        c.less.ensures,
+        c.saturating_sub.ensures,
         c.trick_value.ensures,
         c.first_trick_value.ensures,
         c.by_doubling.ensures,
@@ -40,7 +40,7 @@ pub returns : goal.returns
 unfolding trick_points
 returns c =
     rw (
-      c.less.ensures,
+      c.saturating_sub.ensures,
       c.trick_value.ensures,
       c.first_trick_value.ensures,
       c.by_doubling.ensures,

@@ -7,6 +7,6 @@ pub returns-then-other-score : goal.returns-then-other-score
 unfolding below_of
 returns-then-other-score c = rw (rw (to_z-of_z c.ranges.score, to_z-of_z c.ranges.other) at c.if-other-score.true)
 
-pub returns : goal.returns
+pub returns-else-other-score : goal.returns-else-other-score
 unfolding below_of
-returns c = rw (rw (to_z-of_z c.ranges.score, to_z-of_z c.ranges.other) at c.if-other-score.false)
+returns-else-other-score c = rw (rw (to_z-of_z c.ranges.score, to_z-of_z c.ranges.other) at c.if-other-score.false)

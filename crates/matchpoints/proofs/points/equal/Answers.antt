@@ -11,6 +11,6 @@ pub returns-then-score-other : goal.returns-then-score-other
 unfolding equal_of
 returns-then-score-other c = rw (true_same c.args.score c.args.other (same_of _ _ c.ranges.score c.ranges.other c.if-score-other.true))
 
-pub returns : goal.returns
+pub returns-else-score-other : goal.returns-else-score-other
 unfolding equal_of
-returns c = rw (ne_same c.args.score c.args.other (λ e. c.if-score-other.false (ap (of_z w16) e)))
+returns-else-score-other c = rw (ne_same c.args.score c.args.other (λ e. c.if-score-other.false (ap (of_z w16) e)))

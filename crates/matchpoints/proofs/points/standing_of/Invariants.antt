@@ -1,11 +1,7 @@
 -- `matchpoints::points::standing_of` meets its contract. The loop's invariant: what is counted, and what the places from `i` on hold, are together the whole.
 -- Assumes nothing.
-use Prim.Native.Nat.{◌-◌}
 use Rattle.matchpoints.proofs.Comparing.{Stood}
 use Rattle.matchpoints.proofs.points.standing_of.Given as goal
 
 abbrev pub invariant-loop-i : goal.invariant-loop-i
 invariant-loop-i l = Stood l.t l.score l.lower l.same l.results l.i
-
-abbrev pub decreases-loop-i : goal.decreases-loop-i
-decreases-loop-i l = 128 - l.i

@@ -1,7 +1,6 @@
 -- `Packer::finish` meets its contract: a field of zero bits up to the byte's end is put. Assumes nothing.
 use Rattle.laws.specs.Record.{padding}
 use Rattle.packing.specs.Packed.{bytes_finished}
-use borrow.Author.Rules.{rules}
 use Rattle.packing.proofs.Packer.finish.Goals as goal
 
 pub returns : goal.returns

@@ -1,16 +1,18 @@
 -- `pbn_deal::deal::with_byte` meets its contract. Assumes nothing.
+use mathlib.Core.Path.{refl}
 use native.Mathlib.Omega.{arith}
 use Rattle.pbn_deal.proofs.HeldCards.{at_space, at_dot, at_rank, rank_bounds}
-use borrow.Author.Rules.{rules}
+use Rattle.laws.specs.Cards.{clockwise}
 use Rattle.pbn_deal.proofs.deal.with_byte.Goals as goal
 
 pub returns-then-b-eq32 : goal.returns-then-b-eq32
-returns-then-b-eq32 c = (at_space _ _ _ c.if-b-eq32.true c.next_seat.ensures.0, c.next_seat.ensures.1, omega arith)
+unfolding clockwise
+returns-then-b-eq32 c = (at_space _ _ _ c.if-b-eq32.true refl, omega arith, omega arith)
 
 pub returns-then-b-eq46 : goal.returns-then-b-eq46
 returns-then-b-eq46 c =
     let p = c.requires in
-    (at_dot _ _ _ c.if-b-eq32.false c.if-b-eq46.true c.one_less.ensures, p.0, omega (arith, c.one_less.ensures, p.1))
+    (at_dot _ _ _ c.if-b-eq32.false c.if-b-eq46.true c.saturating_sub.ensures, p.0, omega (arith, c.saturating_sub.ensures, p.1))
 
 pub returns : goal.returns
 returns c =

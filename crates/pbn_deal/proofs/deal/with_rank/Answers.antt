@@ -1,7 +1,12 @@
 -- `pbn_deal::deal::with_rank` meets its contract. Assumes nothing.
-use Rattle.pbn_deal.proofs.HeldCards.{ranked}
-use borrow.Author.Rules.{rules}
+use Rattle.std.proofs.Common.{◌≡◌, length, arith, rules}
+use Rattle.pbn_deal.proofs.HeldCards.{ranked, ranked_past}
 use Rattle.pbn_deal.proofs.deal.with_rank.Goals as goal
 
-pub returns : goal.returns
-returns c = ranked _ _ _ _ c.place_among-rank.ensures.0 c.with_holder-holders.ensures
+pub returns-then-at-lt52 : goal.returns-then-at-lt52
+returns-then-at-lt52 c = ranked c.args.held _ _ c.place_among.ensures.0
+
+pub returns-else-at-lt52 : goal.returns-else-at-lt52
+returns-else-at-lt52 c =
+    let n : length c.args.held.holders ≡ 52 = search rules in
+    ranked_past c.args.held _ _ c.place_among.ensures.0 (omega arith)

@@ -1,17 +1,26 @@
 -- `pbn_deal::walk::over_byte` meets its contract. Assumes nothing.
-use borrow.Author.Tests.{not-true, not-false}
-use Rattle.pbn_deal.proofs.Walked.{stopped, at_end, other_byte, same_byte}
-use borrow.Author.Rules.{rules}
+use Rattle.std.proofs.Common.{◌∙◌, ◌∷◌, ap, sym}
+use Rattle.pbn_deal.specs.Walks.{follows}
+use Rattle.pbn_deal.proofs.Walked.{at_end, other_byte, same_byte, nowhere}
+use Rattle.pbn_deal.proofs.walk.over_byte.Goals.{else-at-line-via-then-at-line+else-line-at, else-at-line-via-else-at-line}
 use Rattle.pbn_deal.proofs.walk.over_byte.Goals as goal
 
-pub returns-then-not-w : goal.returns-then-not-w
-returns-then-not-w c t = stopped _ _ _ _ t (not-true _ c.if-not-w.true)
+pub returns-in_err-at : goal.returns-in_err-at
+returns-in_err-at c t =
+    let line = c.args.line.now in
+    rw (c.in_err-at.was, c.from_residual.ensures) (nowhere line _ ∙ sym (nowhere line t))
 
 pub returns-then-line-at : goal.returns-then-line-at
-returns-then-line-at c t = at_end _ _ _ _ t c.if-line-at.true
-
-pub returns-then-line-at-2 : goal.returns-then-line-at-2
-returns-then-line-at-2 c t = other_byte _ _ _ _ t c.if-line-at.false c.if-line-at-2.true
+returns-then-line-at c t =
+    let line = c.args.line.now in
+    ap (λ p. follows line p (c.args.byte ∷ t)) c.in_ok-at.was ∙ same_byte line c.in_ok-at.at c.args.byte t c.if-at-line.true c.if-line-at.true
 
 pub returns : goal.returns
-returns c t = same_byte _ _ _ _ t (not-false _ c.if-not-w.false) c.if-line-at.false c.if-line-at-2.false
+returns c t =
+    let line = c.args.line.now in
+    ap (λ p. follows line p (c.args.byte ∷ t)) c.in_ok-at.was
+    ∙ (elim c.else-at-line.branch [
+      | else-at-line-via-then-at-line+else-line-at w ↦ other_byte line c.in_ok-at.at c.args.byte t w.if-at-line.true w.if-line-at.false
+      | else-at-line-via-else-at-line w ↦ at_end line c.in_ok-at.at c.args.byte t w.if-at-line.false
+    ])
+    ∙ sym (nowhere line t)

@@ -4,7 +4,6 @@ use mathlib.Core.Path.{◌∙◌}
 use mathlib.Core.List.{List, ◌∷◌, ◌++◌}
 use Rattle.laws.specs.Cards.{clubs, diamonds, hearts}
 use Rattle.laws.specs.PbnText.{dot, ranks_held, hand_and}
-use borrow.Author.Rules.{rules}
 use Rattle.pbn_deal.proofs.walk.over_hand.Goals as goal
 
 pub returns : goal.returns

@@ -2,11 +2,10 @@
 use Prim.Native.Nat.{ℕ}
 use native.Mathlib.Omega.{arith}
 use mathlib.Core.Path.{◌≡◌, ap, ◌∙◌}
-use mathlib.Core.List.{List, ◌∷◌, ◌++◌}
+use mathlib.Core.List.{List, ◌∷◌}
 use Rattle.laws.specs.Cards.{clockwise}
 use Rattle.laws.specs.PbnText.{space, hand_and, hands_and}
 use Rattle.pbn_deal.specs.Walks.{follows}
-use borrow.Author.Rules.{rules}
 use Rattle.pbn_deal.proofs.walk.over_hands.Goals as goal
 
 pub returns : goal.returns
@@ -17,7 +16,7 @@ returns c t =
     let l : List ℕ = hand_and a.holders (clockwise a.first 3) t in
     let m : List ℕ = hand_and a.holders (clockwise a.first 2) (space ∷ l) in
     let n : List ℕ = hand_and a.holders (clockwise a.first 1) (space ∷ m) in
-    ap (λ s. follows a.line.now a.from.same a.from.at (hand_and a.holders s (space ∷ n))) first
+    ap (λ s. follows a.line.now a.from (hand_and a.holders s (space ∷ n))) first
     ∙ c.over_hand.ensures (space ∷ n)
     ∙ c.over_byte-a.ensures n
     ∙ c.over_hand-2.ensures (space ∷ m)

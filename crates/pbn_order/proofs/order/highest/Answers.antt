@@ -1,6 +1,5 @@
 -- `pbn_order::order::highest` meets its contract. Assumes nothing.
 use Rattle.pbn_order.proofs.TrickWon.{highest-is}
-use borrow.Author.Rules.{rules}
 use Rattle.pbn_order.proofs.order.highest.Goals as goal
 
 pub returns : goal.returns

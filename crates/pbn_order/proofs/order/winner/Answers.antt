@@ -1,7 +1,6 @@
 -- `pbn_order::order::winner` meets its contract. Assumes nothing.
 use Rattle.pbn_order.proofs.TrickWon.{won_a, won_b, won_c, won_d}
 use native.Mathlib.Omega.{arith}
-use borrow.Author.Rules.{rules}
 use Rattle.pbn_order.proofs.order.winner.Goals as goal
 
 pub returns-then-d-card : goal.returns-then-d-card

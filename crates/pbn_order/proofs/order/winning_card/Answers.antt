@@ -1,6 +1,5 @@
 -- `pbn_order::order::winning_card` meets its contract. Assumes nothing.
 use Rattle.pbn_order.proofs.TrickWon.{trump_a, trump_b, trump_c, trump_d, no_trump}
-use borrow.Author.Rules.{rules}
 use Rattle.pbn_order.proofs.order.winning_card.Goals as goal
 
 pub returns-then-d-trump : goal.returns-then-d-trump

@@ -1,16 +1,36 @@
 -- `pbn_text::lines::line_in` meets its contract. Assumes nothing.
-use Rattle.pbn_text.proofs.AnyStage.{stage_0, stage_1, stage_2, stage_3}
-use borrow.Author.Rules.{rules}
+use Rattle.std.proofs.Common.{sym, ◌∙◌}
+use Rattle.laws.specs.PbnReading.{line_in}
+use Rattle.pbn_text.proofs.AnyStage.{at_stage}
 use Rattle.pbn_text.proofs.lines.line_in.Goals as goal
 
-pub returns-then-t-eq0 : goal.returns-then-t-eq0
-returns-then-t-eq0 c = stage_0 _ _ _ c.if-t-eq0.true c.board_line.ensures
+pub returns-in-Board : goal.returns-in-Board
+returns-in-Board c stage x e = at_stage _ stage x e _ c.in-Board.is _ _ (λ e lists. c.board_line.ensures x e)
 
-pub returns-then-t-eq1 : goal.returns-then-t-eq1
-returns-then-t-eq1 c = stage_1 _ _ _ c.if-t-eq1.true c.deal_line.ensures
+pub returns-in-Deal : goal.returns-in-Deal
+returns-in-Deal c stage x e = at_stage _ stage x e _ c.in-Deal.is _ _ (λ e lists. c.deal_line.ensures x e)
 
-pub returns-then-t-eq2 : goal.returns-then-t-eq2
-returns-then-t-eq2 c = stage_2 _ _ _ c.if-t-eq2.true c.auction_line.ensures
+pub returns-in-Auction : goal.returns-in-Auction
+returns-in-Auction c stage x e = at_stage _ stage x e _ c.in-Auction.is _ _ (λ e lists. c.auction_line.ensures x e)
 
-pub returns-then-t-eq3 : goal.returns-then-t-eq3
-returns-then-t-eq3 c = stage_3 _ _ _ c.if-t-eq3.true c.calls_line.ensures
+pub returns-in-FirstCalls : goal.returns-in-FirstCalls
+unfolding line_in
+returns-in-FirstCalls c stage x e = at_stage _ stage x e _ c.in-FirstCalls.is _ _ (λ e lists. c.calls_line.ensures _ x e)
+
+pub returns-then-has_bracket : goal.returns-then-has_bracket
+unfolding line_in
+returns-then-has_bracket c stage x e =
+    at_stage _ stage x e _ c.in-Calls.is _ _ (λ e lists. rw (sym c.has_bracket.ensures ∙ c.if-has_bracket.true) (c.play_line.ensures _ x e))
+
+pub returns-else-has_bracket : goal.returns-else-has_bracket
+unfolding line_in
+returns-else-has_bracket c stage x e =
+    at_stage _ stage x e _ c.in-Calls.is _ _ (λ e lists. rw (sym c.has_bracket.ensures ∙ c.if-has_bracket.false) (c.calls_line-in-Calls.ensures _ x e))
+
+pub returns-in-CallsOver : goal.returns-in-CallsOver
+unfolding line_in
+returns-in-CallsOver c stage x e = at_stage _ stage x e _ c.in-CallsOver.is _ _ (λ e lists. c.play_line-in-CallsOver.ensures _ x e)
+
+pub returns-in-Cards : goal.returns-in-Cards
+returns-in-Cards c stage x e =
+    at_stage _ stage x e _ c.in-Cards.is _ _ (λ e lists. c.cards_line.ensures x lists.0 lists.1 e lists.2)

@@ -1,10 +1,10 @@
 -- `pbn_text::state::auction_line` meets its contract. Assumes nothing.
+use Rattle.std.proofs.Common.{◌∙◌}
 use Rattle.pbn_text.proofs.Stepping.{no_auction, with_auction}
-use borrow.Author.Rules.{rules}
 use Rattle.pbn_text.proofs.state.auction_line.Goals as goal
 
-pub returns-then-caller-eq-NO_NUMBER : goal.returns-then-caller-eq-NO_NUMBER
-returns-then-caller-eq-NO_NUMBER c x e = no_auction _ _ x _ e c.seat_in-caller.ensures _ c.if-caller-eq-NO_NUMBER.true c.at_stage.ensures
+pub returns-in_err-caller : goal.returns-in_err-caller
+returns-in_err-caller c x e = c.from_residual.ensures ∙ no_auction _ x c.seat_in.ensures c.in_err-caller.was
 
 pub returns : goal.returns
-returns c x e = with_auction _ _ x _ e c.seat_in-caller.ensures c.if-caller-eq-NO_NUMBER.false
+returns c x e = with_auction _ x c.seat_in.ensures _ e _ c.in_ok-caller.was

@@ -1,9 +1,7 @@
 -- `pbn_text::text::read_text` meets its contract. The loop's invariant is `Reached`. Assumes nothing.
 use Prim.Native.Nat.{◌+◌, ◌-◌}
-use native.Mathlib.Omega.{arith}
 use lib.ListN.{length}
-use Rattle.pbn_text.proofs.TextTurns.{Reached, begins, end_within, ends, stops, on}
-use borrow.Author.Rules.{rules}
+use Rattle.pbn_text.proofs.TextTurns.{Reached}
 use Rattle.pbn_text.proofs.text.read_text.Given as goal
 
 abbrev pub invariant-loop-at : goal.invariant-loop-at

@@ -3,7 +3,6 @@ use native.Mathlib.Omega.{arith}
 use mathlib.Core.Path.{sym, ◌∙◌}
 use Rattle.laws.proofs.Tests.{not_both}
 use Rattle.pbn_words.proofs.BoardLines.{none, found}
-use borrow.Author.Rules.{rules}
 use Rattle.pbn_words.proofs.board.board_in.Goals as goal
 
 pub returns-then-board-eq0 : goal.returns-then-board-eq0

@@ -1,7 +1,6 @@
 -- `pbn_words::board::board_said` meets its contract. Assumes nothing.
 use native.Mathlib.Omega.{arith}
 use Rattle.pbn_words.proofs.BoardLines.{one-digit, two_digits, three_digits, no_digits}
-use borrow.Author.Rules.{rules}
 use Rattle.pbn_words.proofs.board.board_said.Goals as goal
 
 pub returns-then-line-eq11 : goal.returns-then-line-eq11

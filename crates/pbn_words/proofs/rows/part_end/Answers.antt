@@ -1,39 +1,21 @@
--- `pbn_words::rows::part_end` meets its contract. The loop's invariant: the part that goes on from `i` ends where the whole part does.
--- Assumes nothing.
-use Prim.Native.Nat.{◌+◌, ◌-◌}
-use native.Mathlib.Omega.{arith}
-use mathlib.Core.Path.{◌≡◌, refl}
-use lib.ListN.{length, drop}
+-- `pbn_words::rows::part_end` meets its contract. Assumes nothing.
+use Rattle.std.proofs.Common.{ℕ, ◌-◌, take, drop, length, arith, rules, ap}
+use borrow.Author.Tests.{tests}
+use lib.Dec.{eqb}
+use Rattle.std.proofs.lemmas.Iterator.{YieldsList-from_slice}
+use Rattle.std.proofs.lemmas.Iterator.Search.{position_from_yields_List}
+use Rattle.pbn_words.proofs.PartsOf.{place_or_end, behind_end}
+use Rattle.pbn_words.proofs.TagLines.{rest-is}
 use Rattle.pbn_words.specs.WordNumbers.{part_length}
-use Rattle.pbn_words.proofs.PartsOf.{at_byte, past, at_end}
 use Rattle.pbn_words.proofs.rows.part_end.Goals as goal
 
-pub loop-i-init : goal.loop-i-init
-loop-i-init c = refl
-
-pub bounds-bytes-i : goal.bounds-bytes-i
-bounds-bytes-i c = omega arith
-
-pub returns-then-bytes-i : goal.returns-then-bytes-i
-returns-then-bytes-i c =
-    let l = c.loop-i in
-    let s = c.args.bytes.now in
-    omega (arith, at_byte _ s l.i c.loop-i-test.true c.if-bytes-i.true)
-
-pub overflow_add-i : goal.overflow_add-i
-overflow_add-i c = omega arith
-
-pub loop-i-smaller : goal.loop-i-smaller
-loop-i-smaller c = omega arith
-
-pub loop-i-preserved : goal.loop-i-preserved
-loop-i-preserved c =
-    let l = c.loop-i in
-    let s = c.args.bytes.now in
-    omega (arith, past _ s l.i c.loop-i-test.true c.if-bytes-i.false)
+pub returns-then-bytes-at : goal.returns-then-bytes-at
+returns-then-bytes-at c = omega (arith, behind_end c.args.byte c.args.bytes.now c.args.at (omega arith))
 
 pub returns : goal.returns
 returns c =
-    let l = c.loop-i in
-    let s = c.args.bytes.now in
-    omega (arith, at_end c.args.byte s l.i c.loop-i-test.false)
+    let rest = take (length c.args.bytes.now - c.args.at) (drop c.args.at c.args.bytes.now) in
+    let first = position_from_yields_List (λ (b : ℕ). eqb b c.args.byte) _ _ c.position.result c.position.ensures.ran
+    (YieldsList-from_slice _ c.iter.ensures.rest) (λ x b q k. search (rules, tests)) in
+    let found = place_or_end c.args.byte rest first c.unwrap_or.ensures in
+    omega (arith, found, ap (part_length c.args.byte) (rest-is c.args.bytes.now c.args.at))

@@ -1,22 +1,25 @@
 -- `pbn_words::words::is_call` meets its contract. Assumes nothing.
+use Rattle.std.proofs.Common.{◌≤◌, ◌∙◌, arith}
 use borrow.Author.Tests.{ne_eqb}
-use Rattle.laws.specs.Auction.{level_of, strain_of}
 use Rattle.laws.specs.PbnText.{call_word}
-use borrow.Author.Rules.{rules}
+use Rattle.laws.specs.Auction.{level_of, strain_of}
+use Rattle.pbn_words.proofs.SameBytes.{equal_bytes}
 use Rattle.pbn_words.proofs.words.is_call.Goals as goal
 
-pub returns-then-call-eq0 : goal.returns-then-call-eq0
+pub returns-in-0 : goal.returns-in-0
 unfolding call_word
-returns-then-call-eq0 c = rw c.if-call-eq0.true c.same.ensures
+returns-in-0 c = rw c.in-0.is (rw c.as_slice.ensures at c.eq.ensures ∙ equal_bytes c.args.word.now _)
 
-pub returns-then-call-eq1 : goal.returns-then-call-eq1
+pub returns-in-1 : goal.returns-in-1
 unfolding call_word
-returns-then-call-eq1 c = rw c.if-call-eq1.true c.same-then-call-eq1.ensures
+returns-in-1 c = rw c.in-1.is (rw c.as_slice-in-1.ensures at c.eq-in-1.ensures ∙ equal_bytes c.args.word.now _)
 
-pub returns-then-call-eq2 : goal.returns-then-call-eq2
+pub returns-in-2 : goal.returns-in-2
 unfolding call_word
-returns-then-call-eq2 c = rw c.if-call-eq2.true c.same-then-call-eq2.ensures
+returns-in-2 c = rw c.in-2.is (rw c.as_slice-in-2.ensures at c.eq-in-2.ensures ∙ equal_bytes c.args.word.now _)
 
-pub returns : goal.returns
+pub returns-in_default : goal.returns-in_default
 unfolding call_word level_of strain_of
-returns c = rw (ne_eqb _ _ c.if-call-eq0.false, ne_eqb _ _ c.if-call-eq1.false, ne_eqb _ _ c.if-call-eq2.false) c.is_bid.ensures
+returns-in_default c =
+    let three : 3 ≤ c.args.call = omega arith in
+    rw (ne_eqb c.args.call 0 (λ e. omega arith), ne_eqb c.args.call 1 (λ e. omega arith), ne_eqb c.args.call 2 (λ e. omega arith)) c.is_bid.ensures

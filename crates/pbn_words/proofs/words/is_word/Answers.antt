@@ -1,5 +1,4 @@
 -- `pbn_words::words::is_word` meets its contract. Assumes nothing.
-use borrow.Author.Rules.{rules}
 use Rattle.pbn_words.proofs.words.is_word.Goals as goal
 
 pub is_card-requires : goal.is_card-requires

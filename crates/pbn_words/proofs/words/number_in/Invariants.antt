@@ -1,15 +1,9 @@
 -- `pbn_words::words::number_in` meets its contract. The loop's invariant: the number is looked for among those below `i` as among all. Assumes nothing.
 use Prim.Native.Nat.{◌≤◌}
-use native.Mathlib.Omega.{arith}
-use mathlib.Core.Path.{◌≡◌, refl, sym, ap, ◌∙◌}
-use borrow.Author.Rules.{rules}
+use mathlib.Core.Path.{◌≡◌}
 use Rattle.laws.specs.PbnReading.{number_of}
-use Rattle.pbn_words.specs.WordNumbers.{no_number, read_or, word_of, words, word_in}
-use Rattle.pbn_words.proofs.SameBytes.{found_here, not_here, nowhere}
+use Rattle.pbn_words.specs.WordNumbers.{word_of, words, word_in}
 use Rattle.pbn_words.proofs.words.number_in.Given as goal
 
 abbrev pub invariant-loop-i : goal.invariant-loop-i
 invariant-loop-i l = (l.i ≤ words l.cards) × (word_in l.cards l.word ≡ number_of (word_of l.cards) l.i l.word)
-
-abbrev pub decreases-loop-i : goal.decreases-loop-i
-decreases-loop-i l = l.i

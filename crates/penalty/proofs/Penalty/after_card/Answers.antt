@@ -1,6 +1,5 @@
 -- `penalty::Penalty::after_card` meets its contract. Assumes nothing.
 use Rattle.penalty.specs.Position.{after_card}
-use borrow.Author.Rules.{rules}
 use Rattle.penalty.proofs.Penalty.after_card.Goals as goal
 
 pub returns-then-keeps : goal.returns-then-keeps

@@ -1,7 +1,6 @@
 -- `penalty::Penalty::against_50c` meets its contract. Assumes nothing.
 use borrow.Author.Tests.{le-leb, lt-leb}
 use Rattle.penalty.specs.Position.{against_50c}
-use borrow.Author.Rules.{rules}
 use Rattle.penalty.proofs.Penalty.against_50c.Goals as goal
 
 pub returns-then-card-ge8 : goal.returns-then-card-ge8

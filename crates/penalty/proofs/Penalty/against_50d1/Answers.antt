@@ -1,7 +1,6 @@
 -- `penalty::Penalty::against_50d1` meets its contract. Assumes nothing.
 use Rattle.penalty.specs.Position.{against_50d1}
 use Rattle.penalty.proofs.Marking.{due-other}
-use borrow.Author.Rules.{rules}
 use Rattle.penalty.proofs.Penalty.against_50d1.Goals as goal
 
 pub returns-then-meets : goal.returns-then-meets

@@ -1,6 +1,5 @@
 -- `penalty::Penalty::asked` meets its contract. Assumes nothing.
 use Rattle.penalty.specs.Position.{asked_in}
-use borrow.Author.Rules.{rules}
 use Rattle.penalty.proofs.Penalty.asked.Goals as goal
 
 pub returns-then-t : goal.returns-then-t

@@ -1,7 +1,6 @@
 -- `penalty::Penalty::asked_of_lead` meets its contract. Assumes nothing.
 use borrow.Author.Tests.{eq-eqb, ne_eqb}
 use Rattle.penalty.specs.Position.{asked_of_lead}
-use borrow.Author.Rules.{rules}
 use Rattle.penalty.proofs.Penalty.asked_of_lead.Goals as goal
 
 pub returns-then-self-eq4 : goal.returns-then-self-eq4

@@ -1,6 +1,5 @@
 -- `penalty::Penalty::excused` meets its contract. Assumes nothing.
 use Rattle.penalty.proofs.Marking.{excused_by}
-use borrow.Author.Rules.{rules}
 use Rattle.penalty.proofs.Penalty.excused.Goals as goal
 
 pub returns : goal.returns

@@ -1,7 +1,6 @@
 -- `penalty::Penalty::exposable` meets its contract. Assumes nothing.
 use borrow.Author.Tests.{le-leb, lt-leb, eq-eqb, ne_eqb}
 use Rattle.penalty.specs.Position.{exposable_in}
-use borrow.Author.Rules.{rules}
 use Rattle.penalty.proofs.Penalty.exposable.Goals as goal
 
 pub returns-then-holder-ge4 : goal.returns-then-holder-ge4

@@ -1,6 +1,5 @@
 -- `penalty::Penalty::fails` meets its contract. Assumes nothing.
 use Rattle.penalty.specs.Position.{fails_in}
-use borrow.Author.Rules.{rules}
 use Rattle.penalty.proofs.Penalty.fails.Goals as goal
 
 pub returns-then-against_50c : goal.returns-then-against_50c

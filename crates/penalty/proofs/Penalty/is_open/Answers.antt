@@ -1,7 +1,6 @@
 -- `penalty::Penalty::is_open_lem` meets its contract. Assumes nothing.
 use borrow.Author.Tests.{lt-leb, le-leb, eq-eqb, ne_eqb}
 use Rattle.penalty.specs.Position.{open_in}
-use borrow.Author.Rules.{rules}
 use Rattle.penalty.proofs.Penalty.is_open.Goals as goal
 
 pub returns-then-kind-gt1 : goal.returns-then-kind-gt1

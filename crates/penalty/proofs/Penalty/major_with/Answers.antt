@@ -2,7 +2,6 @@
 use borrow.Author.Tests.{le-leb, lt-leb}
 use Rattle.penalty.specs.Position.{major_with}
 use Rattle.penalty.proofs.Marking.{all_shown}
-use borrow.Author.Rules.{rules}
 use Rattle.penalty.proofs.Penalty.major_with.Goals as goal
 
 pub returns-then-meets : goal.returns-then-meets

@@ -1,6 +1,5 @@
 -- `penalty::Penalty::obeying` meets its contract. Assumes nothing.
 use Rattle.penalty.specs.Position.{obeying_in}
-use borrow.Author.Rules.{rules}
 use Rattle.penalty.proofs.Penalty.obeying.Goals as goal
 
 pub returns-then-meets : goal.returns-then-meets

@@ -1,6 +1,5 @@
 -- `penalty::Penalty::obeys` meets its contract. Assumes nothing.
 use Rattle.penalty.specs.Position.{obeys_in}
-use borrow.Author.Rules.{rules}
 use Rattle.penalty.proofs.Penalty.obeys.Goals as goal
 
 pub returns : goal.returns

@@ -1,6 +1,5 @@
 -- `penalty::Penalty::with_choice` meets its contract. Assumes nothing.
 use Rattle.penalty.specs.Position.{with_choice}
-use borrow.Author.Rules.{rules}
 use Rattle.penalty.proofs.Penalty.with_choice.Goals as goal
 
 pub returns : goal.returns

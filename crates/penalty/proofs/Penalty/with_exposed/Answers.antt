@@ -1,6 +1,5 @@
 -- `penalty::Penalty::with_exposed` meets its contract. Assumes nothing.
 use Rattle.penalty.specs.Position.{with_exposed}
-use borrow.Author.Rules.{rules}
 use Rattle.penalty.proofs.Penalty.with_exposed.Goals as goal
 
 pub returns : goal.returns

@@ -1,7 +1,6 @@
 -- `penalty::Penalty::with_kind` meets its contract. Assumes nothing.
 use borrow.Author.Tests.{eq-eqb, ne_eqb}
 use Rattle.penalty.specs.Position.{with_kind}
-use borrow.Author.Rules.{rules}
 use Rattle.penalty.proofs.Penalty.with_kind.Goals as goal
 
 pub returns-then-kind-eq0 : goal.returns-then-kind-eq0

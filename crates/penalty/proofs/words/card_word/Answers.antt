@@ -5,7 +5,6 @@ use native.Mathlib.Omega.{arith}
 use lib.Pow.{pow-lt}
 use borrow.Author.Tests.{le-leb, lt-leb}
 use Rattle.penalty.specs.Words.{card_word}
-use borrow.Author.Rules.{rules}
 use Rattle.penalty.proofs.words.card_word.Goals as goal
 
 pub returns-then-card-ge52 : goal.returns-then-card-ge52

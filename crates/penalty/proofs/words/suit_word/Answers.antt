@@ -3,7 +3,6 @@ use native.Mathlib.Nat.{mod-eq_of_lt}
 use borrow.Author.Tests.{le-leb, lt-leb}
 use Rattle.penalty.specs.Words.{suit_word}
 use Rattle.penalty.proofs.Sets.{suit-fits}
-use borrow.Author.Rules.{rules}
 use Rattle.penalty.proofs.words.suit_word.Goals as goal
 
 pub returns-then-suit-ge4 : goal.returns-then-suit-ge4

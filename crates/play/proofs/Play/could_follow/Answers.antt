@@ -1,6 +1,5 @@
 -- `play::Play::could_follow` meets its contract. Assumes nothing.
 use Rattle.play.specs.Position.{could_follow}
-use borrow.Author.Rules.{rules}
 use Rattle.play.proofs.Play.could_follow.Goals as goal
 
 pub returns : goal.returns

@@ -1,7 +1,6 @@
 -- `play::Play::entries` meets its contract. Assumes nothing.
 use borrow.Author.Tests.{eq-eqb, ne_eqb}
 use Rattle.play.specs.Told.{entries_in}
-use borrow.Author.Rules.{rules}
 use Rattle.play.proofs.Play.entries.Goals as goal
 
 pub returns-then-self-eq0 : goal.returns-then-self-eq0

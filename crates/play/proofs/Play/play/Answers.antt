@@ -1,7 +1,6 @@
 -- `play::Play::play` meets its contract: lead, card and trick, each what its call ensures. Assumes nothing.
 use borrow.Author.Tests.{le-leb, lt-leb}
 use Rattle.play.specs.Position.{step}
-use borrow.Author.Rules.{rules}
 use Rattle.play.proofs.Play.play.Goals as goal
 
 pub returns-then-card-ge52 : goal.returns-then-card-ge52

@@ -2,7 +2,6 @@
 use native.Mathlib.Omega.{arith}
 use Rattle.laws.specs.Cards.{clockwise}
 use Rattle.play.specs.Position.{turn_of}
-use borrow.Author.Rules.{rules}
 use Rattle.play.proofs.Play.turn.Goals as goal
 
 pub returns : goal.returns

@@ -1,9 +1,8 @@
 -- `play::Play::with_card` meets its contract. Assumes nothing.
 use Rattle.play.proofs.Steps.{on_table}
-use borrow.Author.Rules.{rules}
 use Rattle.play.proofs.Play.with_card.Goals as goal
 
 pub returns : goal.returns
 returns c =
     on_table _ _ c.worth-worth.ensures c.revoke_bit-revoke.ensures c.with_played-after.ensures c.card_bit.ensures
-    c.with_bit.ensures c.greater.ensures
+    c.with_bit.ensures c.max.ensures

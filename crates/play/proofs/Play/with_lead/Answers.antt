@@ -1,7 +1,6 @@
 -- `play::Play::with_lead` meets its contract. Assumes nothing.
 use borrow.Author.Tests.{eq-eqb, ne_eqb}
 use Rattle.play.specs.Position.{with_lead}
-use borrow.Author.Rules.{rules}
 use Rattle.play.proofs.Play.with_lead.Goals as goal
 
 pub returns-then-self-eq0 : goal.returns-then-self-eq0

@@ -1,7 +1,6 @@
 -- `play::words::entered` meets its contract. Assumes nothing.
 use mathlib.Core.Path.{refl}
 use Rattle.play.specs.Words.{with_entry}
-use borrow.Author.Rules.{rules}
 use Rattle.play.proofs.words.entered.Goals as goal
 
 pub returns : goal.returns

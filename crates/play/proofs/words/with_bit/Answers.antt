@@ -1,7 +1,6 @@
 -- `play::words::with_bit` meets its contract. Assumes nothing.
 use mathlib.Core.Path.{refl}
 use Rattle.play.specs.Words.{with_bit}
-use borrow.Author.Rules.{rules}
 use Rattle.play.proofs.words.with_bit.Goals as goal
 
 pub returns : goal.returns

@@ -42,21 +42,15 @@ pub returns-in_default : goal.returns-in_default
 returns-in_default c =
     let l = c.loop-i in
     absurd (not-refused _ _ _ _ _ _ _ l.invariant c.loop-i-test.true
-    c.if-count-eq0.false _ c.points_of-points.ensures _ _ c.in_default.is)
+    c.if-count-eq0.false _ c.points_of.ensures _ c.in_default.is)
 
 pub put_row-at-requires : goal.put_row-at-requires
 put_row-at-requires c =
     let l = c.loop-i in
     let h = c.loop-i-test.true in
     let u = c.if-count-eq0.false in
-    let p = both _ _ _ _ _ _ _ l.invariant h u _ c.points_of-points.ensures _ _ c.in-Points.is in
+    let p = both _ _ _ _ _ _ _ l.invariant h u _ c.points_of.ensures _ c.in-Ok.is in
     few _ _ _ _ _ _ _ l.invariant h u _ _ p.0 p.1
-
-pub overflow_add-i : goal.overflow_add-i
-overflow_add-i c = omega arith
-
-pub loop-i-smaller : goal.loop-i-smaller
-loop-i-smaller c = omega arith
 
 pub loop-i-preserved : goal.loop-i-preserved
 loop-i-preserved c =
@@ -64,9 +58,8 @@ loop-i-preserved c =
     let h = c.loop-i-test.true in
     let u = c.if-count-eq0.false in
     let p =
-    both _ _ _ _ _ _ _ l.invariant h u _ c.points_of-points.ensures _ _
-    c.in-Points.is in
-    goes _ _ _ _ _ _ _ l.invariant h u _ _ p.0 p.1 _ _ (rw (as_held _ _ _ _ _ _ _ l.invariant h u) at c.put_row-at.ensures)
+    both _ _ _ _ _ _ _ l.invariant h u _ c.points_of.ensures _ c.in-Ok.is in
+    goes _ _ _ _ _ _ _ l.invariant h u _ _ p.0 p.1 _ _ (rw (as_held _ _ _ _ _ _ _ l.invariant h u, c.from.ensures) at c.put_row-at.ensures)
 
 pub shape_of-out : goal.shape_of-out
 shape_of-out c = put_length c.loop-i.invariant.put ∙ put_length c.put_header-at.ensures

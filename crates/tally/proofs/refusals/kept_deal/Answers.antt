@@ -7,6 +7,6 @@ pub returns-then-results-eq0 : goal.returns-then-results-eq0
 unfolding kept_deal
 returns-then-results-eq0 c = rw (eq-eqb _ _ c.if-results-eq0.true)
 
-pub returns : goal.returns
+pub returns-else-results-eq0 : goal.returns-else-results-eq0
 unfolding kept_deal
-returns c = rw (ne_eqb _ _ c.if-results-eq0.false)
+returns-else-results-eq0 c = rw (ne_eqb _ _ c.if-results-eq0.false)

@@ -1,40 +1,24 @@
 -- `tally::refusals::same_deal` meets its contract. The loop's invariant: no holder is counted and the cards from `i` on are the same exactly where all cards
 -- are. Assumes nothing.
-use Prim.Native.Nat.{◌≤◌}
-use native.Mathlib.Omega.{arith}
-use mathlib.Core.Path.{refl, sym, ◌∙◌}
-use borrow.Author.Rules.{rules}
-use Rattle.tally.proofs.Places.{and-true}
+use Rattle.std.proofs.Common.{◌<◌, ◌≤◌, length, sym, ◌∙◌, rules, arith}
+use Rattle.tally.proofs.Places.{and-true, one_if_not}
 use Rattle.tally.proofs.Dealing.{one-card, card_turn, all-cards}
-use Rattle.tally.proofs.refusals.same_deal.Goals.{After-other_holder-others}
 use Rattle.tally.proofs.refusals.same_deal.Goals as goal
-
-pub loop-i-init : goal.loop-i-init
-loop-i-init c = (omega arith, omega arith, search rules, search rules, refl)
-
--- one card more
-one : (c : After-other_holder-others) → c.other_holder-others.result ≤ 1
-one c =
-    let l = c.loop-i in
-    let a = c.args in
-    one-card a.holders a.holders2 l.i _ (omega (arith, l.invariant.2)) (omega (arith, l.invariant.3)) c.other_holder-others.ensures
-
-pub overflow_add-others : goal.overflow_add-others
-overflow_add-others c = let l = c.loop-i in omega (arith, one c, l.invariant.0, l.invariant.1)
 
 pub loop-i-preserved : goal.loop-i-preserved
 loop-i-preserved c =
-    let l = c.loop-i in
-    let a = c.args in (
-      omega arith,
-      omega (arith, one c, l.invariant.1),
-      l.invariant.2,
-      l.invariant.3,
-      l.invariant.4 ∙ card_turn a.holders a.holders2 l.i _ (omega (arith, l.invariant.2)) (omega (arith, l.invariant.3)) c.other_holder-others.ensures _,
-    )
+    let a = c.args.holders in
+    let b = c.args.holders2 in
+    let i = c.loop-i.i in
+    let m : i < length a = search rules in
+    let n : i < length b = search rules in
+    let e = one_if_not _ _ c.from-others.ensures in
+    (omega (arith, one-card a b i _ m n e), c.loop-i.invariant.1 ∙ card_turn a b i _ m n e _)
 
 pub returns : goal.returns
 returns c =
-    let l = c.loop-i in
-    let a = c.args in
-    sym (l.invariant.4 ∙ rw (all-cards a.holders a.holders2 l.i (omega (arith, l.invariant.2)) (omega (arith, l.invariant.3))) (and-true _))
+    let a = c.args.holders in
+    let b = c.args.holders2 in
+    let m : length a ≤ c.loop-i.i = search rules in
+    let n : length b ≤ c.loop-i.i = search rules in
+    sym (c.loop-i.invariant.1 ∙ rw (all-cards a b c.loop-i.i m n) (and-true _))

@@ -9,7 +9,7 @@ use Rattle.tally_bytes.proofs.Places.{holder_at}
 use Rattle.tally_bytes.proofs.reading.deal_in.Goals as goal
 
 pub loop-i-init : goal.loop-i-init
-loop-i-init c = (omega arith, refl, refl)
+loop-i-init c = (refl, refl)
 
 pub loop-i-preserved : goal.loop-i-preserved
 loop-i-preserved c =
@@ -17,9 +17,8 @@ loop-i-preserved c =
     let bytes = c.args.bytes.now in
     let many = length_deal_in (slice 1 14 bytes) in
     let short = length-slice 1 14 bytes (omega (arith, c.requires)) in (
-      omega arith,
-      length-set l.row l.i _ ∙ l.invariant.1,
-      filled _ l.row l.i _ 0 l.invariant.2 (omega (arith, l.invariant.1)) (omega arith)
+      length-set l.row l.i _ ∙ l.invariant.0,
+      filled _ l.row l.i _ 0 l.invariant.1 (omega (arith, l.invariant.0)) (omega arith)
           (sym (holder_at bytes l.i c.requires (omega arith))),
     )
 
@@ -30,4 +29,4 @@ returns c =
     let e : l.i ≡ 52 = omega arith in
     let many = length_deal_in (slice 1 14 bytes) in
     let short = length-slice 1 14 bytes (omega (arith, c.requires)) in
-    all_filled _ l.row 52 l.invariant.1 (omega arith) (rw e at l.invariant.2)
+    all_filled _ l.row 52 l.invariant.0 (omega arith) (rw e at l.invariant.1)

@@ -1,23 +1,12 @@
--- `score_of` meets its contract, by the first of the 16 bits. Assumes nothing.
-use Prim.Native.Nat.{◌+◌, ◌*◌, ◌<◌}
-use mathlib.Core.Path.{◌≡◌}
-use borrow.Author.Rules.{rules}
-use Rattle.tally_bytes.proofs.Words.{low_word, high_fits, high_word}
-use Rattle.tally_bytes.proofs.reading.score_of.Goals.{After-wide-2}
+-- `score_of` meets its contract: the word of the two bytes, as a signed number. Assumes nothing.
+use Rattle.std.proofs.Common.{◌∙◌, rules}
+use mir.Syntax.{w16}
+use mir.Val.{SFits}
+use mir.Facts.{to_z-of_z}
+use Rattle.tally_bytes.proofs.Words.{score_word}
 use Rattle.tally_bytes.proofs.reading.score_of.Goals as goal
 
--- the word, by the two bytes
-word : (c : After-wide-2) → c.wide.result * 256 + c.wide-2.result ≡ c.args.high * 256 + c.args.low
-word c = rw (c.wide.ensures, c.wide-2.ensures)
-
-word_small : (c : After-wide-2) → c.wide.result * 256 + c.wide-2.result < 65536
-word_small c = search rules
-
-pub returns-then-word-lt32768 : goal.returns-then-word-lt32768
-returns-then-word-lt32768 c = low_word _ _ (word c.before) c.if-word-lt32768.true
-
-pub overflow_sub-result-2 : goal.overflow_sub-result-2
-overflow_sub-result-2 c = high_fits _ _ (word c.before) c.if-word-lt32768.false (word_small c.before)
-
 pub returns : goal.returns
-returns c = high_word _ _ (word c.before) c.if-word-lt32768.false (word_small c.before)
+returns c =
+    let f : SFits w16 c.cast_signed.result = search rules in
+    to_z-of_z f ∙ (rw (c.from.ensures, c.from-2.ensures) at c.cast_signed.ensures ∙ score_word _)

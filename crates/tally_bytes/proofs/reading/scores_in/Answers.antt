@@ -20,7 +20,7 @@ many : (bytes : List ℕ) → length bytes ≡ 398 → length (scores_in_bytes (
 many bytes n = length_scores_in 128 (slice 14 270 bytes) (length-slice 14 270 bytes (omega arith))
 
 pub loop-i-init : goal.loop-i-init
-loop-i-init c = (omega arith, refl, refl)
+loop-i-init c = (refl, refl)
 
 pub loop-i-preserved : goal.loop-i-preserved
 loop-i-preserved c =
@@ -28,13 +28,12 @@ loop-i-preserved c =
     let bytes = c.args.bytes.now in
     let fits : SFits w16 c.score_of.result = search rules in
     let e = to_z-of_z fits ∙ c.score_of.ensures ∙ sym (score_at bytes l.i c.requires (omega arith)) in (
-      omega arith,
-      length-set l.row l.i _ ∙ l.invariant.1,
-      filled _ l.row l.i _ (pos 0) l.invariant.2 (omega (arith, l.invariant.1)) (omega (arith, many bytes c.requires)) e,
+      length-set l.row l.i _ ∙ l.invariant.0,
+      filled _ l.row l.i _ (pos 0) l.invariant.1 (omega (arith, l.invariant.0)) (omega (arith, many bytes c.requires)) e,
     )
 
 pub returns : goal.returns
 returns c =
     let l = c.loop-i in
     let e : l.i ≡ 128 = omega arith in
-    all_filled _ l.row 128 l.invariant.1 (many c.args.bytes.now c.requires) (rw e at l.invariant.2)
+    all_filled _ l.row 128 l.invariant.0 (many c.args.bytes.now c.requires) (rw e at l.invariant.1)

@@ -1,5 +1,5 @@
 -- `scores_in` meets its contract: the first i of the row are those of the bytes. Assumes nothing.
-use Prim.Native.Nat.{◌≤◌, ◌-◌}
+use Prim.Native.Nat.{}
 use mathlib.Core.Path.{◌≡◌}
 use lib.ListN.{length, take}
 use lib.Seq.{slice}
@@ -7,7 +7,4 @@ use Rattle.tally.specs.InBytes.{scores_in_bytes}
 use Rattle.tally_bytes.proofs.reading.scores_in.Given as goal
 
 abbrev pub invariant-loop-i : goal.invariant-loop-i
-invariant-loop-i l = (l.i ≤ 128) × (length l.row ≡ 128) × (take l.i l.row ≡ take l.i (scores_in_bytes (slice 14 270 l.bytes)))
-
-abbrev pub decreases-loop-i : goal.decreases-loop-i
-decreases-loop-i l = 128 - l.i
+invariant-loop-i l = (length l.row ≡ 128) × (take l.i l.row ≡ take l.i (scores_in_bytes (slice 14 270 l.bytes)))

@@ -11,11 +11,11 @@ loop-i-preserved c =
     let l = c.loop-i in
     let a = c.args in
     let n : length a.counts ≡ 128 = search rules in
-    (omega arith, stored a.out.now a.counts 270 l.i 0 l.invariant.1 (omega arith) refl, search rules)
+    (stored a.out.now a.counts 270 l.i 0 l.invariant.0 (omega arith) refl, search rules)
 
 pub returns : goal.returns
 returns c =
     let l = c.loop-i in
     let a = c.args in
     let n : length a.counts ≡ 128 = search rules in
-    all_stored a.out.now a.counts 270 l.i 0 l.invariant.1 (omega arith)
+    all_stored a.out.now a.counts 270 l.i 0 l.invariant.0 (omega arith)

@@ -14,8 +14,7 @@ loop-i-preserved c =
     let a = c.args in
     let n : length a.holders ≡ 52 = search rules in
     let e = c.byte_of.ensures ∙ sym (four_at a.holders l.i (omega arith)) in (
-      omega arith,
-      stored a.out.now _ 1 l.i 0 l.invariant.1 (omega (arith, length-deal-bytes 13 a.holders n)) e,
+      stored a.out.now _ 1 l.i 0 l.invariant.0 (omega (arith, length-deal-bytes 13 a.holders n)) e,
       search rules,
     )
 
@@ -24,4 +23,4 @@ returns c =
     let l = c.loop-i in
     let a = c.args in
     let n : length a.holders ≡ 52 = search rules in
-    all_stored a.out.now _ 1 l.i 0 l.invariant.1 (omega (arith, length-deal-bytes 13 a.holders n))
+    all_stored a.out.now _ 1 l.i 0 l.invariant.0 (omega (arith, length-deal-bytes 13 a.holders n))

@@ -1,5 +1,4 @@
 -- `put_deal` meets its contract: after i turns the first i bytes are stored. Assumes nothing.
-use Prim.Native.Nat.{◌≤◌, ◌-◌}
 use mathlib.Core.Path.{◌≡◌}
 use lib.ListN.{length, take}
 use lib.Seq.{sets}
@@ -7,7 +6,4 @@ use Rattle.tally.specs.InBytes.{deal_bytes}
 use Rattle.tally_bytes.proofs.writing.put_deal.Given as goal
 
 abbrev pub invariant-loop-i : goal.invariant-loop-i
-invariant-loop-i l = (l.i ≤ 13) × (l.out ≡ sets l.initial.out 1 (take l.i (deal_bytes l.holders))) × (length l.out ≡ length l.initial.out)
-
-abbrev pub decreases-loop-i : goal.decreases-loop-i
-decreases-loop-i l = 13 - l.i
+invariant-loop-i l = (l.out ≡ sets l.initial.out 1 (take l.i (deal_bytes l.holders))) × (length l.out ≡ length l.initial.out)

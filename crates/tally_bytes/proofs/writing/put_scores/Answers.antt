@@ -11,6 +11,8 @@ use mir.Facts.{to_z-of_z}
 use Rattle.tally.proofs.InBytes.{length-score-bytes}
 use Rattle.tally_bytes.proofs.Rows.{stored_two, all_stored}
 use Rattle.tally_bytes.proofs.Places.{high_byte, low_byte}
+use mathlib.Core.Path.{◌∙◌}
+use Rattle.tally_bytes.proofs.Words.{word_score}
 use Rattle.tally_bytes.proofs.writing.put_scores.Goals as goal
 
 pub bounds-out-i-in-loop-i : goal.bounds-out-i-in-loop-i
@@ -22,13 +24,12 @@ loop-i-preserved c =
     let a = c.args in
     let n : length a.scores ≡ 128 = search rules in
     let fits : SFits w16 (get_or a.scores l.i (pos 0)) = search rules in
-    let e = rw (to_z-of_z fits) at c.word_of-word.ensures in
-    let small : c.word_of-word.result < 65536 = search rules in (
-      omega arith,
-      stored_two a.out.now _ 14 l.i 0 l.invariant.1 (omega (arith, length-score-bytes a.scores))
-          (c.narrow.ensures ∙ high_byte a.scores l.i (omega arith) e small)
-          (c.narrow-in-loop-i.ensures ∙ low_byte a.scores l.i (omega arith) e small),
-      simp length-set l.invariant.2,
+    let e = rw (to_z-of_z fits) at c.cast_unsigned-word.ensures ∙ word_score _ fits in
+    let small : c.cast_unsigned-word.result < 65536 = search rules in (
+      stored_two a.out.now _ 14 l.i 0 l.invariant.0 (omega (arith, length-score-bytes a.scores))
+          (high_byte a.scores l.i (omega arith) e small)
+          (low_byte a.scores l.i (omega arith) e small),
+      simp length-set l.invariant.1,
     )
 
 pub returns : goal.returns
@@ -36,4 +37,4 @@ returns c =
     let l = c.loop-i in
     let a = c.args in
     let n : length a.scores ≡ 128 = search rules in
-    all_stored a.out.now _ 14 (2 * l.i) 0 l.invariant.1 (omega (arith, length-score-bytes a.scores))
+    all_stored a.out.now _ 14 (2 * l.i) 0 l.invariant.0 (omega (arith, length-score-bytes a.scores))

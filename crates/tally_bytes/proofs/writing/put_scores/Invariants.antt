@@ -1,5 +1,5 @@
 -- `put_scores` meets its contract: after i turns the bytes of the first i scores are stored. Assumes nothing.
-use Prim.Native.Nat.{◌≤◌, ◌-◌, ◌*◌}
+use Prim.Native.Nat.{◌*◌}
 use mathlib.Core.Path.{◌≡◌}
 use lib.ListN.{length, take}
 use lib.Seq.{sets}
@@ -7,7 +7,4 @@ use Rattle.tally.specs.InBytes.{score_bytes}
 use Rattle.tally_bytes.proofs.writing.put_scores.Given as goal
 
 abbrev pub invariant-loop-i : goal.invariant-loop-i
-invariant-loop-i l = (l.i ≤ 128) × (l.out ≡ sets l.initial.out 14 (take (2 * l.i) (score_bytes l.scores))) × (length l.out ≡ length l.initial.out)
-
-abbrev pub decreases-loop-i : goal.decreases-loop-i
-decreases-loop-i l = 128 - l.i
+invariant-loop-i l = (l.out ≡ sets l.initial.out 14 (take (2 * l.i) (score_bytes l.scores))) × (length l.out ≡ length l.initial.out)

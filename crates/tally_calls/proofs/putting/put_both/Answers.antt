@@ -1,5 +1,6 @@
 -- `put_both` meets its contract. Assumes nothing.
 use native.Mathlib.Omega.{arith}
+use mathlib.Core.Path.{refl}
 use lib.ListN.{length-set}
 use Rattle.tally_calls.proofs.Fronts.{four}
 use Rattle.tally_calls.proofs.putting.put_both.Goals as goal
@@ -11,4 +12,4 @@ pub bounds-out-2 : goal.bounds-out-2
 bounds-out-2 c = simp length-set (omega arith)
 
 pub returns : goal.returns
-returns c = four _ _ c.args.out.now c.requires c.narrow.ensures c.narrow-2.ensures c.narrow-3.ensures c.narrow-4.ensures
+returns c = four _ _ c.args.out.now c.requires refl refl refl refl

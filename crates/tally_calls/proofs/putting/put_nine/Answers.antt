@@ -10,7 +10,7 @@ use Rattle.tally_calls.proofs.Fronts.{eighth, nine}
 use Rattle.tally_calls.proofs.putting.put_nine.Goals as goal
 
 pub loop-i-init : goal.loop-i-init
-loop-i-init c = (omega arith, refl, refl)
+loop-i-init c = (refl, refl)
 
 pub bounds-cell-i : goal.bounds-cell-i
 bounds-cell-i c = omega (arith, length-set c.args.cell.now 0 c.args.kind)
@@ -19,20 +19,19 @@ pub loop-i-preserved : goal.loop-i-preserved
 loop-i-preserved c =
     let l = c.loop-i in
     let a = c.args in
-    let e = c.last_byte.ensures ∙ sym (eighth a.bits l.i (omega arith)) in (
-      omega arith,
-      stored (set a.cell.now 0 a.kind) (bytes_of 8 a.bits) 1 l.i 0 l.invariant.1 (omega (arith, length-bytes 8 a.bits)) e,
-      length-set l.cell (1 + l.i) _ ∙ l.invariant.2,
+    let e = sym (eighth a.bits l.i (omega arith)) in (
+      stored (set a.cell.now 0 a.kind) (bytes_of 8 a.bits) 1 l.i 0 l.invariant.0 (omega (arith, length-bytes 8 a.bits)) e,
+      length-set l.cell (1 + l.i) _ ∙ l.invariant.1,
     )
 
 pub shape_of-cell : goal.shape_of-cell
 shape_of-cell c =
     let a = c.args in
-    c.loop-i.invariant.2 ∙ length-set a.cell.now 0 a.kind
+    c.loop-i.invariant.1 ∙ length-set a.cell.now 0 a.kind
 
 pub returns : goal.returns
 returns c =
     let l = c.loop-i in
     let a = c.args in
-    all_stored (set a.cell.now 0 a.kind) (bytes_of 8 a.bits) 1 l.i 0 l.invariant.1 (omega (arith, length-bytes 8 a.bits))
+    all_stored (set a.cell.now 0 a.kind) (bytes_of 8 a.bits) 1 l.i 0 l.invariant.0 (omega (arith, length-bytes 8 a.bits))
     ∙ nine a.kind a.bits a.cell.now c.requires

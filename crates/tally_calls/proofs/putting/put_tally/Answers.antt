@@ -1,20 +1,19 @@
 -- `put_tally` meets its contract, by whether the call is refused. Assumes nothing.
-use mathlib.Core.Path.{refl}
-use borrow.Author.Rules.{rules}
-use borrow.Author.Tests.{eq-eqb, ne_eqb, le-ltb}
-use lib.ListN.{length}
+use Rattle.std.proofs.Common.{refl, length}
+use borrow.Author.Tests.{ne_eqb, le-ltb}
+use Rattle.laws.specs.Refused.{number}
+use Rattle.laws.proofs.RefusalNumbers.{number_not_none}
 use Rattle.tally_bytes.specs.Written.{tally_left}
 use Rattle.tally_calls.specs.Calls.{buffer_left, tallied}
 use Rattle.tally_calls.proofs.putting.put_tally.Goals as goal
 
-pub returns-then-answer-ne-ACCEPTED : goal.returns-then-answer-ne-ACCEPTED
-unfolding tallied buffer_left
-returns-then-answer-ne-ACCEPTED c =
-    let n = c.args.answer.refusal in
-    record { number = rw (ne_eqb n 0 c.if-answer-ne-ACCEPTED.true) c.refusal_of.ensures; left = rw (ne_eqb n 0 c.if-answer-ne-ACCEPTED.true) refl }
-
-pub returns : goal.returns
+pub returns-in-Ok : goal.returns-in-Ok
 unfolding tallied buffer_left tally_left
-returns c =
-    let e = c.write.ensures in
-    record { number = rw (eq-eqb c.args.answer.refusal 0 (search rules)) refl; left = rw (eq-eqb c.args.answer.refusal 0 (search rules)) (rw (le-ltb (length c.args.out.now) 398 c.requires) at e) }
+returns-in-Ok c =
+    record { number = rw c.in-Ok.is refl; left = rw c.in-Ok.is (rw (le-ltb (length c.args.out.now) 398 c.requires) at c.write.ensures) }
+
+pub returns-in-Err : goal.returns-in-Err
+unfolding tallied buffer_left
+returns-in-Err c =
+    let n = ne_eqb (number c.in-Err.refusal.refusal) 0 (number_not_none c.in-Err.refusal.refusal) in
+    record { number = rw (c.in-Err.is, n) c.from.ensures; left = rw (c.in-Err.is, n) refl }

@@ -1,27 +1,24 @@
 -- `bits_beside_codes` meets its contract: the bits so far and those to come are all of them. Assumes nothing.
-use Prim.Native.Nat.{ℕ, ◌≤◌, ◌<◌, ◌+◌, ◌-◌, ◌*◌}
-use mathlib.Core.Path.{◌≡◌, refl, sym, ap, ◌∙◌}
+use mathlib.Core.Path.{sym, ◌∙◌}
 use native.Mathlib.Omega.{arith}
-use borrow.Author.Rules.{rules}
-use lib.ListN.{length, get_or}
-use Rattle.writer.proofs.Measuring.{Measured, measure_begins, measure_ends, measure_card, measure_code}
+use Rattle.writer.proofs.Measuring.{measure_begins, measure_ends, measure_card, measure_code}
 use Rattle.writer.proofs.write.bits_beside_codes.Goals as goal
 
 pub loop-i-init : goal.loop-i-init
-loop-i-init c = (measure_begins _ c.requires.0, omega arith)
+loop-i-init c = (measure_begins _ c.requires.whole, omega arith)
 
 pub overflow_add-sum : goal.overflow_add-sum
-overflow_add-sum c = omega (arith, c.code_bits-sum.ensures.1, c.loop-i.invariant.0.few, c.loop-i-test.true, c.requires.1)
+overflow_add-sum c = omega (arith, c.code_bits-sum.ensures.most, c.loop-i.invariant.0.few, c.loop-i-test.true, c.requires.few)
 
 pub loop-i-preserved-then-begins_code : goal.loop-i-preserved-then-begins_code
 loop-i-preserved-then-begins_code c =
     let n = c.code_bits-sum.ensures in (
-      measure_code _ c.loop-i.invariant.0 c.loop-i-test.true _ n.0 n.1 (sym c.begins_code.ensures ∙ c.if-begins_code.true),
+      measure_code _ c.loop-i.invariant.0 c.loop-i-test.true _ n.value n.most (sym c.begins_code.ensures ∙ c.if-begins_code.true),
       omega (arith, c.loop-i-test.true),
     )
 
 pub overflow_add-sum-else-begins_code : goal.overflow_add-sum-else-begins_code
-overflow_add-sum-else-begins_code c = omega (arith, c.loop-i.invariant.0.few, c.loop-i-test.true, c.requires.1)
+overflow_add-sum-else-begins_code c = omega (arith, c.loop-i.invariant.0.few, c.loop-i-test.true, c.requires.few)
 
 pub loop-i-preserved : goal.loop-i-preserved
 loop-i-preserved c = (measure_card _ c.loop-i.invariant.0 c.loop-i-test.true (sym c.begins_code.ensures ∙ c.if-begins_code.false), omega (arith, c.loop-i-test.true))

@@ -1,6 +1,5 @@
 -- `play_bits` meets its contract: without a code each number takes six bits. Assumes nothing.
 use mathlib.Core.Path.{sym, ◌∙◌}
-use borrow.Author.Rules.{rules}
 use Rattle.writer.proofs.CardsAlone.{bits-alone}
 use Rattle.writer.proofs.write.play_bits.Goals as goal
 

@@ -1,6 +1,5 @@
 -- `put_calls` meets its contract: two calls. Assumes nothing.
 use Rattle.writer.proofs.Writing.{front}
-use borrow.Author.Rules.{rules}
 use Rattle.writer.proofs.write.put_calls.Goals as goal
 
 pub returns : goal.returns

@@ -1,6 +1,5 @@
 -- `put_claim` meets its contract, without a claim and with one. Assumes nothing.
 use Rattle.writer.proofs.Writing.{unmarked, marked_claim}
-use borrow.Author.Rules.{rules}
 use Rattle.writer.proofs.write.put_claim.Goals as goal
 
 pub returns-then-marked-eq0 : goal.returns-then-marked-eq0

@@ -1,6 +1,5 @@
 -- `put_code` meets its contract, of an exposure and of a choice. Assumes nothing.
 use Rattle.writer.proofs.Writing.{exposure_put, choice_put}
-use borrow.Author.Rules.{rules}
 use Rattle.writer.proofs.write.put_code.Goals as goal
 
 pub returns-then-code-eq52 : goal.returns-then-code-eq52

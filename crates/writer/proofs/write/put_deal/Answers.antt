@@ -1,6 +1,5 @@
 -- `put_deal` meets its contract: three calls. Assumes nothing.
 use Rattle.writer.proofs.Writing.{front}
-use borrow.Author.Rules.{rules}
 use Rattle.writer.proofs.write.put_deal.Goals as goal
 
 pub returns : goal.returns

@@ -1,10 +1,10 @@
 -- `put_events` meets its contract: what is put, and the fields to come, are all of them. Assumes nothing.
-use Prim.Native.Nat.{ℕ, ◌≤◌, ◌<◌, ◌+◌, ◌-◌}
-use mathlib.Core.Path.{◌≡◌, refl, sym, ap, ◌∙◌}
+use Prim.Native.Nat.{◌<◌, ◌+◌}
+use mathlib.Core.Path.{sym, ◌∙◌}
 use native.Mathlib.Omega.{arith}
 use borrow.Author.Rules.{rules}
-use lib.ListN.{length, get_or}
-use Rattle.writer.proofs.Writing.{both, Reached, plays_begin, plays-long, plays_end, plays-card, plays_code, plays-room}
+use lib.ListN.{length}
+use Rattle.writer.proofs.Writing.{both, plays_begin, plays-long, plays_end, plays-card, plays_code, plays-room}
 use Rattle.writer.proofs.write.put_events.Goals.{After-begins_code, After-put_code-q, At-loop-i, Start, Then-begins_code}
 use Rattle.writer.proofs.write.put_events.Goals as goal
 
@@ -32,7 +32,7 @@ loop-i-preserved-then-begins_code c = (
 pub loop-i-preserved : goal.loop-i-preserved
 loop-i-preserved c = (
   plays-card _ _ _ c.loop-i.invariant.0 c.loop-i-test.true (sym c.begins_code.ensures ∙ c.if-begins_code.false)
-      (rw c.wide.ensures.0 at (both c.put-q.ensures.packer c.put-q.ensures.bytes)),
+      (rw c.from.ensures at (both c.put-q.ensures.packer c.put-q.ensures.bytes)),
   omega (arith, c.loop-i-test.true),
 )
 

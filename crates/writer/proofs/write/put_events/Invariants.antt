@@ -1,10 +1,7 @@
 -- `put_events` meets its contract: what is put, and the fields to come, are all of them. Assumes nothing.
-use Prim.Native.Nat.{ℕ, ◌≤◌, ◌<◌, ◌+◌, ◌-◌}
-use mathlib.Core.Path.{◌≡◌, refl, sym, ap, ◌∙◌}
-use native.Mathlib.Omega.{arith}
-use borrow.Author.Rules.{rules}
-use lib.ListN.{length, get_or}
-use Rattle.writer.proofs.Writing.{Reached, plays_begin, plays-long, plays_end, plays-card, plays_code, plays-room}
+use Prim.Native.Nat.{◌≤◌, ◌+◌, ◌-◌}
+use lib.ListN.{length}
+use Rattle.writer.proofs.Writing.{Reached}
 use Rattle.writer.proofs.write.put_events.Given as goal
 
 abbrev pub invariant-loop-i : goal.invariant-loop-i

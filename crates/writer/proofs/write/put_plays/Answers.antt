@@ -2,7 +2,6 @@
 use mathlib.Core.Path.{sym, ◌∙◌}
 use Rattle.writer.proofs.Writing.{both, front}
 use Rattle.writer.proofs.CardsAlone.{fields-alone}
-use borrow.Author.Rules.{rules}
 use Rattle.writer.proofs.write.put_plays.Goals as goal
 
 pub returns-then-has_code : goal.returns-then-has_code

@@ -1,7 +1,6 @@
 -- `write_contents` meets its contract: the sections of the layout, and the end. Assumes nothing.
 use Rattle.writer.specs.Fields.{fields_of}
 use Rattle.writer.proofs.Writing.{both, cards_among_lem, sections}
-use borrow.Author.Rules.{rules}
 use Rattle.writer.proofs.write.write_contents.Goals as goal
 
 pub returns : goal.returns

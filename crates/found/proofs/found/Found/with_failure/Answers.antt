@@ -1,6 +1,5 @@
 -- `found::found::Found::with_failure` meets its contract. Assumes nothing.
 use Rattle.found.specs.Found.{with_failure}
-use borrow.Author.Rules.{rules}
 use Rattle.found.proofs.found.Found.with_failure.Goals as goal
 
 pub returns : goal.returns

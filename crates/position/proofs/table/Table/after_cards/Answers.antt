@@ -1,5 +1,4 @@
 -- `position::table::Table::after_cards` meets its contract. Assumes nothing.
-use borrow.Author.Rules.{rules}
 use Rattle.position.proofs.table.Table.after_cards.Goals as goal
 
 pub returns : goal.returns

@@ -1,6 +1,5 @@
 -- `position::table::Table::choose` meets its contract. Assumes nothing.
 use Rattle.position.specs.Table.{after_choice}
-use borrow.Author.Rules.{rules}
 use Rattle.position.proofs.table.Table.choose.Goals as goal
 
 pub returns : goal.returns

@@ -1,6 +1,5 @@
 -- `position::table::Table::entry` meets its contract. Assumes nothing.
 use Rattle.position.specs.Table.{entry_in}
-use borrow.Author.Rules.{rules}
 use Rattle.position.proofs.table.Table.entry.Goals as goal
 
 pub returns : goal.returns

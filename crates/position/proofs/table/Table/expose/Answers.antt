@@ -1,6 +1,5 @@
 -- `position::table::Table::expose` meets its contract. Assumes nothing.
 use Rattle.position.specs.Table.{after_exposed}
-use borrow.Author.Rules.{rules}
 use Rattle.position.proofs.table.Table.expose.Goals as goal
 
 pub returns : goal.returns

@@ -1,6 +1,5 @@
 -- `position::table::Table::found_after` meets its contract. Assumes nothing.
 use Rattle.position.proofs.Marking.{found_failure, found_none}
-use borrow.Author.Rules.{rules}
 use Rattle.position.proofs.table.Table.found_after.Goals as goal
 
 pub returns-then-fails : goal.returns-then-fails

@@ -1,6 +1,5 @@
 -- `position::table::Table::new` meets its contract. Assumes nothing.
 use Rattle.position.specs.Table.{table_of}
-use borrow.Author.Rules.{rules}
 use Rattle.position.proofs.table.Table.new.Goals as goal
 
 pub returns : goal.returns

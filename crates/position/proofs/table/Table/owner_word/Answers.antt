@@ -1,7 +1,6 @@
 -- `position::table::Table::owner_word` meets its contract. Assumes nothing.
 use borrow.Author.Tests.{le-leb, lt-leb}
 use Rattle.position.specs.Table.{owner_word}
-use borrow.Author.Rules.{rules}
 use Rattle.position.proofs.table.Table.owner_word.Goals as goal
 
 pub returns-then-card-ge52 : goal.returns-then-card-ge52

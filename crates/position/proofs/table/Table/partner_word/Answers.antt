@@ -1,7 +1,6 @@
 -- `position::table::Table::partner_word` meets its contract. Assumes nothing.
 use Rattle.position.specs.Table.{partner_word}
 use Rattle.position.proofs.Marking.{partner_at}
-use borrow.Author.Rules.{rules}
 use Rattle.position.proofs.table.Table.partner_word.Goals as goal
 
 pub returns : goal.returns

@@ -1,8 +1,6 @@
 -- `position::table::Table::play` meets its contract. Assumes nothing.
-use mathlib.Core.Path.{◌∙◌, ap}
-use Rattle.play.specs.declared.Play.{Play}
-use Rattle.position.specs.Table.{with_play, after_play}
-use borrow.Author.Rules.{rules}
+use mathlib.Core.Path.{◌∙◌}
+use Rattle.position.specs.Table.{after_play}
 use Rattle.position.proofs.table.Table.play.Goals as goal
 
 pub returns : goal.returns

@@ -1,13 +1,7 @@
 -- `position::table::Table::revokes` meets its contract: both lists are filled in from the last revoke on. The measure is the bits left. Assumes nothing.
-use Prim.Native.Nat.{◌-◌, ◌≤◌, ◌<◌, ◌^◌}
-use mathlib.Core.Path.{refl}
-use native.Mathlib.Omega.{arith}
-use borrow.Author.Rules.{rules}
-use lib.Bits.{or_lt}
-use lib.Count.{ones, ones-le, trailing_le}
-use Rattle.position.specs.Listed.{listed_byte, flag_at, bits_in}
-use Rattle.play.proofs.Filling.{Listing, list-begins, list-low, list-one, list-goes, list_ends}
-use Rattle.position.proofs.Listing.{too_many, as_listed}
+use Prim.Native.Nat.{◌-◌}
+use Rattle.position.specs.Listed.{listed_byte, flag_at}
+use Rattle.play.proofs.Filling.{Listing}
 use Rattle.position.proofs.table.Table.revokes.Given as goal
 
 abbrev pub invariant-loop-rest : goal.invariant-loop-rest

@@ -1,6 +1,5 @@
 -- `position::table::Table::turn_now` meets its contract. Assumes nothing.
 use Rattle.position.specs.Table.{turn_in}
-use borrow.Author.Rules.{rules}
 use Rattle.position.proofs.table.Table.turn_now.Goals as goal
 
 pub returns : goal.returns

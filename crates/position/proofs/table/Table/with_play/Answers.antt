@@ -1,7 +1,6 @@
 -- `position::table::Table::with_play` meets its contract. Assumes nothing.
 use borrow.Author.Tests.{eq-eqb, ne_eqb, le-leb, lt-leb}
 use Rattle.position.specs.Table.{keeps_lead}
-use borrow.Author.Rules.{rules}
 use Rattle.position.proofs.table.Table.with_play.Goals as goal
 
 pub returns-then-pen-eq0 : goal.returns-then-pen-eq0

@@ -1,6 +1,0 @@
--- `no_calls` meets its contract. Assumes nothing.
-use borrow.Author.Rules.{rules}
-use Rattle.contents.proofs.calls.no_calls.Goals as goal
-
-pub returns : goal.returns
-returns c = simp (c.refusal_number.ensures, c.new-after.ensures)
