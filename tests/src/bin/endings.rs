@@ -152,7 +152,8 @@ fn record(random: &mut Random, k: u64) -> Vec<u8> {
         0 => damaged(random, damage::KINDS[(k / 12) as usize % damage::KINDS.len()]),
         1 => damaged_code(random, codes::KINDS[(k / 12) as usize % codes::KINDS.len()]),
         2 => {
-            let mut bytes = making::lawful(random).parts.bytes();
+            let made = if random.percent(25) { making::passed_out(random) } else { making::lawful(random) };
+            let mut bytes = made.parts.bytes();
             let more = random.between(1, 3000);
             bytes.extend(random.bytes(more));
             bytes
