@@ -13,14 +13,14 @@ pub struct Run {
     pub stopped: Option<Refusal>,
 }
 
-// The run of the cards of the list.
+// The run of the cards of the list. A card is asked about and then played, as the judge's are: a position in a Result at each card takes time.
 pub(crate) fn take_run(plays: &[u8], first: Play) -> Run
     ensures { result ≡ run_of plays.now first 0 (length plays.now) }
 {
     let mut play = first;
     for (place, card) in plays.iter().enumerate() {
-        match play.take(*card) {
-            Ok(after) => play = after,
+        match play.verdict(*card) {
+            Ok(()) => play = play.play(*card),
             Err(refusal) => {
                 return Run {
                     play,

@@ -22,7 +22,8 @@ pub struct Run {
     pub stopped: Option<NotPlayed>,
 }
 
-// The run of so many cards from a bit on, all of which lie whole within the bytes.
+// The run of so many cards from a bit on, all of which lie whole within the bytes. A card is asked about and then played, which `Play::take` does in one: with a
+// position in a Result at each card the judge takes twice the time.
 pub(crate) fn read_run(bytes: &[u8], first: Play, at: usize, count: u16) -> Run
     requires from { 8 ≤ at }
     requires to { at < 65536 }
@@ -34,8 +35,8 @@ pub(crate) fn read_run(bytes: &[u8], first: Play, at: usize, count: u16) -> Run
     let mut next = at;
     for place in 0..count {
         let code = code_ending(bytes, next + 5);
-        match play.take(code) {
-            Ok(after) => play = after,
+        match play.verdict(code) {
+            Ok(()) => play = play.play(code),
             Err(refusal) => {
                 return Run {
                     play,

@@ -1,5 +1,5 @@
 -- What the answer to a card tells of the card. Assumes nothing.
-use Rattle.std.proofs.Common.{◌≡◌, refl, ℕ, Result, Ok, Err}
+use Rattle.std.proofs.Common.{◌≡◌, refl, ap, ℕ, Result, Ok, Err}
 use Rattle.std.specs.Result.{result_and}
 use Rattle.laws.specs.Refusals.{accepted}
 use Rattle.laws.specs.Refused.{number_or_none}
@@ -23,3 +23,12 @@ taken p card e = allowed (verdict_of p card) e
 pub not_taken : (p : Play) (card : ℕ) {r : Refusal} → Err r ≡ taken_of p card → verdict_of p card ≡ Err r
 unfolding taken_of
 not_taken p card e = not_allowed (verdict_of p card) (step p card) e
+
+-- a card that is asked about and then played is taken, or is refused
+pub as_taken : (p : Play) (card : ℕ) {q : Play} → Ok tt ≡ verdict_of p card → q ≡ step p card → Ok q ≡ taken_of p card
+unfolding taken_of
+as_taken p card e s = rw s (ap (λ (v : Result (Unit {0}) Refusal). result_and v (Ok (step p card))) e)
+
+pub as_refused : (p : Play) (card : ℕ) {r : Refusal} → Err r ≡ verdict_of p card → Err r ≡ taken_of p card
+unfolding taken_of
+as_refused p card e = ap (λ (v : Result (Unit {0}) Refusal). result_and v (Ok (step p card))) e

@@ -237,6 +237,7 @@ impl Play {
     }
 
     // The position with one card more, played by the seat at turn.
+    #[inline(always)]
     pub fn play(mut self, card: u8) -> Self
         ensures { result ≡ step self card }
     {

@@ -19,7 +19,7 @@ use Rattle.laws.proofs.Integers.{size_neg, mag-le-size}
 use Rattle.score.proofs.Validity.{valid-size}
 use Rattle.laws.proofs.Tests.{by_test}
 use Rattle.decimal.specs.Numbers.{number_on}
-use Rattle.score_lines.specs.Reading.{size_on, if_valid, positive_of, negative_of, said_on}
+use Rattle.score_lines.specs.Reading.{size_on, if_valid, positive_of, negative_of, signed_of, said_on}
 
 -- ---- a size
 module _ (s : List ℕ) where
@@ -59,11 +59,11 @@ pub over : (z : ℤ) → 7600 < nat_abs z → valid_score z ≡ false
 unfolding valid_score
 over z h = rw (lt-leb (nat_abs z) 7600 h)
 
-pub positive_over : (n : ℕ) → 7600 < n → None ≡ positive_of (Some n)
+positive_over : (n : ℕ) → 7600 < n → None ≡ positive_of (Some n)
 unfolding positive_of if_valid
 positive_over n h = rw (over (pos n) h)
 
-pub negative_over : (n : ℕ) → 7600 < n → None ≡ negative_of (Some n)
+negative_over : (n : ℕ) → 7600 < n → None ≡ negative_of (Some n)
 unfolding negative_of if_valid
 negative_over zero h = absurd (omega arith)
 negative_over (suc n) h = rw (over (negsuc n) h)
@@ -88,6 +88,16 @@ as_signed n h = to_z_pos w16 (omega arith)
 
 pub minus-fits : (n : ℕ) → n ≤ 7600 → SFits w16 (pos 0 -ℤ to_z w16 n)
 minus-fits n h = rw (as_signed n h, +ℤ_idl) (record { sfits = omega (arith, mag-le-size (neg_ℤ (pos n)), size_neg (pos n)) })
+
+-- no score, with a minus or without one
+pub none-signed : (minus : Bool) {n : Option ℕ} → n ≡ None → None ≡ signed_of minus n
+unfolding positive_of negative_of
+none-signed true e = rw e
+none-signed false e = rw e
+
+pub over-signed : (minus : Bool) {n : Option ℕ} {size : ℕ} → n ≡ Some size → 7600 < size → None ≡ signed_of minus n
+over-signed true {size = size} e h = negative_over size h ∙ ap negative_of (sym e)
+over-signed false {size = size} e h = positive_over size h ∙ ap positive_of (sym e)
 
 pub positive_said : (n : Option ℕ) (size : ℕ) (r : Option ℤ) → n ≡ Some size → size ≤ 7600 → r ≡ if_valid (to_z w16 size) → r ≡ positive_of n
 unfolding positive_of

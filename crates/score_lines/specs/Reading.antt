@@ -1,5 +1,5 @@
 -- What the functions that read a line answer. Assumes nothing.
-use Rattle.std.specs.Prelude.{ℕ, suc, List, [], ◌∷◌, eqb, ℤ, pos, neg_ℤ, Option, Some, None, if◌then◌else◌}
+use Rattle.std.specs.Prelude.{ℕ, suc, Bool, List, [], ◌∷◌, eqb, ℤ, pos, neg_ℤ, Option, Some, None, if◌then◌else◌}
 use Rattle.laws.specs.Decimal.{value}
 use Rattle.laws.specs.Law77.{valid_score}
 use Rattle.laws.specs.Sheet.{newline, is_size, score_of, is_score}
@@ -26,6 +26,10 @@ positive_of None = None
 unfoldable pub negative_of : Option ℕ → Option ℤ
 negative_of (Some size) = if_valid (neg_ℤ (pos size))
 negative_of None = None
+
+-- a number as a score, with a minus or without one
+abbrev pub signed_of : Bool → Option ℕ → Option ℤ
+signed_of minus n = if minus then negative_of n else positive_of n
 
 -- the score on a line, where it says one
 unfoldable pub said_on : List ℕ → Option ℤ

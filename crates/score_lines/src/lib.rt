@@ -4,7 +4,7 @@
 ghost use Rattle.std.specs.Prelude.{◌≡◌, ◌+◌, ◌≤◌, length, drop};
 ghost use Rattle.tally.specs.Tallies.{tallied_of, add_of};
 ghost use Rattle.tree_stack.specs.Deals.{suits};
-ghost use Rattle.score_lines.specs.Reading.{line_length, size_on, if_valid, positive_of, negative_of, said_on};
+ghost use Rattle.score_lines.specs.Reading.{line_length, size_on, if_valid, signed_of, said_on};
 ghost use Rattle.score_lines.specs.Whole.{Found};
 
 use deal::SUITS;
@@ -53,30 +53,20 @@ fn if_valid(score: i16) -> Option<i16>
     if valid(score) { Some(score) } else { None }
 }
 
-// A number as a score.
-fn positive(n: Option<u32>) -> Option<i16>
-    ensures { result ≡ positive_of n }
+// A number as a score, with a minus or without one.
+fn signed(n: Option<u32>, minus: bool) -> Option<i16>
+    ensures { result ≡ signed_of minus n }
 {
     let Some(size) = n else {
         return None;
     };
     if 7600 < size {
         return None;
+    }
+    if minus {
+        return if_valid(-(size as i16));
     }
     if_valid(size as i16)
-}
-
-// A number with a minus as a score.
-fn negative(n: Option<u32>) -> Option<i16>
-    ensures { result ≡ negative_of n }
-{
-    let Some(size) = n else {
-        return None;
-    };
-    if 7600 < size {
-        return None;
-    }
-    if_valid(-(size as i16))
 }
 
 // The score on a line.
@@ -88,15 +78,15 @@ fn said_on(line: &[u8]) -> Option<i16>
     }
     if line[0] == b'-' {
         let rest = &line[1..];
-        return negative(size_on(rest));
+        return signed(size_on(rest), true);
     }
     if 1 < line.len() {
-        return positive(size_on(line));
+        return signed(size_on(line), false);
     }
     if line[0] == b'0' {
         return Some(0);
     }
-    positive(size_on(line))
+    signed(size_on(line), false)
 }
 
 // A score of a line added: every line is of the same deal.

@@ -1,4 +1,5 @@
-// The answers of the calls put into lent buffers that are long enough, and the numbers returned.
+// The answers of the calls put into lent buffers that are long enough, and the numbers returned. Each of the four `put_*` of an answer is a `match` of its own: one
+// for all would take a closure that writes to the buffer, and be no shorter.
 ghost use Rattle.std.specs.Prelude.{◌≡◌, not, ◌∷◌, ◌≤◌, T, length};
 ghost use Rattle.std.specs.Float.{binary64};
 ghost use Rattle.std.specs.Float.Ieee.{is_nan, to_bits};

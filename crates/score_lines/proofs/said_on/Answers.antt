@@ -15,12 +15,12 @@ pub returns-then-line-eq45 : goal.returns-then-line-eq45
 returns-then-line-eq45 c =
     let s = c.args.line.now in
     let e : take (length s - 1) (drop 1 s) ≡ drop 1 s = take_all (length s - 1) (drop 1 s) (rw length-drop (omega arith)) in
-    c.negative.ensures ∙ ap negative_of (c.size_on.ensures ∙ ap size_on e) ∙ said-minus _ c.if-line-eq0.false
+    c.signed.ensures ∙ ap negative_of (c.size_on.ensures ∙ ap size_on e) ∙ said-minus _ c.if-line-eq0.false
     c.if-line-eq45.true
 
 pub returns-then-line-gt1 : goal.returns-then-line-gt1
 returns-then-line-gt1 c =
-    c.positive.ensures ∙ ap positive_of c.size_on-then-line-gt1.ensures ∙ said-long _ c.if-line-eq0.false
+    c.signed-then-line-gt1.ensures ∙ ap positive_of c.size_on-then-line-gt1.ensures ∙ said-long _ c.if-line-eq0.false
     c.if-line-eq45.false c.if-line-gt1.true
 
 pub returns-then-line-eq48 : goal.returns-then-line-eq48
@@ -28,6 +28,6 @@ returns-then-line-eq48 c = said-zero _ c.if-line-eq0.false c.if-line-eq45.false 
 
 pub returns : goal.returns
 returns c =
-    c.positive-2.ensures ∙ ap positive_of c.size_on-2.ensures ∙ said-digit _
+    c.signed-2.ensures ∙ ap positive_of c.size_on-2.ensures ∙ said-digit _
     c.if-line-eq0.false c.if-line-eq45.false
     c.if-line-eq48.false
