@@ -1,5 +1,7 @@
 -- A refusal's number determines it. Assumes nothing.
 use Prim.Native.Nat.{ℕ}
+use mathlib.Core.List.{List, [], ◌∷◌}
+use lib.ListN.{get_or}
 use mathlib.Core.Path.{◌≡◌, refl, sym, ap, ap₂, ◌∙◌}
 use Rattle.laws.specs.declared.Refusal.{Refusal}
 use Rattle.laws.specs.declared.Refusal.TheVariants.{ShortBuffer, RecordEnds, NoBoardOrTable, NotThirteen, NoCall, InsufficientBid, InadmissibleDouble, CallAfterEnd}
@@ -9,9 +11,23 @@ use Rattle.laws.specs.declared.Refusal.TheVariants.{NotExposable, ChoiceNotOpen,
 use Rattle.laws.specs.declared.Refusal.TheVariants.{TooManyCalls}
 use Rattle.laws.specs.declared.Refused.{Refused}
 use Rattle.laws.specs.Refusals.{Placed, refused_at}
-use Rattle.laws.specs.Refused.{number, by_number, named, named_at}
+use Rattle.laws.specs.Refused.{number}
 
-pub named_back : (r : Refusal) → named (number r) ≡ r
+-- the refusals by their numbers, from 1 on; at 0, which is none's, stands the first
+by_number : List Refusal
+by_number =
+    ShortBuffer
+    ∷ ShortBuffer ∷ RecordEnds ∷ NoBoardOrTable ∷ NotThirteen ∷ NoCall ∷ InsufficientBid ∷ InadmissibleDouble
+    ∷ CallAfterEnd ∷ AuctionUnfinished ∷ TooManyCards ∷ NoCard ∷ CardNotHeld ∷ PlayUnfinished ∷ NoClaimPoint
+    ∷ ClaimTooMany ∷ NotPadding ∷ MalformedTally ∷ TwoBoards ∷ TooManyResults ∷ InvalidScore ∷ ScoreNotInTally
+    ∷ ShortRecordBuffer ∷ CardAlreadyPlayed ∷ WrongMark ∷ NotExposable ∷ ChoiceNotOpen ∷ TooManyCodes ∷ FouledBoard
+    ∷ BoardNotFree ∷ TooManyBoards ∷ NoEnding ∷ OutsideSubset ∷ TooManyCalls
+    ∷ []
+
+named : ℕ → Refusal
+named n = get_or by_number n ShortBuffer
+
+named_back : (r : Refusal) → named (number r) ≡ r
 unfolding named by_number
 named_back ShortBuffer = refl
 named_back RecordEnds = refl
@@ -59,6 +75,3 @@ one_place {A} x y e = ap₂ (λ (r : Refusal) (p : ℕ). record { refusal = r; p
 
     same-place : {n m p q : ℕ} → ◌≡◌ {A = Placed A} (refused_at n p) (refused_at m q) → p ≡ q
     same-place k = cc
-
-pub named_at_back : (e : Refused) → named_at (number e.refusal) e.place ≡ e
-named_at_back e = ap (λ (r : Refusal). record { refusal = r; place = e.place }) (named_back e.refusal)

@@ -1,6 +1,6 @@
 -- Refusals as the code names them: each with its number, and what is answered where something may be refused.
 -- Assumes nothing.
-use Rattle.std.specs.Prelude.{ℕ, List, [], ◌∷◌, eqb, get_or, Result, Ok, Err, if◌then◌else◌}
+use Rattle.std.specs.Prelude.{ℕ, eqb, Result, Ok, Err, if◌then◌else◌}
 use Rattle.laws.specs.declared.Refusal.{Refusal}
 use Rattle.laws.specs.declared.Refusal.TheVariants.{ShortBuffer, RecordEnds, NoBoardOrTable, NotThirteen, NoCall, InsufficientBid, InadmissibleDouble, CallAfterEnd}
 use Rattle.laws.specs.declared.Refusal.TheVariants.{AuctionUnfinished, TooManyCards, NoCard, CardNotHeld, PlayUnfinished, NoClaimPoint, ClaimTooMany, NotPadding}
@@ -84,22 +84,3 @@ placed_in f (Reading.found a at) = given (f a)
 -- what is answered where it only counts whether something is refused
 abbrev pub checked_in : {A : Type 0} → Reading A → Placed (Unit {0})
 checked_in r = placed_in (λ _. tt) r
-
--- the refusals by their numbers, from 1 on; at 0, which is none's, stands the first
-unfoldable pub by_number : List Refusal
-by_number =
-    ShortBuffer
-    ∷ ShortBuffer ∷ RecordEnds ∷ NoBoardOrTable ∷ NotThirteen ∷ NoCall ∷ InsufficientBid ∷ InadmissibleDouble
-    ∷ CallAfterEnd ∷ AuctionUnfinished ∷ TooManyCards ∷ NoCard ∷ CardNotHeld ∷ PlayUnfinished ∷ NoClaimPoint
-    ∷ ClaimTooMany ∷ NotPadding ∷ MalformedTally ∷ TwoBoards ∷ TooManyResults ∷ InvalidScore ∷ ScoreNotInTally
-    ∷ ShortRecordBuffer ∷ CardAlreadyPlayed ∷ WrongMark ∷ NotExposable ∷ ChoiceNotOpen ∷ TooManyCodes ∷ FouledBoard
-    ∷ BoardNotFree ∷ TooManyBoards ∷ NoEnding ∷ OutsideSubset ∷ TooManyCalls
-    ∷ []
-
--- the refusal of a number
-unfoldable pub named : ℕ → Refusal
-named n = get_or by_number n ShortBuffer
-
--- a refusal by its number, with its place
-abbrev pub named_at : ℕ → ℕ → Refused
-named_at n place = record { refusal = named n; place = place }

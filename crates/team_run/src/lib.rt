@@ -2,7 +2,7 @@
 #![tactic(auto)]
 
 ghost use Rattle.std.specs.Prelude.{◌≡◌, None, Some};
-ghost use Rattle.team_run.specs.Runs.{start_of, asked_in, done_with, line_done, taken_byte, finished_of};
+ghost use Rattle.team_run.specs.Runs.{start_of, brought, asked_in, done_with, line_done, taken_byte, finished_of};
 
 use laws::Refusal;
 use score::Imps;
@@ -56,7 +56,7 @@ fn asked_in(line: Line) -> Option<Board>
 
 // A board is played.
 fn play_board(run: Run, board: Board) -> Fed
-    ensures { result ≡ done_with run (Some board) }
+    ensures { brought result ≡ done_with run (Some board) }
 {
     let played = team_match::play(run.state, board.number, board.first, board.second);
     Fed {
@@ -71,7 +71,7 @@ fn play_board(run: Run, board: Board) -> Fed
 
 // The run ends at a line that cannot be read.
 fn stop(run: Run) -> Fed
-    ensures { result ≡ done_with run None }
+    ensures { brought result ≡ done_with run None }
 {
     Fed {
         run: Run {
@@ -85,7 +85,7 @@ fn stop(run: Run) -> Fed
 
 // The line is whole.
 fn line_done(run: Run) -> Fed
-    ensures { result ≡ line_done run }
+    ensures { brought result ≡ line_done run }
 {
     match asked_in(run.line) {
         Some(board) => play_board(run, board),
@@ -95,14 +95,14 @@ fn line_done(run: Run) -> Fed
 
 // Nothing is answered.
 fn silent(run: Run) -> Fed
-    ensures { result ≡ record { run = run; reply = None } }
+    ensures { brought result ≡ record { run = run; reply = None } }
 {
     Fed { run, reply: None }
 }
 
 // One byte more of the input.
 pub fn take(run: Run, b: u8) -> Fed
-    ensures { result ≡ taken_byte run b }
+    ensures { brought result ≡ taken_byte run b }
 {
     if run.over {
         return silent(run);
@@ -119,7 +119,7 @@ pub fn take(run: Run, b: u8) -> Fed
 
 // The end of the input: its last line may lack a newline.
 pub fn finish(run: Run) -> Fed
-    ensures { result ≡ finished_of run }
+    ensures { brought result ≡ finished_of run }
 {
     if run.over || run.line.length == 0 {
         return silent(run);

@@ -2,7 +2,8 @@
 #![tactic(auto)]
 
 ghost use Rattle.std.specs.Prelude.{◌≡◌, None};
-ghost use Rattle.tree_run.specs.Runs.{start_of, is_stopped, call_in, line_done, taken_byte, finished_of, top_of};
+ghost use Rattle.tree_stack.specs.Saying.{saying};
+ghost use Rattle.tree_run.specs.Runs.{start_of, is_ended, brought, call_in, line_done, taken_byte, finished_of, top_of};
 
 use script_line::{Line, first_line, next_line, with_byte};
 use tally::Tally;
@@ -42,17 +43,9 @@ pub fn start() -> Run
 
 // Whether an answer ends the run.
 fn is_stopped(said: Said) -> bool
-    ensures { result ≡ is_stopped said }
+    ensures { result ≡ is_ended (saying said) }
 {
-    match said {
-        Said::Done => false,
-        Said::Refused(_) => false,
-        Said::Points(_, _) => false,
-        Said::Played(_) => false,
-        Said::Awarded(_) => false,
-        Said::Alone => false,
-        Said::Stopped => true,
-    }
+    matches!(said, Said::Stopped)
 }
 
 // The call on the line so far, where one can be read.
@@ -67,7 +60,7 @@ fn call_in(line: Line) -> Option<Call>
 
 // The line is whole: its call is made.
 fn line_done(run: Run) -> Fed
-    ensures { result ≡ line_done run }
+    ensures { brought result ≡ line_done run }
 {
     let made = make_call(run.stack, call_in(run.line));
     let said = made.said;
@@ -83,14 +76,14 @@ fn line_done(run: Run) -> Fed
 
 // Nothing is answered.
 fn silent(run: Run) -> Fed
-    ensures { result ≡ record { run = run; reply = None } }
+    ensures { brought result ≡ record { run = run; reply = None } }
 {
     Fed { run, reply: None }
 }
 
 // One byte more of the script.
 pub fn take(run: Run, b: u8) -> Fed
-    ensures { result ≡ taken_byte run b }
+    ensures { brought result ≡ taken_byte run b }
 {
     if run.over {
         return silent(run);
@@ -107,7 +100,7 @@ pub fn take(run: Run, b: u8) -> Fed
 
 // The end of the script: its last line may lack a newline.
 pub fn finish(run: Run) -> Fed
-    ensures { result ≡ finished_of run }
+    ensures { brought result ≡ finished_of run }
 {
     if run.over || run.line.length == 0 {
         return silent(run);

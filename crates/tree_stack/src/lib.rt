@@ -7,6 +7,7 @@ ghost use Rattle.tally.specs.Tallies.{tallied_of};
 ghost use Rattle.percentages.specs.Cells.{entered, cell_answer, Numbered};
 ghost use Rattle.matchpoints.specs.Points.{points_answer};
 ghost use Rattle.tree_stack.specs.Deals.{suits, deal_numbered};
+ghost use Rattle.tree_stack.specs.Saying.{saying, stepped};
 ghost use Rattle.tree_stack.specs.Stacks.{stopped, landed, said_of, fresh_step, add_step, merge_step, matchpoints_step, said_cell, cell_step, award_step, step_of};
 
 use deal::SUITS;
@@ -70,7 +71,7 @@ fn holders_of(deal: u8) -> [u8; 52]
 
 // The run ends with the stack as it is.
 fn stop(s: Stack) -> Step
-    ensures { result ≡ stopped s }
+    ensures { stepped result ≡ stopped s }
 {
     Step {
         stack: s,
@@ -81,7 +82,7 @@ fn stop(s: Stack) -> Step
 // The tally that a call made, at a place, with so many used; refused, the stack as it is.
 fn land(s: Stack, at: usize, used: usize, made: Result<Tally, Refused>) -> Step
     requires { at < 16 }
-    ensures { result ≡ landed s at used (tallied_of made) }
+    ensures { stepped result ≡ landed s at used (tallied_of made) }
 {
     match made {
         Ok(t) => {
@@ -102,7 +103,7 @@ fn land(s: Stack, at: usize, used: usize, made: Result<Tally, Refused>) -> Step
 
 // A fresh tally on top.
 fn fresh_step(s: Stack, board: u8) -> Step
-    ensures { result ≡ fresh_step s board }
+    ensures { stepped result ≡ fresh_step s board }
 {
     let n = s.used;
     if 15 < n {
@@ -113,7 +114,7 @@ fn fresh_step(s: Stack, board: u8) -> Step
 
 // A result added to the top tally.
 fn add_step(s: Stack, given: Given) -> Step
-    ensures { result ≡ add_step s given }
+    ensures { stepped result ≡ add_step s given }
 {
     let n = s.used;
     if n < 1 {
@@ -129,7 +130,7 @@ fn add_step(s: Stack, given: Given) -> Step
 
 // The two topmost tallies merged, the lower one first; refused, the lower one is left.
 fn merge_step(s: Stack) -> Step
-    ensures { result ≡ merge_step s }
+    ensures { stepped result ≡ merge_step s }
 {
     let n = s.used;
     if n < 2 {
@@ -147,7 +148,7 @@ fn merge_step(s: Stack) -> Step
 
 // An answer for matchpoints.
 fn said_of(answer: Result<BothSides, Refused>) -> Said
-    ensures { result ≡ said_of (points_answer answer) }
+    ensures { saying result ≡ said_of (points_answer answer) }
 {
     match answer {
         Ok(points) => Said::Points(points.ns.0, points.ew.0),
@@ -157,7 +158,7 @@ fn said_of(answer: Result<BothSides, Refused>) -> Said
 
 // The matchpoints of a result in the top tally.
 fn matchpoints_step(s: Stack, given: Given) -> Step
-    ensures { result ≡ matchpoints_step s given }
+    ensures { stepped result ≡ matchpoints_step s given }
 {
     let n = s.used;
     if n < 1 {
@@ -175,7 +176,7 @@ fn matchpoints_step(s: Stack, given: Given) -> Step
 // A cell, as it is said.
 fn said_entered(cell: Cell) -> Said
     requires { Numbered (given (entered cell)) }
-    ensures { result ≡ said_cell (given (entered cell)) }
+    ensures { saying result ≡ said_cell (given (entered cell)) }
 {
     match cell {
         Cell::Played(x) => Said::Played(f64::to_bits(x)),
@@ -187,7 +188,7 @@ fn said_entered(cell: Cell) -> Said
 // An answer for a cell, as it is said.
 fn said_cell(answer: Result<Cell, Refused>) -> Said
     requires { Numbered (cell_answer answer) }
-    ensures { result ≡ said_cell (cell_answer answer) }
+    ensures { saying result ≡ said_cell (cell_answer answer) }
 {
     match answer {
         Ok(cell) => said_entered(cell),
@@ -197,7 +198,7 @@ fn said_cell(answer: Result<Cell, Refused>) -> Said
 
 // The cell of a result in the top tally.
 fn cell_step(s: Stack, given: Given) -> Step
-    ensures { result ≡ cell_step s given }
+    ensures { stepped result ≡ cell_step s given }
 {
     let n = s.used;
     if n < 1 {
@@ -214,7 +215,7 @@ fn cell_step(s: Stack, given: Given) -> Step
 
 // An award, which no tally takes.
 fn award_step(s: Stack, percent: u32) -> Step
-    ensures { result ≡ award_step s percent }
+    ensures { stepped result ≡ award_step s percent }
 {
     let said = said_cell(percentages::award(percent));
     Step { stack: s, said }
@@ -222,7 +223,7 @@ fn award_step(s: Stack, percent: u32) -> Step
 
 // A call on a stack, or none where a line could not be read. That, and a stack that is too short or too full, end the run.
 pub fn make_call(s: Stack, call: Option<Call>) -> Step
-    ensures { result ≡ step_of s call }
+    ensures { stepped result ≡ step_of s call }
 {
     let Some(made) = call else {
         return stop(s);

@@ -9,7 +9,6 @@ use Rattle.laws.specs.TeamMatch.{Call}
 use Rattle.score.specs.Units.{imp_answer}
 use Rattle.team_match.specs.Matches.{answer_on, after_on}
 use Rattle.team_run.specs.Runs.{done_with}
-use Rattle.team_run.proofs.Replies.{as_answered}
 use Rattle.team_run.proofs.play_board.Goals as goal
 
 -- the board that is played
@@ -24,4 +23,4 @@ returns c =
     let g : SFits w16 b.second = search rules in
     let state : c.play-played.result.state ≡ after_on c.args.run.state (made b) = rw (to_z-of_z f, to_z-of_z g) at c.play-played.ensures.state in
     let answer : imp_answer c.play-played.result.answer ≡ answer_on c.args.run.state (made b) = rw (to_z-of_z f, to_z-of_z g) at c.play-played.ensures.answer in
-    rw (c.next_line.ensures, state, as_answered c.play-played.result.answer _ answer)
+    rw (c.next_line.ensures, state, answer)

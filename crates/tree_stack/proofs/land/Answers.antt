@@ -2,7 +2,6 @@
 use borrow.Author.Tests.{ne_eqb}
 use Rattle.laws.specs.Refused.{number}
 use Rattle.laws.proofs.RefusalNumbers.{number_not_none}
-use Rattle.laws.proofs.NamedBack.{named_at_back}
 use Rattle.tree_stack.specs.Stacks.{landed}
 use Rattle.tree_stack.proofs.land.Goals as goal
 
@@ -14,4 +13,4 @@ pub returns-in-Err : goal.returns-in-Err
 unfolding landed
 returns-in-Err c =
     let e = c.in-Err.refused in
-    rw (c.in-Err.is, ne_eqb (number e.refusal) 0 (number_not_none e.refusal), named_at_back e)
+    rw (c.in-Err.is, ne_eqb (number e.refusal) 0 (number_not_none e.refusal))

@@ -1,5 +1,4 @@
 -- `tree_stack::said_cell` meets its contract. Assumes nothing.
-use Rattle.laws.proofs.NamedBack.{named_at_back}
 use Rattle.tree_stack.proofs.said_cell.Goals as goal
 
 pub said_entered-requires : goal.said_entered-requires
@@ -9,4 +8,4 @@ pub returns-in-Ok : goal.returns-in-Ok
 returns-in-Ok c = rw c.in-Ok.is c.said_entered.ensures
 
 pub returns-in-Err : goal.returns-in-Err
-returns-in-Err c = rw (c.in-Err.is, named_at_back c.in-Err.refused)
+returns-in-Err c = rw c.in-Err.is

@@ -3,12 +3,12 @@ use mathlib.Core.Path.{sym, ap, subst}
 use Rattle.laws.specs.Refusals.{given}
 use Rattle.percentages.specs.declared.Cell.{Cell}
 use Rattle.percentages.specs.Cells.{entered, Numbered}
-use Rattle.tree_stack.specs.declared.Said.{Said}
+use Rattle.tree_stack.specs.Saying.{Saying}
 use Rattle.tree_stack.specs.Stacks.{said_cell}
 use Rattle.tree_stack.proofs.said_entered.Goals as goal
 
 -- what is said for a cell, and that its float is a number
-abbrev said : Cell → Said
+abbrev said : Cell → Saying
 said cell = said_cell (given (entered cell))
 
 abbrev Number : Cell → Type 0
