@@ -22,6 +22,7 @@ pub use calls::take_calls;
 use deal::Dealt;
 use laws::Refused;
 pub use plays::{count_cards, has_code};
+use position::Start;
 pub use sections::check_heading;
 
 // What follows the calls: the plays and the claim.
@@ -39,15 +40,15 @@ fn check_play(
     let out = a.is_passed_out();
     let k = a.contract();
     let cards = count_cards(plays);
-    check_plays(
-        plays,
-        dealt.holders,
-        dealt.hands,
-        out,
-        k.strain,
-        k.opening_leader(),
-        cards,
-    )?;
+    let holders = dealt.holders;
+    let hands = dealt.hands;
+    let start = Start {
+        holders,
+        hands,
+        trump: k.strain,
+        opening: k.opening_leader(),
+    };
+    check_plays(plays, start, out, cards)?;
     check_claim(out, cards as u8, marked, claim)
 }
 

@@ -6,15 +6,13 @@ ghost use Rattle.laws.specs.CodeRefusal.{codes_full};
 ghost use Rattle.laws.specs.FlatPlay.{Item, code_item, items_of, is_card, cards_in};
 ghost use Rattle.laws.specs.Contents.{take_items};
 ghost use Rattle.laws.specs.Refused.{answer_of, placed_of, checked_in};
-ghost use Rattle.deal.specs.Hands.{words_of};
-ghost use Rattle.position.specs.History.{ThirteenEach, OfEvents};
+ghost use Rattle.position.specs.History.{OfEvents};
 ghost use Rattle.contents.specs.Checked.{coded_by, cards_by, Stopping};
 
 use crate::runs::{Run, take_run};
 use laws::{Refusal, Refused};
 use penalty::begins_code;
-use play::Play;
-use position::Table;
+use position::{Start, Table};
 
 // Whether some number of the list begins a code. All are looked at, so that many can be at once.
 pub fn has_code(plays: &[u8]) -> bool
@@ -80,7 +78,6 @@ fn take_code(t: Table, code: u8, first: u8, second: u8) -> Result<Table, Refusal
 
 // The plays from a place of the list on, with so many cards before them and so many in all.
 fn check_coded(plays: &[u8], first: Table, at: usize, place: u16, cards: u16) -> Result<(), Refused>
-    requires few { cards ≤ 52 }
     requires count { place + how_many is_card (items_of (drop at plays.now)) ≡ cards }
     ensures { (deal : List ℕ) (trump opening : ℕ) (e : List Event) → OfEvents deal trump opening e first place
         → placed_of result ≡ checked_in (take_items trump opening deal (items_of (drop at plays.now)) e [] 0) }
@@ -127,7 +124,6 @@ fn check_stopped(
     opening: u8,
     cards: u16,
 ) -> Result<(), Refused>
-    requires few { cards ≤ 52 }
     requires place { run.place < length plays.now }
     requires count { run.place + how_many is_card (items_of (drop run.place plays.now)) ≡ cards }
     ensures { Stopping plays.now run refusal opening (placed_of result) }
@@ -140,25 +136,14 @@ fn check_stopped(
     Err(refusal.at(place))
 }
 
-// The plays, of which so many are cards; `hands` are those of the deal.
-fn check_each(
-    plays: &[u8],
-    holders: [u8; 52],
-    hands: [u64; 4],
-    trump: u8,
-    opening: u8,
-    cards: u16,
-) -> Result<(), Refused>
-    requires few { cards ≤ 52 }
+// The plays, of which so many are cards.
+fn check_each(plays: &[u8], start: Start, cards: u16) -> Result<(), Refused>
     requires count { cards ≡ cards_in plays.now }
-    requires hands { hands ≡ words_of holders }
-    requires thirteen { ThirteenEach holders }
-    requires seat { opening < 4 }
-    ensures { placed_of result ≡ checked_in (take_items trump opening holders (items_of plays.now) [] [] 0) }
+    ensures { placed_of result ≡ checked_in (take_items start.trump start.opening start.holders (items_of plays.now) [] [] 0) }
 {
-    let run = take_run(plays, Play::new(holders, hands, trump, opening));
+    let run = take_run(plays, start.play());
     match run.stopped {
-        Some(refusal) => check_stopped(plays, run, refusal, opening, cards),
+        Some(refusal) => check_stopped(plays, run, refusal, start.opening, cards),
         None => Ok(()),
     }
 }
@@ -173,21 +158,15 @@ fn most_cards(out: bool) -> usize
 // The plays, and the number of their cards; `out` says that the board was passed out.
 pub(crate) fn check_plays(
     plays: &[u8],
-    holders: [u8; 52],
-    hands: [u64; 4],
+    start: Start,
     out: bool,
-    trump: u8,
-    opening: u8,
     cards: usize,
 ) -> Result<(), Refused>
-    requires count { cards ≡ cards_in plays.now }
-    requires hands { hands ≡ words_of holders }
-    requires thirteen { ThirteenEach holders }
-    requires seat { opening < 4 }
-    ensures { placed_of result ≡ checked_in (cards_by out trump opening holders plays.now [] 0) }
+    requires { cards ≡ cards_in plays.now }
+    ensures { placed_of result ≡ checked_in (cards_by out start.trump start.opening start.holders plays.now [] 0) }
 {
     if most_cards(out) < cards {
         return Err(Refusal::TooManyCards.at(cards.min(63) as u16));
     }
-    check_each(plays, holders, hands, trump, opening, cards as u16)
+    check_each(plays, start, cards as u16)
 }

@@ -139,10 +139,10 @@ module _ (bytes : List ℕ) where
           called : (h : List ℕ) × (calls ≡ found h c.next) × (c.value ≡ Calls.position_of seat h)
           called = told-found (Calls.position_of seat) calls ec
 
-          pub calls_bound : (8 ≤ c.next) × (c.next < 16384)
+          pub calls_bound : c.next < 16384
           calls_bound =
               let n = calls-next seat bytes 120 called.1 in
-              (omega (arith, n.0), omega (arith, n.1))
+              omega (arith, n.1)
 
           pub calls-read : {r : Placed (Read Reached)}
               → ((h : List ℕ) → OfCalls t.board c.value d.holders h → r ≡ reached_of (after_calls t.board t.table d.holders h bytes c.next)) → r ≡ answer

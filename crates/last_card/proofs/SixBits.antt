@@ -1,9 +1,13 @@
 -- Codes of six bits by two bytes, and how many of them are whole. Assumes nothing.
-use Prim.Native.Nat.{ℕ, ◌≤◌, ◌<◌, ◌+◌, ◌-◌, ◌*◌, ◌/◌, ◌%◌, ◌^◌, min}
+use Prim.Native.Nat.{ℕ, zero, suc, ◌≤◌, ◌<◌, ◌+◌, ◌-◌, ◌*◌, ◌/◌, ◌%◌, ◌^◌, min}
 use native.Mathlib.Omega.{arith}
-use mathlib.Core.Path.{◌≡◌, sym, ◌∙◌}
+use mathlib.Core.Path.{◌≡◌, sym, ap, ◌∙◌}
+use mathlib.Core.Bool.{true, false}
 use mathlib.Core.List.{List}
 use lib.ListN.{length}
+use lib.Dec.{ltb}
+use borrow.Author.Tests.{ltb-true, ltb-false}
+use Rattle.laws.proofs.Tests.{by_test}
 use Rattle.laws.specs.Reading.{number_at, Reading.found, Reading.refused, read}
 use Rattle.laws.specs.Refusals.{record_ends}
 use Rattle.laws.proofs.Bits.{number-add, number-within}
@@ -20,7 +24,7 @@ number-two bytes q ha hb =
     sym (number-add bytes (8 * q) 8 8 ∙ rw (e, x, y, ← ha.0, ← hb.0) (omega arith))
 
 -- the code that ends with a bit, by the byte of that bit and the one before
-pub code_is : (bytes : List ℕ) (last : ℕ) {a b : ℕ} → 8 ≤ last → Byte bytes (last / 8 - 1) a → Byte bytes (last / 8) b
+code_is : (bytes : List ℕ) (last : ℕ) {a b : ℕ} → 8 ≤ last → Byte bytes (last / 8 - 1) a → Byte bytes (last / 8) b
     → (a * 256 + b) / 2 ^ (7 - last % 8) % 64 ≡ number_at bytes (last - 5) 6
 code_is bytes last {a} {b} h ha hb =
     let q = last / 8 - 1 in
@@ -29,6 +33,36 @@ code_is bytes last {a} {b} h ha hb =
     let from : 8 * q + (3 + last % 8) ≡ last - 5 = omega arith in
     let two = number-two bytes q ha (rw next at hb) in
     rw (two, ← all, ← from) (number-within bytes (8 * q) (3 + last % 8) 6 (7 - last % 8))
+
+-- a code within the first byte, which then stands for the one before too
+drop_high : (b k : ℕ) → k ≤ 2 → (b * 256 + b) / 2 ^ k % 64 ≡ b / 2 ^ k % 64
+drop_high b zero h = omega arith
+drop_high b (suc zero) h = omega arith
+drop_high b (suc (suc zero)) h = omega arith
+drop_high b (suc (suc (suc k))) h = absurd (omega arith)
+
+first_code : (bytes : List ℕ) (last : ℕ) {b : ℕ} → 5 ≤ last → last < 8 → Byte bytes 0 b
+    → (b * 256 + b) / 2 ^ (7 - last % 8) % 64 ≡ number_at bytes (last - 5) 6
+first_code bytes last {b} h k hb =
+    let all : last - 5 + 6 + (7 - last % 8) ≡ 8 = omega arith in
+    let from : 8 * 0 + (last - 5) ≡ last - 5 = omega arith in
+    let x : number_at bytes (8 * 0) 8 ≡ b = number_byte bytes 0 (rw hb.0 at hb.1) ∙ sym hb.0 in
+    drop_high b (7 - last % 8) (omega arith)
+    ∙ ap (λ (n : ℕ). n / 2 ^ (7 - last % 8) % 64) (sym x ∙ ap (number_at bytes (8 * 0)) (sym all))
+    ∙ number-within bytes (8 * 0) (last - 5) 6 (7 - last % 8)
+    ∙ ap (λ (at : ℕ). number_at bytes at 6) from
+
+-- the code that ends with a bit, by the byte of that bit and the one before, where there is one
+pub code_ending_is : (bytes : List ℕ) (last : ℕ) {a b : ℕ} → 5 ≤ last → Byte bytes (last / 8 - 1) a → Byte bytes (last / 8) b
+    → (a * 256 + b) / 2 ^ (7 - last % 8) % 64 ≡ number_at bytes (last - 5) 6
+code_ending_is bytes last {a} {b} h ha hb =
+    by_test (ltb last 8)
+    (λ (q : ltb last 8 ≡ true).
+    let low = ltb-true last 8 q in
+    let z : last / 8 ≡ 0 = omega arith in
+    let same : a ≡ b = ha.0 ∙ rw z (sym (rw z at hb.0)) in
+    rw same (first_code bytes last h low (rw z at hb)))
+    (λ (q : ltb last 8 ≡ false). code_is bytes last (ltb-false last 8 q) ha hb)
 
 -- ---- the codes that are whole
 module _ (l at n : ℕ) {r : ℕ} (e : r ≡ min ((8 * l - at) / 6) n) where

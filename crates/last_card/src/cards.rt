@@ -3,19 +3,15 @@ ghost use Rattle.std.specs.Prelude.{◌≡◌, [], ◌+◌, ◌*◌, ◌<◌, �
 ghost use Rattle.laws.specs.CodeRefusal.{most_codes};
 ghost use Rattle.laws.specs.Plays.{read_plays};
 ghost use Rattle.laws.specs.Refused.{placed_of};
-ghost use Rattle.deal.specs.Hands.{words_of};
-ghost use Rattle.position.specs.History.{ThirteenEach};
 ghost use Rattle.last_card.specs.Sections.{cards_of, cards_by, Stopping};
 
 use crate::codes::whole_codes;
-use crate::plays::read_plays;
+use crate::plays::{CardCount, read_plays};
 use crate::reading::Read;
 use crate::runs::{NotPlayed, Run, read_run};
-use deal::Dealt;
 use laws::{Refusal, Refused};
 use penalty::begins_code;
-use play::Play;
-use position::Table;
+use position::{Start, Table};
 
 // The cards from where the run stopped on, up to so many.
 fn read_stopped(
@@ -23,12 +19,11 @@ fn read_stopped(
     run: Run,
     at: NotPlayed,
     opening: u8,
-    count: u16,
+    count: CardCount,
 ) -> Result<Read<Table>, Refused>
     requires to { run.next < 32768 }
-    requires place { run.place ≤ count }
-    requires few { count ≤ 52 }
-    ensures { Stopping bytes.now run at opening count (placed_of result) }
+    requires place { run.place ≤ count.cards }
+    ensures { Stopping bytes.now run at opening count.cards (placed_of result) }
 {
     if begins_code(at.code) {
         let table = Table::after_cards(run.play, opening);
@@ -40,32 +35,24 @@ fn read_stopped(
 // So many cards from a bit on, each judged on those before it.
 fn read_each_card(
     bytes: &[u8],
-    dealt: Dealt,
-    trump: u8,
-    opening: u8,
+    start: Start,
     at: usize,
-    count: u16,
+    count: CardCount,
 ) -> Result<Read<Table>, Refused>
-    requires from { 8 ≤ at }
     requires to { at < 32000 }
-    requires few { count ≤ 52 }
-    requires hands { dealt.hands ≡ words_of dealt.holders }
-    requires thirteen { ThirteenEach dealt.holders }
-    requires seat { opening < 4 }
-    ensures { placed_of result
-        ≡ cards_of dealt.holders trump opening (read_plays trump opening dealt.holders count most_codes [] bytes.now at) }
+    ensures { placed_of result ≡ cards_of start.holders start.trump start.opening
+        (read_plays start.trump start.opening start.holders count.cards most_codes [] bytes.now at) }
 {
-    let whole = whole_codes(bytes, at, count);
-    let first = Play::new(dealt.holders, dealt.hands, trump, opening);
-    let run = read_run(bytes, first, at, whole);
+    let whole = whole_codes(bytes, at, count.cards);
+    let run = read_run(bytes, start.play(), at, whole);
     if let Some(stop) = run.stopped {
-        return read_stopped(bytes, run, stop, opening, count);
+        return read_stopped(bytes, run, stop, start.opening, count);
     }
-    if whole < count {
+    if whole < count.cards {
         return Err(Refusal::RecordEnds.at(0));
     }
     Ok(Read {
-        value: Table::after_cards(run.play, opening),
+        value: Table::after_cards(run.play, start.opening),
         next: run.next,
     })
 }
@@ -80,23 +67,17 @@ fn most_cards(out: bool) -> u16
 // The cards, from their count on; `out` says that the board was passed out.
 pub(crate) fn read_cards(
     bytes: &[u8],
-    dealt: Dealt,
+    start: Start,
     out: bool,
-    trump: u8,
-    opening: u8,
     at: usize,
 ) -> Result<Read<Table>, Refused>
-    requires from { 8 ≤ at }
     requires to { at < 16384 }
-    requires hands { dealt.hands ≡ words_of dealt.holders }
-    requires thirteen { ThirteenEach dealt.holders }
-    requires seat { opening < 4 }
-    ensures { placed_of result
-        ≡ cards_of dealt.holders trump opening (cards_by out trump opening dealt.holders bytes.now at) }
+    ensures { placed_of result ≡ cards_of start.holders start.trump start.opening
+        (cards_by out start.trump start.opening start.holders bytes.now at) }
 {
     let count = field::read(bytes, at, 6)?;
     if most_cards(out) < count {
         return Err(Refusal::TooManyCards.at(count));
     }
-    read_each_card(bytes, dealt, trump, opening, at + 6, count)
+    read_each_card(bytes, start, at + 6, CardCount { cards: count })
 }

@@ -11,6 +11,13 @@ use laws::{Refusal, Refused};
 use penalty::begins_code;
 use position::Table;
 
+// How many cards a record says it has, where that is no refusal.
+#[derive(Clone, Copy)]
+pub(crate) struct CardCount {
+    pub(crate) cards: u16,
+    pub(crate) ghost few: { cards ≤ 52 },
+}
+
 // What follows the code of an exposure: the card and its bit, at the place of the next card.
 fn read_exposed(bytes: &[u8], t: Table, at: usize, place: u16) -> Result<Read<Table>, Refused>
     requires { at < 65536 }
@@ -76,19 +83,18 @@ pub(crate) fn read_plays(
     first: Table,
     at: usize,
     place: u16,
-    count: u16,
+    count: CardCount,
 ) -> Result<Read<Table>, Refused>
     requires to { at < 32768 }
-    requires place { place ≤ count }
-    requires few { count ≤ 52 }
+    requires place { place ≤ count.cards }
     ensures { (deal : List ℕ) (trump opening : ℕ) (e : List Event) → OfEvents deal trump opening e first place
-        → placed_of result ≡ cards_of deal trump opening (plays_by trump opening deal count e bytes.now at) }
+        → placed_of result ≡ cards_of deal trump opening (plays_by trump opening deal count.cards e bytes.now at) }
 {
     let mut t = first;
     let mut next = at;
     let mut i = place;
     // A code is no card: the place does not go on at every turn, so that no range of the library counts it.
-    while i < count {
+    while i < count.cards {
         let c = field::read(bytes, next, 6)? as u8;
         if begins_code(c) {
             let coded = read_code(bytes, t, c, next + 6, i)?;

@@ -11,7 +11,7 @@ use crate::reading::{Heading, Read, read_calls, read_deal, read_heading};
 use auction::{Auction, Contract};
 use deal::Dealt;
 use laws::Refused;
-use position::Table;
+use position::{Start, Table};
 
 // Board and table, whether the board was passed out, the contract, and the position after the last card.
 #[derive(Clone, Copy, Debug, PartialEq, Eq)]
@@ -31,7 +31,6 @@ fn read_play(
     a: Auction,
     at: usize,
 ) -> Result<Read<Reached>, Refused>
-    requires from { 8 ≤ at }
     requires to { at < 16384 }
     requires hands { dealt.hands ≡ words_of dealt.holders }
     requires thirteen { ThirteenEach dealt.holders }
@@ -40,14 +39,15 @@ fn read_play(
 {
     let out = a.is_passed_out();
     let contract = a.contract();
-    let cards = read_cards(
-        bytes,
-        dealt,
-        out,
-        contract.strain,
-        contract.opening_leader(),
-        at,
-    )?;
+    let holders = dealt.holders;
+    let hands = dealt.hands;
+    let start = Start {
+        holders,
+        hands,
+        trump: contract.strain,
+        opening: contract.opening_leader(),
+    };
+    let cards = read_cards(bytes, start, out, at)?;
     Ok(Read {
         value: Reached {
             board: top.board,

@@ -11,7 +11,8 @@ use auction::Auction;
 use deal::Dealt;
 use laws::{Refusal, Refused};
 
-// What was read, and the bit behind it.
+// What was read, and the bit behind it. How far that bit may lie is asked for where bits are added to it: each step leaves another bound, so that a type with one
+// bound would ask for as much at each step.
 #[derive(Clone, Copy)]
 pub struct Read<T> {
     pub value: T,
@@ -45,7 +46,6 @@ pub(crate) fn read_heading(bytes: &[u8]) -> Result<Heading, Refused>
 
 // So many calls from a bit on, each judged on those before it.
 fn read_each_call(bytes: &[u8], dealer: u8, at: usize, count: u16) -> Result<Read<Auction>, Refused>
-    requires from { 8 ≤ at }
     requires to { at < 65536 }
     requires count { count < 512 }
     ensures { placed_of result ≡ calls_of dealer (read_each 6 (call_place dealer) (call_refusal dealer) count [] bytes.now at) }
@@ -68,8 +68,7 @@ fn read_each_call(bytes: &[u8], dealer: u8, at: usize, count: u16) -> Result<Rea
 
 // The calls, from their count on.
 pub(crate) fn read_calls(bytes: &[u8], dealer: u8, at: usize) -> Result<Read<Auction>, Refused>
-    requires from { 8 ≤ at }
-    requires to { at < 32768 }
+    requires { at < 32768 }
     ensures { placed_of result ≡ calls_of dealer (read_calls dealer bytes.now at) }
 {
     let count = field::read(bytes, at, 9)?;

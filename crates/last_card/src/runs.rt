@@ -25,9 +25,7 @@ pub struct Run {
 // The run of so many cards from a bit on, all of which lie whole within the bytes. A card is asked about and then played, which `Play::take` does in one: with a
 // position in a Result at each card the judge takes twice the time.
 pub(crate) fn read_run(bytes: &[u8], first: Play, at: usize, count: u16) -> Run
-    requires from { 8 ≤ at }
     requires to { at < 65536 }
-    requires few { count ≤ 52 }
     requires whole { 6 * count ≤ 8 * length bytes.now - at }
     ensures { result ≡ run_of bytes.now first at 0 count }
 {

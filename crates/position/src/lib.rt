@@ -2,7 +2,9 @@
 #![tactic(auto)]
 
 mod listed;
+mod start;
 mod table;
 
 pub use crate::listed::Listed;
+pub use crate::start::Start;
 pub use crate::table::Table;

@@ -4,8 +4,8 @@ use Rattle.std.proofs.lemmas.Result.{err_from_is_err_and}
 use Rattle.contents.proofs.Composing.{leader_lt, cards-refused, few-played, claim_checked}
 use Rattle.contents.proofs.check_play.Goals as goal
 
-pub check_plays-requires-clause-seat : goal.check_plays-requires-clause-seat
-check_plays-requires-clause-seat c = rw c.opening_leader.ensures (leader_lt _)
+pub invariant_of-start-clause-seat : goal.invariant_of-start-clause-seat
+invariant_of-start-clause-seat c = rw c.opening_leader.ensures (leader_lt _)
 
 pub returns-in_err-check_plays : goal.returns-in_err-check_plays
 returns-in_err-check_plays c =

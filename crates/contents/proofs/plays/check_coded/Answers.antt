@@ -79,6 +79,11 @@ returns-in-Err-take c =
     (card_stops deal trump opening a.plays.now e a.at (c.loop-i.invariant.turned deal trump opening e o) c.loop-i-test.true _ refl
     (sym c.begins_code.ensures ∙ c.if-begins_code.false) _ number (number_not_none c.in-Err-take.refusal))
 
+pub overflow_add-n : goal.overflow_add-n
+overflow_add-n c =
+    let card = sym c.begins_code.ensures ∙ c.if-begins_code.false in
+    omega (arith, c.loop-i.invariant.count, card_takes c.args.plays.now c.loop-i.i c.loop-i-test.true card, c.ranges.cards.fits)
+
 pub loop-i-preserved : goal.loop-i-preserved
 loop-i-preserved c =
     let a = c.args in

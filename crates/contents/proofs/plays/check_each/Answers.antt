@@ -11,32 +11,36 @@ use Rattle.contents.proofs.plays.check_each.Goals as goal
 pub check_stopped-requires-clause-place : goal.check_stopped-requires-clause-place
 check_stopped-requires-clause-place c =
     let a = c.args in
-    let r = ran a.plays.now a.holders a.trump a.opening c.requires.thirteen c.requires.hands c.new.ensures c.take_run-run.ensures in
+    let s = a.start in
+    let r = ran a.plays.now s.holders s.trump s.opening s.thirteen s.words c.play.ensures c.take_run-run.ensures in
     (r.stopped c.in-Some.refusal c.in-Some.is).0
 
 pub check_stopped-requires-clause-count : goal.check_stopped-requires-clause-count
 check_stopped-requires-clause-count c =
     let a = c.args in
-    let r = ran a.plays.now a.holders a.trump a.opening c.requires.thirteen c.requires.hands c.new.ensures c.take_run-run.ensures in
+    let s = a.start in
+    let r = ran a.plays.now s.holders s.trump s.opening s.thirteen s.words c.play.ensures c.take_run-run.ensures in
     r.there.count ∙ sym c.requires.count
 
 pub returns-in-Some : goal.returns-in-Some
 returns-in-Some c =
     let a = c.args in
-    let r = ran a.plays.now a.holders a.trump a.opening c.requires.thirteen c.requires.hands c.new.ensures c.take_run-run.ensures in
+    let s = a.start in
+    let r = ran a.plays.now s.holders s.trump s.opening s.thirteen s.words c.play.ensures c.take_run-run.ensures in
     let stop = r.stopped c.in-Some.refusal c.in-Some.is in
     let number = sym (ap number_or_none stop.1) in
     let told = c.check_stopped.ensures in
     let here = get_or a.plays.now c.take_run-run.result.place 0 in
     by_test (begins_code here)
     (λ (q : begins_code here ≡ true).
-    told.code q a.holders a.trump a.opening _ (of-cards _ _ _ _ r.there c.requires.thirteen c.requires.seat _ refl)
+    told.code q s.holders s.trump s.opening _ (of-cards _ _ _ _ r.there s.thirteen s.seat _ refl)
     ∙ on_with_codes _ _ _ _ r.there)
     (λ (q : begins_code here ≡ false).
-    told.no_code q ∙ card_stops _ _ _ _ r.there stop.0 c.requires.thirteen.places refl number q (number_not_none c.in-Some.refusal))
+    told.no_code q ∙ card_stops _ _ _ _ r.there stop.0 s.thirteen.places refl number q (number_not_none c.in-Some.refusal))
 
 pub returns-in-None : goal.returns-in-None
 returns-in-None c =
     let a = c.args in
-    let r = ran a.plays.now a.holders a.trump a.opening c.requires.thirteen c.requires.hands c.new.ensures c.take_run-run.ensures in
+    let s = a.start in
+    let r = ran a.plays.now s.holders s.trump s.opening s.thirteen s.words c.play.ensures c.take_run-run.ensures in
     card_ends _ _ _ _ r.there (omega (arith, r.all-played c.in-None.is))

@@ -12,7 +12,7 @@ use Rattle.last_card.proofs.plays.read_plays.Goals as goal
 pub loop-i-init : goal.loop-i-init
 loop-i-init c = record {
   place = c.requires.place;
-  room = omega (arith, c.requires.few);
+  room = omega (arith, c.args.count.few);
   turned = λ deal trump opening e o. turns_begin deal trump opening _ _ e _ _ _ o;
 }
 
@@ -21,7 +21,7 @@ returns-in_err-c c =
     let a = c.args in
     let p = err_from_is_err_and c.from_residual.result c.from_residual.ensures.1 in
     λ deal trump opening e o. rw (p.1, p.2)
-    (turns_short deal trump opening a.bytes.now a.count e a.at (c.loop-i.invariant.turned deal trump opening e o) c.requires.few c.loop-i-test.true
+    (turns_short deal trump opening a.bytes.now a.count.cards e a.at (c.loop-i.invariant.turned deal trump opening e o) a.count.few c.loop-i-test.true
     (refused_stops a.bytes.now c.loop-i.next 6 (omega arith) c.in_err-c.ensures))
 
 pub overflow_cast-c : goal.overflow_cast-c
@@ -34,7 +34,7 @@ returns-in_err-coded c =
     λ deal trump opening e o.
     let turned = c.loop-i.invariant.turned deal trump opening e o in
     rw (p.1, p.2)
-    (code_stops deal trump opening a.bytes.now a.count e a.at turned c.requires.few c.loop-i-test.true _
+    (code_stops deal trump opening a.bytes.now a.count.cards e a.at turned a.count.few c.loop-i-test.true _
     (given-reads _ c.loop-i.next 6 c.in_ok-c.ensures) (sym c.begins_code.ensures ∙ c.if-begins_code.true)
     (c.in_err-coded.ensures.law deal trump opening turned.events turned.of_events))
 
@@ -47,7 +47,7 @@ loop-i-preserved-then-begins_code c =
       turned =
           λ deal trump opening e o.
           let turned = c.loop-i.invariant.turned deal trump opening e o in
-          code_goes deal trump opening a.bytes.now a.count e a.at turned c.requires.few c.loop-i-test.true _
+          code_goes deal trump opening a.bytes.now a.count.cards e a.at turned a.count.few c.loop-i-test.true _
           (given-reads _ c.loop-i.next 6 c.in_ok-c.ensures) (sym c.begins_code.ensures ∙ c.if-begins_code.true)
           (k.law deal trump opening turned.events turned.of_events);
     }
@@ -57,7 +57,7 @@ returns-in-Err c =
     let a = c.args in
     let number = sym (ap number_or_none (not_taken c.loop-i.t.play c.in_ok-c.field-0 c.in-Err.ensures)) in
     λ deal trump opening e o. rw c.at.ensures
-    (card_stops deal trump opening a.bytes.now a.count e a.at (c.loop-i.invariant.turned deal trump opening e o) c.requires.few c.loop-i-test.true _
+    (card_stops deal trump opening a.bytes.now a.count.cards e a.at (c.loop-i.invariant.turned deal trump opening e o) a.count.few c.loop-i-test.true _
     (given-reads _ c.loop-i.next 6 c.in_ok-c.ensures) (sym c.begins_code.ensures ∙ c.if-begins_code.false) _ number (number_not_none c.in-Err.refusal))
 
 pub loop-i-preserved : goal.loop-i-preserved
@@ -68,8 +68,8 @@ loop-i-preserved c =
       place = omega (arith, c.loop-i-test.true);
       room = omega (arith, c.loop-i.invariant.room, same_codes _ _ step, c.loop-i-test.true);
       turned =
-          λ deal trump opening e o. card-goes deal trump opening a.bytes.now a.count e a.at (c.loop-i.invariant.turned deal trump opening e o)
-          c.requires.few c.loop-i-test.true _ (given-reads _ c.loop-i.next 6 c.in_ok-c.ensures)
+          λ deal trump opening e o. card-goes deal trump opening a.bytes.now a.count.cards e a.at (c.loop-i.invariant.turned deal trump opening e o)
+          a.count.few c.loop-i-test.true _ (given-reads _ c.loop-i.next 6 c.in_ok-c.ensures)
           (sym c.begins_code.ensures ∙ c.if-begins_code.false) _ refl took.0 _ step;
     }
 
@@ -77,4 +77,4 @@ pub returns : goal.returns
 returns c =
     let a = c.args in
     λ deal trump opening e o.
-    turns_end deal trump opening a.bytes.now a.count e a.at (c.loop-i.invariant.turned deal trump opening e o) (omega (arith, c.loop-i-test.false))
+    turns_end deal trump opening a.bytes.now a.count.cards e a.at (c.loop-i.invariant.turned deal trump opening e o) (omega (arith, c.loop-i-test.false))

@@ -12,11 +12,11 @@ turns_left count i t = 41 * (count - i) + (40 - t.penalty.codes)
 
 abbrev pub invariant-loop-i : goal.invariant-loop-i
 invariant-loop-i l = record {
-  place : l.i ≤ l.count;
-  room : l.next + 13 * turns_left l.count l.i l.t ≤ l.at + 28236;
+  place : l.i ≤ l.count.cards;
+  room : l.next + 13 * turns_left l.count.cards l.i l.t ≤ l.at + 28236;
   turned : (deal : List ℕ) (trump opening : ℕ) (e : List Event) → OfEvents deal trump opening e l.initial.t l.place
-      → Turned deal trump opening l.bytes l.count e l.at l.t l.next l.i;
+      → Turned deal trump opening l.bytes l.count.cards e l.at l.t l.next l.i;
 }
 
 abbrev pub decreases-loop-i : goal.decreases-loop-i
-decreases-loop-i l = turns_left l.count l.i l.t
+decreases-loop-i l = turns_left l.count.cards l.i l.t

@@ -3,8 +3,8 @@ use Rattle.std.proofs.lemmas.Result.{err_from_is_err_and}
 use Rattle.last_card.proofs.Composing.{leader_lt, cards-refused, cards-read}
 use Rattle.last_card.proofs.reached.read_play.Goals as goal
 
-pub read_cards-requires-clause-seat : goal.read_cards-requires-clause-seat
-read_cards-requires-clause-seat c = rw c.opening_leader.ensures (leader_lt _)
+pub invariant_of-start-clause-seat : goal.invariant_of-start-clause-seat
+invariant_of-start-clause-seat c = rw c.opening_leader.ensures (leader_lt _)
 
 pub returns-in_err-cards : goal.returns-in_err-cards
 returns-in_err-cards c =

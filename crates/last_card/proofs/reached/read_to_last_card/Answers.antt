@@ -22,8 +22,7 @@ pub read_play-requires : goal.read_play-requires
 read_play-requires c =
     let b = c.args.bytes.now in
     let bound = calls_bound b c.in_ok-top.ensures c.in_ok-dealt.ensures _ c.dealer.ensures c.in_ok-calls.ensures in record {
-      from = bound.0;
-      to = bound.1;
+      to = bound;
       hands = hands_are b c.in_ok-top.ensures c.in_ok-dealt.ensures;
       thirteen = thirteen_are b c.in_ok-top.ensures c.in_ok-dealt.ensures;
     }
