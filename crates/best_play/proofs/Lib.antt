@@ -1,4 +1,4 @@
-pub mod Window
+pub mod Within
 pub mod Search
 pub mod Cards
 pub mod Laws

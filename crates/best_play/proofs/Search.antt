@@ -12,7 +12,7 @@ use Rattle.play.specs.declared.Play.{Play}
 use Rattle.laws.proofs.Tests.{by_test}
 use Rattle.play.specs.Position.{leads, step}
 use Rattle.best_play.specs.Search.{within, may_in, gain_in, ours_in, most_in, least_in, value_in, best_in}
-use Rattle.best_play.proofs.Window.{raised, lowered, at_ceiling, at_floor, greatest_52, smallest_52, none_within, all-within, greatest-most, smallest_13}
+use Rattle.best_play.proofs.Within.{raised, lowered, at_ceiling, at_floor, greatest_52, smallest_52, none_within, all-within, greatest-most, smallest_13}
 
 module _ (side : ℕ) where
   -- what a card is worth, with so many left after it

@@ -47,16 +47,25 @@ fn is_ours(p: Play, side: u64) -> bool
     p.turn() % 2 == side
 }
 
+// From where to where a number is told. That the ceiling is at most 1000 keeps every sum within 16 bits.
+#[derive(Clone, Copy)]
+struct Window {
+    floor: u16,
+    ceiling: u16,
+    ghost order: { floor ≤ ceiling },
+    ghost low: { ceiling ≤ 1000 },
+}
+
 // Declarer's side picks the most, with so many cards left. It is told as far as it lies from the floor to the ceiling: where it reaches the ceiling, no other
-// card is tried. That the ceiling is at most 1000 keeps every sum within 16 bits.
+// card is tried.
 #[cycle(search)]
-fn most(p: Play, side: u64, left: u8, floor: u16, ceiling: u16) -> u16
-    requires order { floor ≤ ceiling }
-    requires low { ceiling ≤ 1000 }
-    ensures told { result ≡ within floor ceiling (most_in side left p) }
-    ensures from { floor ≤ result }
-    ensures to { result ≤ ceiling }
+fn most(p: Play, side: u64, left: u8, window: Window) -> u16
+    ensures told { result ≡ within window.floor window.ceiling (most_in side left p) }
+    ensures from { window.floor ≤ result }
+    ensures to { result ≤ window.ceiling }
 {
+    let floor = window.floor;
+    let ceiling = window.ceiling;
     if left == 0 {
         return floor;
     }
@@ -72,20 +81,29 @@ fn most(p: Play, side: u64, left: u8, floor: u16, ceiling: u16) -> u16
         let gained = gain(after, side);
         let low = best.saturating_sub(gained);
         let high = ceiling - gained;
-        best = gained + value(after, side, left - 1, low, high);
+        best = gained
+            + value(
+                after,
+                side,
+                left - 1,
+                Window {
+                    floor: low,
+                    ceiling: high,
+                },
+            );
     }
     best
 }
 
 // The defenders pick the least; where it reaches the floor, no other card is tried.
 #[cycle(search)]
-fn least(p: Play, side: u64, left: u8, floor: u16, ceiling: u16) -> u16
-    requires order { floor ≤ ceiling }
-    requires low { ceiling ≤ 1000 }
-    ensures told { result ≡ within floor ceiling (least_in side left p) }
-    ensures from { floor ≤ result }
-    ensures to { result ≤ ceiling }
+fn least(p: Play, side: u64, left: u8, window: Window) -> u16
+    ensures told { result ≡ within window.floor window.ceiling (least_in side left p) }
+    ensures from { window.floor ≤ result }
+    ensures to { result ≤ window.ceiling }
 {
+    let floor = window.floor;
+    let ceiling = window.ceiling;
     if left == 0 {
         return floor;
     }
@@ -101,24 +119,31 @@ fn least(p: Play, side: u64, left: u8, floor: u16, ceiling: u16) -> u16
         let gained = gain(after, side);
         let low = floor.saturating_sub(gained);
         let high = best - gained;
-        best = gained + value(after, side, left - 1, low, high);
+        best = gained
+            + value(
+                after,
+                side,
+                left - 1,
+                Window {
+                    floor: low,
+                    ceiling: high,
+                },
+            );
     }
     best
 }
 
 // The most where a player of the side is at turn, and else the least.
 #[cycle(search)]
-fn value(p: Play, side: u64, left: u8, floor: u16, ceiling: u16) -> u16
-    requires order { floor ≤ ceiling }
-    requires low { ceiling ≤ 1000 }
-    ensures told { result ≡ within floor ceiling (value_in side left p) }
-    ensures from { floor ≤ result }
-    ensures to { result ≤ ceiling }
+fn value(p: Play, side: u64, left: u8, window: Window) -> u16
+    ensures told { result ≡ within window.floor window.ceiling (value_in side left p) }
+    ensures from { window.floor ≤ result }
+    ensures to { result ≤ window.ceiling }
 {
     if is_ours(p, side) {
-        return most(p, side, left, floor, ceiling);
+        return most(p, side, left, window);
     }
-    least(p, side, left, floor, ceiling)
+    least(p, side, left, window)
 }
 
 // The tricks that the side takes of those left by best play on both sides. No value is above 65: the 13 of no card that may be played, and one for each card.
@@ -128,5 +153,13 @@ pub fn best_play(p: Play, side: u64) -> u16
     if 52 < p.played {
         return 0;
     }
-    value(p, side, (52 - p.played) as u8, 0, 65)
+    value(
+        p,
+        side,
+        (52 - p.played) as u8,
+        Window {
+            floor: 0,
+            ceiling: 65,
+        },
+    )
 }
