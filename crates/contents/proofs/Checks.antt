@@ -5,12 +5,11 @@ use mathlib.Core.Bool.{Bool, true, false}
 use mathlib.Core.List.{[]}
 use borrow.Author.Tests.{eq-eqb, ne_eqb, lt-ltb, le-ltb, lt-leb, le-leb}
 use Rattle.laws.specs.Refusals.{refused_at, given, no_board_or_table, play_unfinished, no_claim_point, claim_too_many}
-use Rattle.laws.specs.Law68.{none}
+use Rattle.laws.specs.Law68.{none, agreed}
 use Rattle.laws.specs.Reading.{refuse}
 use Rattle.laws.specs.Contents.{take_heading}
 use Rattle.claims.specs.Claims.{point_at, may_claim}
 use Rattle.claims.proofs.ClaimPoints.{no_point}
-use Rattle.contents.specs.Given.{claim_of}
 use Rattle.laws.specs.Refused.{checked_in}
 use Rattle.contents.specs.Checked.{claim_by}
 
@@ -53,20 +52,16 @@ module _ (out : Bool) (played : ℕ) where
     unfolding claim_by refuse
     complete n = rw (e, eq-eqb played 52 n)
 
-  module _ (marked tricks : ℕ) where
-    pub unmarked : marked ≡ 0 → claim_by out played none ≡ claim_by out played (claim_of marked tricks)
-    unmarked z = rw (eq-eqb marked 0 z)
+  module _ (tricks : ℕ) where
+    pub elsewhere : may_claim out played ≡ false → refused_at no_claim_point played ≡ claim_by out played (agreed tricks)
+    unfolding claim_by refuse may_claim
+    elsewhere m = rw (no_point out (point_at played), m)
 
-    module _ (z : marked ≡ 0 → ⊥) where
-      pub elsewhere : may_claim out played ≡ false → refused_at no_claim_point played ≡ claim_by out played (claim_of marked tricks)
-      unfolding claim_by refuse may_claim
-      elsewhere m = rw (ne_eqb marked 0 z, no_point out (point_at played), m)
+    pub too_many : may_claim out played ≡ true → 13 - played / 4 < tricks
+        → refused_at claim_too_many (min tricks 15) ≡ claim_by out played (agreed tricks)
+    unfolding claim_by refuse may_claim
+    too_many m o = rw (no_point out (point_at played), m, lt-leb tricks (13 - played / 4) o)
 
-      pub too_many : may_claim out played ≡ true → 13 - played / 4 < tricks
-          → refused_at claim_too_many (min tricks 15) ≡ claim_by out played (claim_of marked tricks)
-      unfolding claim_by refuse may_claim
-      too_many m o = rw (ne_eqb marked 0 z, no_point out (point_at played), m, lt-leb tricks (13 - played / 4) o)
-
-      pub agreed-to : may_claim out played ≡ true → tricks ≤ 13 - played / 4 → given tt ≡ claim_by out played (claim_of marked tricks)
-      unfolding claim_by refuse may_claim
-      agreed-to m o = rw (ne_eqb marked 0 z, no_point out (point_at played), m, le-leb tricks (13 - played / 4) o)
+    pub agreed-to : may_claim out played ≡ true → tricks ≤ 13 - played / 4 → given tt ≡ claim_by out played (agreed tricks)
+    unfolding claim_by refuse may_claim
+    agreed-to m o = rw (no_point out (point_at played), m, le-leb tricks (13 - played / 4) o)

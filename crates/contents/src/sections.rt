@@ -1,9 +1,9 @@
 // Board and table, and the claim of a record's contents, each checked as the Laws' section of that name is.
-ghost use Rattle.std.specs.Prelude.{◌≡◌, []};
+ghost use Rattle.std.specs.Prelude.{◌≡◌, [], None};
 ghost use Rattle.laws.specs.Contents.{take_heading};
 ghost use Rattle.laws.specs.Refused.{placed_of, checked_in};
 ghost use Rattle.contents.specs.Checked.{claim_by};
-ghost use Rattle.contents.specs.Given.{claim_of};
+ghost use Rattle.contents.specs.Given.{claimed};
 
 use laws::{Refusal, Refused};
 
@@ -28,7 +28,7 @@ pub fn check_heading(board: u32, table: u32) -> Result<(), Refused>
 
 // A play of so many cards without a claim; `out` says that the board was passed out.
 fn check_unclaimed(out: bool, played: u8) -> Result<(), Refused>
-    ensures { placed_of result ≡ claim_by out played (claim_of 0 0) }
+    ensures { placed_of result ≡ claim_by out played (claimed None) }
 {
     if out {
         return Ok(());
@@ -39,18 +39,18 @@ fn check_unclaimed(out: bool, played: u8) -> Result<(), Refused>
     Ok(())
 }
 
-// A claim after so many cards, or no claim. `marked` 0 is no claim.
-pub(crate) fn check_claim(out: bool, played: u8, marked: u32, claim: u32) -> Result<(), Refused>
-    ensures { placed_of result ≡ claim_by out played (claim_of marked claim) }
+// A claim after so many cards, or no claim.
+pub(crate) fn check_claim(out: bool, played: u8, claim: Option<u32>) -> Result<(), Refused>
+    ensures { placed_of result ≡ claim_by out played (claimed claim) }
 {
-    if marked == 0 {
+    let Some(tricks) = claim else {
         return check_unclaimed(out, played);
-    }
+    };
     if !claims::may_claim(out, played) {
         return Err(Refusal::NoClaimPoint.at(u16::from(played)));
     }
-    if u32::from(claims::tricks_left(played)) < claim {
-        return Err(Refusal::ClaimTooMany.at(claim.min(15) as u16));
+    if u32::from(claims::tricks_left(played)) < tricks {
+        return Err(Refusal::ClaimTooMany.at(tricks.min(15) as u16));
     }
     Ok(())
 }

@@ -1,5 +1,5 @@
 -- What is said of a text, by the way out of the code. Assumes nothing.
-use Rattle.std.specs.Prelude.{Option, Result, Ok, Err}
+use Rattle.std.specs.Prelude.{Option, None, Result, Ok, Err}
 use Rattle.std.specs.Option.{unwrap_or}
 use Prim.Native.Nat.{ℕ, ◌%◌, ◌≤◌, ◌<◌, min}
 use native.Mathlib.Omega.{arith}
@@ -24,7 +24,7 @@ use Rattle.laws.specs.PbnReading.{Parsed, outside, game, parse}
 use Rattle.laws.specs.Pbn.{last_place, play_line, play_stands, cards_listed, take_game, pbn_outcome, read_pbn, contents_in}
 use Rattle.laws.proofs.PbnParse.{only_so}
 use Rattle.laws.proofs.PbnRecord.{game-taken, stops_alike}
-use Rattle.contents.specs.Given.{given}
+use Rattle.contents.specs.Given.{given_with}
 use Rattle.pbn_text.specs.declared.game.Game as Told
 use Rattle.pbn_text.specs.Kept.{kept_of}
 use Rattle.pbn_text.specs.TextOf.{seat_of, listed_of}
@@ -129,7 +129,7 @@ module _ (x : Game) (ok : Sayable x) (g : Told.Game) (eg : Ok g ≡ game_in (gam
   module _ (low : g.calls.count ≤ 511) (holders calls plays order : List ℕ) (eh : holders ≡ g.holders)
       (ec : calls ≡ take g.calls.count g.calls.numbers) (eo : order ≡ order_of_play trump (unwrap_or g.seat 0 % 4) g.cards) (n : length order ≡ 52)
       (ep : plays ≡ take (cards_in g.seat) order) where
-    pub given_is : given g.board table holders calls plays 0 0 ≡ contents_in x table
+    pub given_is : given_with g.board table holders calls plays None ≡ contents_in x table
     unfolding contents_in game_in
     given_is =
         let cards : take (cards_in g.seat) order ≡ cards_listed (trump_after (reverse x.calls)) x.play

@@ -17,6 +17,7 @@ ghost use Rattle.pbn_record.specs.Tags.{cards_in};
 ghost use Rattle.writer.specs.Answer.{written_by};
 
 use crate::tags::take_tags;
+use contents::Given;
 use laws::{Refusal, Refused};
 use pbn_order::order_of_play;
 use pbn_text::{Game, read_game};
@@ -48,16 +49,15 @@ fn write_game(g: Game, table: u32, trump: u8, out: &mut [u8]) -> Result<usize, R
     let columns = g.cards;
     let cards = order_of_play(columns, trump, g.seat.unwrap_or(0));
     let n = cards_listed(g.seat);
-    write_record(
-        g.board,
+    let given = Given {
+        board: g.board,
         table,
-        &holders,
-        &numbers[..count],
-        &cards[..n],
-        0,
-        0,
-        out,
-    )
+        holders: &holders,
+        calls: &numbers[..count],
+        plays: &cards[..n],
+        claim: None,
+    };
+    write_record(given, out)
 }
 
 // Reads a text of Portable Bridge Notation and writes its record at a table over the front of a buffer. The answer is how many bytes were written; or a refusal

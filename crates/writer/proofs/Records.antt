@@ -1,4 +1,5 @@
 -- The record written, or refused: a law for each way out of the code. Assumes nothing.
+use Rattle.std.specs.Prelude.{Option}
 use Prim.Native.Nat.{ℕ, ◌≤◌, ◌<◌, ◌+◌, ◌*◌}
 use native.Mathlib.Omega.{arith}
 use mathlib.Core.Path.{◌≡◌, refl, sym, ap, ◌∙◌}
@@ -128,6 +129,6 @@ module _ (c : Given) (old : List ℕ) where
           (rw (taken, le-ltb (length old) (length (encode p)) room) (ap given es), rw (taken, le-ltb (length old) (length (encode p)) room) (e ∙ wrote))
 
 -- the length that the code counts
-pub size_is : (board table : ℕ) (holders calls plays : List ℕ) (marked tricks : ℕ) → Fits (parts_of board table holders calls plays marked tricks)
-    → length_of (length calls) (bits (fields_of plays)) marked ≡ length (encode (parts_of board table holders calls plays marked tricks))
-size_is board table holders calls plays marked tricks f = length_encoded board table holders calls plays marked tricks f.holders f.calls
+pub size_is : (board table : ℕ) (holders calls plays : List ℕ) (claim : Option ℕ) → Fits (parts_of board table holders calls plays claim)
+    → length_of (length calls) (bits (fields_of plays)) claim ≡ length (encode (parts_of board table holders calls plays claim))
+size_is board table holders calls plays claim f = length_encoded board table holders calls plays claim f.holders f.calls

@@ -18,7 +18,6 @@ use Rattle.packing.specs.declared.Packer.{Packer}
 use Rattle.packing.specs.Packed.{new_packer, packer_after, bytes_after, packer_after_all, bytes_after_all, bytes_finished, bytes_packed}
 use Rattle.packing.proofs.Fields.{Narrow, packed-over}
 use Rattle.packing.proofs.Sequences.{Puts, length-after-all, puts_one, puts_then, puts_whole}
-use Rattle.contents.specs.Given.{claim_of}
 use Rattle.writer.specs.Fields.{events_in, code_fields, fields_of}
 use Rattle.contents.proofs.Items.{items_at, none_at, whole_code, whole-card, whole-behind}
 use Rattle.writer.proofs.Measuring.{fields-card, fields_code}
@@ -43,15 +42,14 @@ module _ (p : Packer) (old : List ℕ) where
       → All p old (f ∷ fs) r left
   front f fs q between a b = let both = puts_then (puts_one p old f a) (puts q between fs b) in (both.packer, both.bytes)
 
-  pub unmarked : (marked tricks : ℕ) {q : Packer} {left : List ℕ} → marked ≡ 0 → One p old (field 1 0) q left
-      → All p old (claim_fields (claim_of marked tricks)) q left
+  pub unclaimed : {q : Packer} {left : List ℕ} → One p old (field 1 0) q left → All p old (claim_fields none) q left
   unfolding claim_fields packer_after_all bytes_after_all
-  unmarked marked tricks e a = rw (eq-eqb marked 0 e) a
+  unclaimed a = a
 
-  pub marked_claim : (marked tricks : ℕ) (q : Packer) (between : List ℕ) {r : Packer} {left : List ℕ} → (marked ≡ 0 → ⊥) → One p old (field 1 1) q between
-      → One q between (field 4 tricks) r left → All p old (claim_fields (claim_of marked tricks)) r left
+  pub tricks_claimed : (tricks : ℕ) (q : Packer) (between : List ℕ) {r : Packer} {left : List ℕ} → One p old (field 1 1) q between
+      → One q between (field 4 tricks) r left → All p old (claim_fields (agreed tricks)) r left
   unfolding claim_fields packer_after_all bytes_after_all
-  marked_claim marked tricks q between e a b = rw (ne_eqb marked 0 e) (front (field 1 1) (field 4 tricks ∷ []) q between a b)
+  tricks_claimed tricks q between a b = front (field 1 1) (field 4 tricks ∷ []) q between a b
 
 -- ---- a code and its two numbers
 module _ (p : Packer) (old : List ℕ) (code first second : ℕ) where

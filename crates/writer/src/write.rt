@@ -4,12 +4,19 @@ ghost use Rattle.laws.specs.Choice.{some};
 ghost use Rattle.laws.specs.FlatPlay.{items_of, is_broken};
 ghost use Rattle.laws.specs.Record.{field, row, bits, claim_fields, layout};
 ghost use Rattle.packing.specs.Packed.{packer_after_all, bytes_after_all, bytes_packed};
-ghost use Rattle.contents.specs.Given.{claim_of};
+ghost use Rattle.contents.specs.Given.{claimed};
 ghost use Rattle.writer.specs.Fields.{parts_of, code_fields, fields_of, length_of};
 
-use contents::{count_cards, has_code};
+use contents::{Given, count_cards, has_code};
 use packing::Packer;
 use penalty::begins_code;
+
+// The numbers of the plays, in which each code is followed by its two numbers and a card.
+#[derive(Clone, Copy)]
+pub(crate) struct Plays<'a> {
+    pub(crate) numbers: &'a [u8],
+    pub(crate) ghost whole: { some is_broken (items_of numbers.now) ≡ false },
+}
 
 // Board, table and the holder of each card.
 fn put_deal(p: Packer, out: &mut [u8], board: u32, table: u32, holders: &[u8]) -> Packer
@@ -46,18 +53,17 @@ fn put_code(p: Packer, out: &mut [u8], code: u8, first: u8, second: u8) -> Packe
 }
 
 // The cards and the codes among them.
-fn put_events(p: Packer, out: &mut [u8], plays: &[u8]) -> Packer
-    requires { some is_broken (items_of plays.now) ≡ false }
-    ensures packer { result ≡ packer_after_all (length out.old) p (fields_of plays.now) }
-    ensures bytes { out.new ≡ bytes_after_all p (fields_of plays.now) out.old }
+fn put_events(p: Packer, out: &mut [u8], plays: Plays) -> Packer
+    ensures packer { result ≡ packer_after_all (length out.old) p (fields_of plays.entry.numbers.now) }
+    ensures bytes { out.new ≡ bytes_after_all p (fields_of plays.entry.numbers.now) out.old }
 {
     let mut q = p;
     let mut i: usize = 0;
     // A code takes three numbers and a card one, so that no iterator of the library steps through them.
-    while i < plays.len() {
-        let x = plays[i];
+    while i < plays.numbers.len() {
+        let x = plays.numbers[i];
         if begins_code(x) {
-            q = put_code(q, out, x, plays[i + 1], plays[i + 2]);
+            q = put_code(q, out, x, plays.numbers[i + 1], plays.numbers[i + 2]);
             i += 3;
         } else {
             q = q.put(out, 6, u64::from(x));
@@ -68,50 +74,50 @@ fn put_events(p: Packer, out: &mut [u8], plays: &[u8]) -> Packer
 }
 
 // The play count, and the plays: a row of cards, or with codes among them.
-fn put_plays(p: Packer, out: &mut [u8], plays: &[u8], cards: usize) -> Packer
-    requires { some is_broken (items_of plays.now) ≡ false }
-    ensures packer { result ≡ packer_after_all (length out.old) p (field 6 cards ∷ fields_of plays.now) }
-    ensures bytes { out.new ≡ bytes_after_all p (field 6 cards ∷ fields_of plays.now) out.old }
+fn put_plays(p: Packer, out: &mut [u8], plays: Plays, cards: usize) -> Packer
+    ensures packer { result ≡ packer_after_all (length out.old) p (field 6 cards ∷ fields_of plays.entry.numbers.now) }
+    ensures bytes { out.new ≡ bytes_after_all p (field 6 cards ∷ fields_of plays.entry.numbers.now) out.old }
 {
     let a = p.put(out, 6, cards as u64);
-    if has_code(plays) {
+    if has_code(plays.numbers) {
         return put_events(a, out, plays);
     }
-    a.put_row(out, 6, plays)
+    a.put_row(out, 6, plays.numbers)
 }
 
 // The claim's mark, and the claim where there is one.
-fn put_claim(p: Packer, out: &mut [u8], marked: u32, claim: u32) -> Packer
-    ensures packer { result ≡ packer_after_all (length out.old) p (claim_fields (claim_of marked claim)) }
-    ensures bytes { out.new ≡ bytes_after_all p (claim_fields (claim_of marked claim)) out.old }
+fn put_claim(p: Packer, out: &mut [u8], claim: Option<u32>) -> Packer
+    ensures packer { result ≡ packer_after_all (length out.old) p (claim_fields (claimed claim)) }
+    ensures bytes { out.new ≡ bytes_after_all p (claim_fields (claimed claim)) out.old }
 {
-    if marked == 0 {
+    let Some(tricks) = claim else {
         return p.put(out, 1, 0);
-    }
+    };
     let a = p.put(out, 1, 1);
-    a.put(out, 4, claim as u64)
+    a.put(out, 4, tricks as u64)
 }
 
-// Writes the bytes of a record's contents over the front of the buffer, with no broken code among the plays. `marked` 0 is no claim.
+// Writes the bytes of a record's contents over the front of the buffer, with no broken code among the plays.
 // Of a number that its field cannot hold, the last bits alone are written; what the buffer has no room for is not.
-pub(crate) fn write_contents(
-    board: u32,
-    table: u32,
-    holders: &[u8],
-    calls: &[u8],
-    plays: &[u8],
-    marked: u32,
-    claim: u32,
-    out: &mut [u8],
-)
-    requires { some is_broken (items_of plays.now) ≡ false }
-    ensures { out.new
-        ≡ bytes_packed (layout (parts_of board table holders.now calls.now plays.now marked claim)) out.old }
+pub(crate) fn write_contents(given: Given, out: &mut [u8])
+    requires { some is_broken (items_of given.plays.now) ≡ false }
+    ensures { out.new ≡ bytes_packed (layout (parts_of given.entry.board given.entry.table
+        given.entry.holders.now given.entry.calls.now given.entry.plays.now given.entry.claim)) out.old }
 {
+    let Given {
+        board,
+        table,
+        holders,
+        calls,
+        ..
+    } = given;
+    let plays = Plays {
+        numbers: given.plays,
+    };
     let dealt = put_deal(Packer::new(), out, board, table, holders);
     let called = put_calls(dealt, out, calls);
-    let played = put_plays(called, out, plays, count_cards(plays));
-    let claimed = put_claim(played, out, marked, claim);
+    let played = put_plays(called, out, plays, count_cards(given.plays));
+    let claimed = put_claim(played, out, given.claim);
     claimed.finish(out);
 }
 
@@ -124,28 +130,26 @@ fn code_bits(code: u8) -> usize
 }
 
 // How many bits the plays take: six for a card, thirteen for an exposure, ten for a choice.
-pub(crate) fn play_bits(plays: &[u8]) -> usize
-    requires whole { some is_broken (items_of plays.now) ≡ false }
-    requires few { length plays.now ≤ 512 }
-    ensures { result ≡ bits (fields_of plays.now) }
+pub(crate) fn play_bits(plays: Plays) -> usize
+    requires { length plays.numbers.now ≤ 512 }
+    ensures { result ≡ bits (fields_of plays.entry.numbers.now) }
 {
-    if has_code(plays) {
+    if has_code(plays.numbers) {
         return bits_beside_codes(plays);
     }
-    6 * plays.len()
+    6 * plays.numbers.len()
 }
 
 // The same, number by number.
-fn bits_beside_codes(plays: &[u8]) -> usize
-    requires whole { some is_broken (items_of plays.now) ≡ false }
-    requires few { length plays.now ≤ 512 }
-    ensures { result ≡ bits (fields_of plays.now) }
+fn bits_beside_codes(plays: Plays) -> usize
+    requires { length plays.numbers.now ≤ 512 }
+    ensures { result ≡ bits (fields_of plays.entry.numbers.now) }
 {
     let mut sum: usize = 0;
     let mut i: usize = 0;
     // A code takes three numbers and a card one, as above.
-    while i < plays.len() {
-        let x = plays[i];
+    while i < plays.numbers.len() {
+        let x = plays.numbers[i];
         if begins_code(x) {
             sum += code_bits(x);
             i += 3;
@@ -158,12 +162,12 @@ fn bits_beside_codes(plays: &[u8]) -> usize
 }
 
 // How many bytes a record with so many calls and so many bits of plays has. More than 511 calls count as 511.
-pub(crate) fn length_of(calls: usize, plays: usize, marked: u32) -> usize
+pub(crate) fn length_of(calls: usize, plays: usize, claim: Option<u32>) -> usize
     requires { plays ≤ 8192 }
-    ensures { result ≡ length_of calls plays marked }
+    ensures { result ≡ length_of calls plays claim }
 {
     let codes = 6 * calls.min(511) + plays;
-    if marked == 0 {
+    if claim.is_none() {
         return (143 + codes) / 8;
     }
     (147 + codes) / 8

@@ -1,5 +1,5 @@
 -- `write_game` meets its contract: what is given to the writer is what stands in the text. Assumes nothing.
-use Rattle.std.specs.Prelude.{Ok}
+use Rattle.std.specs.Prelude.{None, Ok}
 use Prim.Native.Nat.{◌≤◌}
 use native.Mathlib.Omega.{arith}
 use mathlib.Core.Path.{◌≡◌, refl, sym, ap, ◌∙◌}
@@ -12,37 +12,27 @@ use Rattle.laws.specs.PbnText.{Game, Sayable}
 use Rattle.laws.specs.PbnReading.{game}
 use Rattle.laws.specs.Writing.{write_of, record_left}
 use Rattle.laws.specs.Pbn.{contents_in}
-use Rattle.contents.specs.Given.{given}
+use Rattle.contents.specs.Given.{given_with}
 use Rattle.writer.specs.Answer.{written_by}
 use Rattle.pbn_text.specs.GameIn.{game_in}
 use Rattle.pbn_record.proofs.Written.{given_is}
-use Rattle.pbn_record.proofs.write_game.Goals.{After-cards_listed-n, After-numbers-1, After-order_of_play-cards, After-write_record, Start}
+use Rattle.pbn_record.proofs.write_game.Goals.{After-write_record}
 use Rattle.pbn_record.proofs.write_game.Goals as goal
 
 pub slice_bounds-numbers-end : goal.slice_bounds-numbers-end
 slice_bounds-numbers-end c =
-    (let h : let a = c.args in a.g.calls.count ≤ length a.g.calls.numbers = let n : length c.args.g.calls.numbers ≡ 511 = search rules in
-    omega (arith, c.requires) in h)
-
-pub slice_bounds-write_record-end-2 : goal.slice_bounds-write_record-end-2
-slice_bounds-write_record-end-2 c =
-    sym (length-take-le _ _ ((let h : let a = c.args in a.g.calls.count ≤ length a.g.calls.numbers = let n : length c.args.g.calls.numbers ≡ 511 = search rules in
-    omega (arith, c.requires) in h)))
+    let n : length c.args.g.calls.numbers ≡ 511 = search rules in
+    omega (arith, c.requires)
 
 pub slice_bounds-cards-end : goal.slice_bounds-cards-end
 slice_bounds-cards-end c =
     let long : length c.order_of_play-cards.result ≡ 52 = search rules in
     omega (arith, c.cards_listed-n.ensures.1)
 
-pub slice_bounds-write_record-end-3 : goal.slice_bounds-write_record-end-3
-slice_bounds-write_record-end-3 c =
-    let long : length c.order_of_play-cards.result ≡ 52 = search rules in
-    sym (length-take-le _ _ (omega (arith, c.cards_listed-n.ensures.1)))
-
 same : (w : After-write_record) (x : Game) → let a = w.args in
     Sayable x → Ok a.g ≡ game_in (game x) → a.trump ≡ trump_after (reverse x.calls)
-    → given a.g.board a.table a.g.holders (take a.g.calls.count a.g.calls.numbers)
-    (take w.cards_listed-n.result w.order_of_play-cards.result) 0 0
+    → given_with a.g.board a.table a.g.holders (take a.g.calls.count a.g.calls.numbers)
+    (take w.cards_listed-n.result w.order_of_play-cards.result) None
     ≡ contents_in x a.table
 same w x ok eg et =
     let long : length w.order_of_play-cards.result ≡ 52 = search rules in

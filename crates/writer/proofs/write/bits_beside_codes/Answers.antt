@@ -5,10 +5,10 @@ use Rattle.writer.proofs.Measuring.{measure_begins, measure_ends, measure_card, 
 use Rattle.writer.proofs.write.bits_beside_codes.Goals as goal
 
 pub loop-i-init : goal.loop-i-init
-loop-i-init c = (measure_begins _ c.requires.whole, omega arith)
+loop-i-init c = (measure_begins _ c.args.plays.whole, omega arith)
 
 pub overflow_add-sum : goal.overflow_add-sum
-overflow_add-sum c = omega (arith, c.code_bits-sum.ensures.most, c.loop-i.invariant.0.few, c.loop-i-test.true, c.requires.few)
+overflow_add-sum c = omega (arith, c.code_bits-sum.ensures.most, c.loop-i.invariant.0.few, c.loop-i-test.true, c.requires)
 
 pub loop-i-preserved-then-begins_code : goal.loop-i-preserved-then-begins_code
 loop-i-preserved-then-begins_code c =
@@ -18,7 +18,7 @@ loop-i-preserved-then-begins_code c =
     )
 
 pub overflow_add-sum-else-begins_code : goal.overflow_add-sum-else-begins_code
-overflow_add-sum-else-begins_code c = omega (arith, c.loop-i.invariant.0.few, c.loop-i-test.true, c.requires.few)
+overflow_add-sum-else-begins_code c = omega (arith, c.loop-i.invariant.0.few, c.loop-i-test.true, c.requires)
 
 pub loop-i-preserved : goal.loop-i-preserved
 loop-i-preserved c = (measure_card _ c.loop-i.invariant.0 c.loop-i-test.true (sym c.begins_code.ensures ∙ c.if-begins_code.false), omega (arith, c.loop-i-test.true))

@@ -5,7 +5,7 @@ use Rattle.writer.proofs.Measuring.{Measured}
 use Rattle.writer.proofs.write.bits_beside_codes.Given as goal
 
 abbrev pub invariant-loop-i : goal.invariant-loop-i
-invariant-loop-i l = Measured l.plays l.sum l.i × (l.i ≤ length l.plays + 2)
+invariant-loop-i l = Measured l.plays.numbers.now l.sum l.i × (l.i ≤ length l.plays.numbers.now + 2)
 
 abbrev pub decreases-loop-i : goal.decreases-loop-i
-decreases-loop-i l = length l.plays - l.i
+decreases-loop-i l = length l.plays.numbers.now - l.i

@@ -1,9 +1,10 @@
 -- `length_of` meets its contract. Assumes nothing.
-use Rattle.writer.proofs.Lengths.{unmarked_length, marked_length}
+use Rattle.std.proofs.Common.{ap, not, ◌∙◌}
+use Rattle.writer.proofs.Lengths.{unclaimed_length, claimed_length}
 use Rattle.writer.proofs.write.length_of.Goals as goal
 
-pub returns-then-marked-eq0 : goal.returns-then-marked-eq0
-returns-then-marked-eq0 c = unmarked_length _ _ _ c.if-marked-eq0.true c.min.ensures
+pub returns-then-is_none : goal.returns-then-is_none
+returns-then-is_none c = unclaimed_length _ _ _ (c.is_none.ensures ∙ ap not c.if-is_none.true) c.min.ensures
 
 pub returns : goal.returns
-returns c = marked_length _ _ _ c.if-marked-eq0.false c.min.ensures
+returns c = claimed_length _ _ _ (c.is_none.ensures ∙ ap not c.if-is_none.false) c.min.ensures

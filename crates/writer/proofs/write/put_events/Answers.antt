@@ -9,19 +9,19 @@ use Rattle.writer.proofs.write.put_events.Goals.{After-begins_code, After-put_co
 use Rattle.writer.proofs.write.put_events.Goals as goal
 
 pub loop-i-init : goal.loop-i-init
-loop-i-init c = (plays_begin _ _ _ c.requires, omega arith)
+loop-i-init c = (plays_begin _ _ _ c.args.plays.whole, omega arith)
 
 pub bounds-plays-i-then-begins_code : goal.bounds-plays-i-then-begins_code
-bounds-plays-i-then-begins_code c = omega (arith, (let h : (c.loop-i.i + 2 < length c.args.plays.now) = plays-room _ _ _ c.loop-i.invariant.0 c.loop-i-test.true (sym c.begins_code.ensures ∙ c.if-begins_code.true) in h))
+bounds-plays-i-then-begins_code c = omega (arith, (let h : (c.loop-i.i + 2 < length c.args.plays.numbers.now) = plays-room _ _ _ c.loop-i.invariant.0 c.loop-i-test.true (sym c.begins_code.ensures ∙ c.if-begins_code.true) in h))
 
 pub overflow_add-i-then-begins_code : goal.overflow_add-i-then-begins_code
-overflow_add-i-then-begins_code c = omega (arith, (let h : length c.args.plays.now < 9223372036854775808 = search rules in h), (let h : (c.loop-i.i + 2 < length c.args.plays.now) = plays-room _ _ _ c.loop-i.invariant.0 c.loop-i-test.true (sym c.begins_code.ensures ∙ c.if-begins_code.true) in h))
+overflow_add-i-then-begins_code c = omega (arith, (let h : length c.args.plays.numbers.now < 9223372036854775808 = search rules in h), (let h : (c.loop-i.i + 2 < length c.args.plays.numbers.now) = plays-room _ _ _ c.loop-i.invariant.0 c.loop-i-test.true (sym c.begins_code.ensures ∙ c.if-begins_code.true) in h))
 
 pub bounds-plays-i-then-begins_code-2 : goal.bounds-plays-i-then-begins_code-2
-bounds-plays-i-then-begins_code-2 c = omega (arith, (let h : (c.loop-i.i + 2 < length c.args.plays.now) = plays-room _ _ _ c.loop-i.invariant.0 c.loop-i-test.true (sym c.begins_code.ensures ∙ c.if-begins_code.true) in h))
+bounds-plays-i-then-begins_code-2 c = omega (arith, (let h : (c.loop-i.i + 2 < length c.args.plays.numbers.now) = plays-room _ _ _ c.loop-i.invariant.0 c.loop-i-test.true (sym c.begins_code.ensures ∙ c.if-begins_code.true) in h))
 
 pub overflow_add-i-then-begins_code-2 : goal.overflow_add-i-then-begins_code-2
-overflow_add-i-then-begins_code-2 c = omega (arith, (let h : length c.args.plays.now < 9223372036854775808 = search rules in h), (let h : (c.loop-i.i + 2 < length c.args.plays.now) = plays-room _ _ _ c.loop-i.invariant.0 c.loop-i-test.true (sym c.begins_code.ensures ∙ c.if-begins_code.true) in h))
+overflow_add-i-then-begins_code-2 c = omega (arith, (let h : length c.args.plays.numbers.now < 9223372036854775808 = search rules in h), (let h : (c.loop-i.i + 2 < length c.args.plays.numbers.now) = plays-room _ _ _ c.loop-i.invariant.0 c.loop-i-test.true (sym c.begins_code.ensures ∙ c.if-begins_code.true) in h))
 
 pub loop-i-preserved-then-begins_code : goal.loop-i-preserved-then-begins_code
 loop-i-preserved-then-begins_code c = (
