@@ -3,6 +3,8 @@ use mathlib.Core.Path.{◌≡◌, refl, sym}
 use mathlib.Core.Logic.{◌⊎◌, inl, inr}
 use mathlib.Core.Bool.{Bool, true, false, ◌&&◌, ◌||◌}
 use Prim.Native.Nat.{ℕ}
+use borrow.Author.Tests.{eqb-true, eq-eqb}
+use lib.Dec.{eqb}
 use native.Mathlib.Omega.{arith}
 
 -- a test is true or false
@@ -50,3 +52,10 @@ same_test true true f g = refl
 same_test true false f g = sym (f refl)
 same_test false true f g = g refl
 same_test false false f g = refl
+
+-- whether two numbers are equal does not go by their order
+pub eqb_swap : (a b : ℕ) → eqb a b ≡ eqb b a
+eqb_swap a b =
+    same_test (eqb a b) (eqb b a)
+    (λ (q : eqb a b ≡ true). eq-eqb b a (sym (eqb-true a b q)))
+    (λ (q : eqb b a ≡ true). eq-eqb a b (sym (eqb-true b a q)))

@@ -1,24 +1,17 @@
 -- The same bytes, as the code compares them; and a number looked for from above. Assumes nothing.
 use Prim.Native.Nat.{ℕ, zero, suc, ◌-◌, ◌≤◌, ◌<◌}
 use native.Mathlib.Omega.{arith}
-use mathlib.Core.Path.{◌≡◌, refl, sym, ap, ap₂}
+use mathlib.Core.Path.{◌≡◌, refl, ap, ap₂}
 use Rattle.std.specs.Prelude.{Some, None}
 use lib.Pointwise.{pointwise}
 use mathlib.Core.Bool.{true, false, ◌&&◌}
 use mathlib.Core.List.{List, [], ◌∷◌}
-use borrow.Author.Tests.{eqb-true, eq-eqb}
 use lib.Dec.{eqb}
 use Rattle.laws.specs.PbnReading.{same_bytes, number_of}
-use Rattle.laws.proofs.Tests.{same_test}
+use Rattle.laws.proofs.Tests.{eqb_swap}
 use Rattle.pbn_words.specs.WordNumbers.{if_read}
 
 -- ---- what `==` answers, and what `starts_with` does
-eqb_swap : (a b : ℕ) → eqb a b ≡ eqb b a
-eqb_swap a b =
-    same_test (eqb a b) (eqb b a)
-    (λ (q : eqb a b ≡ true). eq-eqb b a (sym (eqb-true a b q)))
-    (λ (q : eqb b a ≡ true). eq-eqb a b (sym (eqb-true b a q)))
-
 pub pair_by_pair : (s t : List ℕ) → pointwise eqb s t ≡ same_bytes s t
 unfolding same_bytes
 pair_by_pair [] [] = refl

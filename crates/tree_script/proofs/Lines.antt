@@ -2,36 +2,29 @@
 use Prim.Native.Nat.{ℕ, ◌+◌, ◌-◌, ◌≤◌, ◌<◌}
 use native.Mathlib.Numerals.{add-one}
 use native.Mathlib.Omega.{arith}
-use mathlib.Core.Path.{◌≡◌, refl}
-use mathlib.Core.Bool.{true, false}
+use Rattle.std.specs.List.{starts_with}
+use mathlib.Core.Path.{◌≡◌, refl, sym, ap, ◌∙◌}
+use mathlib.Core.Bool.{Bool, true, false, ◌&&◌}
 use mathlib.Core.List.{List, [], ◌∷◌}
 use borrow.Author.Tests.{eq-eqb, ne_eqb, lt-leb, le-leb}
 use lib.Dec.{eqb}
 use lib.ListN.{length, get_or, take, drop, drop_of_length-le}
 use lib.Seq.{drop-cons}
-use Rattle.laws.proofs.Tests.{and_right, not_both}
+use Rattle.laws.proofs.Tests.{eqb_swap, and_right, not_both}
 use Rattle.decimal.specs.Scores.{score_on}
 use Rattle.std.specs.Prelude.{None, Some}
 use Rattle.tree_script.specs.declared.Call.TheVariants.{Add, Merge, Matchpoints}
 use Rattle.tree_script.specs.Calls.{is_prefix, fresh_on, of_deal, names_deal, given_on, with_given, fresh_word, add_word, matchpoints_word, merge_word, tally_call_on}
 
--- ---- a word at the start
-module _ (word s : List ℕ) (i : ℕ) (more : i < length word) where
-  pub no_byte : length s ≤ i → false ≡ is_prefix (drop i word) (drop i s)
-  unfolding is_prefix
-  no_byte h = rw (drop-cons word i 0 more, drop_of_length-le s h)
-
-  pub other_byte : i < length s → (get_or s i 0 ≡ get_or word i 0 → ⊥) → false ≡ is_prefix (drop i word) (drop i s)
-  unfolding is_prefix
-  other_byte h f = rw (drop-cons word i 0 more, drop-cons s i 0 h, ne_eqb (get_or s i 0) (get_or word i 0) f)
-
-  pub same_byte : i < length s → get_or s i 0 ≡ get_or word i 0 → is_prefix (drop i word) (drop i s) ≡ is_prefix (drop (i + 1) word) (drop (i + 1) s)
-  unfolding is_prefix
-  same_byte h e = rw (add-one i, drop-cons word i 0 more, drop-cons s i 0 h, eq-eqb (get_or s i 0) (get_or word i 0) e)
-
-pub whole_word : (word s : List ℕ) (i : ℕ) → length word ≤ i → true ≡ is_prefix (drop i word) s
+-- ---- a word at the start, as `starts_with` finds it
+as_prefix : (word s : List ℕ) → starts_with eqb s word ≡ is_prefix word s
 unfolding is_prefix
-whole_word word s i h = rw (drop_of_length-le word h)
+as_prefix [] s = refl
+as_prefix (w ∷ word) [] = refl
+as_prefix (w ∷ word) (b ∷ s) = rw (eqb_swap w b) (ap (λ r. eqb b w && r) (as_prefix word s))
+
+pub begun : (word s : List ℕ) {b : Bool} → b ≡ starts_with eqb s word → is_prefix word s ≡ b
+begun word s e = sym (e ∙ as_prefix word s)
 
 pub prefix-length : (word s : List ℕ) → is_prefix word s ≡ true → length word ≤ length s
 unfolding is_prefix

@@ -3,7 +3,7 @@
 
 ghost use Rattle.std.specs.Prelude.{◌≡◌};
 ghost use Rattle.decimal.specs.Scores.{score_on};
-ghost use Rattle.tree_script.specs.Calls.{is_prefix, fresh_on, of_deal, given_on, award_on, tally_call_on, call_on};
+ghost use Rattle.tree_script.specs.Calls.{fresh_on, of_deal, given_on, award_on, tally_call_on, call_on};
 
 use decimal::{board_in, read_number, read_score};
 
@@ -25,28 +25,11 @@ pub enum Call {
     Award(u32),
 }
 
-// Whether bytes start with a word.
-fn starts(bytes: &[u8], word: &[u8]) -> bool
-    ensures { result ≡ is_prefix word.now bytes.now }
-{
-    for (i, w) in word.iter().enumerate() {
-        if bytes.len() <= i {
-            return false;
-        }
-        if bytes[i] != *w {
-            return false;
-        }
-    }
-    true
-}
-
 // A fresh tally of the board that the bytes say.
 fn fresh_on(bytes: &[u8]) -> Option<Call>
     ensures { result ≡ fresh_on bytes.now }
 {
-    let Some(n) = read_number(bytes) else {
-        return None;
-    };
+    let n = read_number(bytes)?;
     Some(Call::Fresh(board_in(n)))
 }
 
@@ -54,9 +37,7 @@ fn fresh_on(bytes: &[u8]) -> Option<Call>
 fn score_of(bytes: &[u8], deal: u8) -> Option<Given>
     ensures { result ≡ of_deal deal (score_on bytes.now) }
 {
-    let Some(score) = read_score(bytes) else {
-        return None;
-    };
+    let score = read_score(bytes)?;
     Some(Given { score, deal })
 }
 
@@ -85,9 +66,7 @@ fn given_on(bytes: &[u8]) -> Option<Given>
 fn award_on(bytes: &[u8]) -> Option<Call>
     ensures { result ≡ award_on bytes.now }
 {
-    let Some(n) = read_number(bytes) else {
-        return None;
-    };
+    let n = read_number(bytes)?;
     Some(Call::Award(n))
 }
 
@@ -95,21 +74,21 @@ fn award_on(bytes: &[u8]) -> Option<Call>
 fn tally_call(line: &[u8]) -> Option<Call>
     ensures { result ≡ tally_call_on line.now }
 {
-    if starts(line, b"fresh ") {
+    if line.starts_with(b"fresh ") {
         return fresh_on(&line[6..]);
     }
-    if starts(line, b"add ") {
+    if line.starts_with(b"add ") {
         let given = given_on(&line[4..])?;
         return Some(Call::Add(given));
     }
-    if starts(line, b"matchpoints ") {
+    if line.starts_with(b"matchpoints ") {
         let given = given_on(&line[12..])?;
         return Some(Call::Matchpoints(given));
     }
     if line.len() != 5 {
         return None;
     }
-    if starts(line, b"merge") {
+    if line.starts_with(b"merge") {
         return Some(Call::Merge);
     }
     None
@@ -119,11 +98,11 @@ fn tally_call(line: &[u8]) -> Option<Call>
 pub fn read_call(line: &[u8]) -> Option<Call>
     ensures { result ≡ call_on line.now }
 {
-    if starts(line, b"cell ") {
+    if line.starts_with(b"cell ") {
         let given = given_on(&line[5..])?;
         return Some(Call::Cell(given));
     }
-    if starts(line, b"award ") {
+    if line.starts_with(b"award ") {
         return award_on(&line[6..]);
     }
     tally_call(line)
