@@ -24,7 +24,7 @@ use Rattle.laws.proofs.Tests.{by_test, not_both, and_left}
 use Rattle.laws.proofs.Counts.{every_below, every_below_lem}
 use Rattle.laws.proofs.Lengths.{at_most_505}
 use Rattle.laws.proofs.PbnNumbers.{said-refused, said-lawful}
-use Rattle.pbn_words.specs.WordNumbers.{part_length}
+use Rattle.parts.specs.Parts.{part_length}
 use Rattle.text.proofs.Printed.{length_by}
 
 -- ---- the first line

@@ -16,10 +16,10 @@ use Rattle.laws.proofs.PbnStages.{Fine}
 use Rattle.laws.proofs.PbnSteps.{step_sound}
 use Rattle.laws.proofs.PbnParse.{start_fine}
 use Rattle.pbn_text.specs.declared.state.Text.{Text}
-use Rattle.pbn_words.specs.WordNumbers.{part_length}
+use Rattle.parts.specs.Parts.{part_length}
 use Rattle.pbn_text.specs.TextOf.{text_of, kept_after, Lists, StepsOn}
 use Rattle.pbn_text.specs.ParsedAs.{ParsedAs, EndsAs}
-use Rattle.pbn_words.proofs.PartsOf.{part_within, first_part, last_part}
+use Rattle.parts.proofs.PartsOf.{part_within, first_part, last_part}
 use Rattle.std.specs.Prelude.{Option, Some, None, Result, Err}
 use Rattle.std.proofs.lemmas.Option.{none-some, same_Some}
 

@@ -2,12 +2,12 @@
 ghost use Rattle.std.specs.Prelude.{◌≡◌, take};
 ghost use Rattle.laws.specs.PbnReading.{parse};
 ghost use Rattle.laws.specs.Sheet.{newline};
-ghost use Rattle.pbn_words.specs.WordNumbers.{part_length};
+ghost use Rattle.parts.specs.Parts.{part_length};
 ghost use Rattle.pbn_text.specs.GameIn.{game_in};
 
 use crate::numbers::Numbers;
 use crate::text::read_text;
-use pbn_words::part_end;
+use parts::part_end;
 
 // No seat where there is no Play. `calls` are kept as far as a record can count them.
 #[derive(Clone, Copy)]

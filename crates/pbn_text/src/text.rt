@@ -7,7 +7,7 @@ ghost use Rattle.pbn_text.specs.ParsedAs.{ParsedAs, EndsAs};
 use crate::lines::line_in;
 use crate::numbers::no_numbers;
 use crate::state::{Stage, Text};
-use pbn_words::part_end;
+use parts::part_end;
 
 fn start_text() -> Text
     ensures { result ≡ text_of start }

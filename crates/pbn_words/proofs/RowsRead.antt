@@ -14,10 +14,11 @@ use Rattle.laws.proofs.Tests.{by_test}
 use Rattle.laws.proofs.PbnWords.{row_sound}
 use Rattle.std.specs.Prelude.{Option, Some, None}
 use Rattle.std.proofs.lemmas.Option.{none-some, same_Some}
-use Rattle.pbn_words.specs.WordNumbers.{if_read, word_of, words, word_in, part_length}
+use Rattle.parts.specs.Parts.{part_length}
+use Rattle.pbn_words.specs.WordNumbers.{if_read, word_of, words, word_in}
 use Rattle.pbn_words.specs.RowNumbers.{row_on, row_by}
 use Rattle.pbn_words.specs.declared.rows.Row.{Row}
-use Rattle.pbn_words.proofs.PartsOf.{part_within, first_part, last_part}
+use Rattle.parts.proofs.PartsOf.{part_within, first_part, last_part}
 
 -- numbers before others
 abbrev prefixed : List ℕ → Read (List ℕ) → Read (List ℕ)

@@ -21,9 +21,6 @@ same_append [] t l = refl
 same_append (b ∷ s) t [] = refl
 same_append (b ∷ s) t (c ∷ l) = ap (λ (r : Bool). eqb b c && r) (same_append s t l) ∙ and_assoc (eqb b c) _ _
 
-pub rest-is : (line : List ℕ) (at : ℕ) → take (length line - at) (drop at line) ≡ drop at line
-rest-is line at = take_all (length line - at) (drop at line) (omega (arith, length-drop at line))
-
 -- the line of a seat's tag
 module _ (tag line : List ℕ) (seat : ℕ) where
   pub no_tag : same_bytes tag (take (length tag) line) ≡ false → false ≡ same_bytes (seat_line tag seat) line

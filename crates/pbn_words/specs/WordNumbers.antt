@@ -21,11 +21,6 @@ words true = 52
 abbrev pub word_in : Bool → List ℕ → Read ℕ
 word_in cards word = number_of (word_of cards) (words cards) word
 
--- how many bytes stand before the first that parts
-unfoldable pub part_length : ℕ → List ℕ → ℕ
-part_length byte [] = 0
-part_length byte (b ∷ bytes) = if eqb b byte then 0 else suc (part_length byte bytes)
-
 -- ---- the Board line
 -- the value of the digit at a place
 abbrev pub value_at : List ℕ → ℕ → ℕ

@@ -7,6 +7,6 @@ mod tags;
 mod words;
 
 pub use board::board_in;
-pub use rows::{Row, part_end, row_in};
+pub use rows::{Row, row_in};
 pub use tags::{seat_in, seat_letter};
 pub use words::rank_letter;

@@ -1,31 +1,25 @@
 -- The lines of a text: the first, and what follows it. Assumes nothing.
-use Prim.Native.Nat.{ℕ, suc, ◌+◌, ◌≤◌, ◌<◌}
-use native.Mathlib.Numerals.{add-one}
+use Prim.Native.Nat.{ℕ, suc, ◌+◌, ◌≤◌}
 use native.Mathlib.Omega.{arith}
-use mathlib.Core.Path.{◌≡◌, refl}
+use Rattle.std.specs.Prelude.{if◌then◌else◌}
+use mathlib.Core.Path.{◌≡◌, refl, ap, ◌∙◌}
 use mathlib.Core.Bool.{true, false}
 use mathlib.Core.List.{List, [], ◌∷◌}
-use borrow.Author.Tests.{eq-eqb, ne_eqb}
 use lib.Dec.{eqb}
-use lib.ListN.{length, get_or, take, drop, drop_of_length-le}
-use lib.Seq.{drop-cons}
+use lib.ListN.{length, take, drop}
 use Rattle.laws.specs.Sheet.{before, lines_of}
 use Rattle.laws.proofs.Tests.{by_test}
+use Rattle.parts.specs.Parts.{part_length}
 use Rattle.score_lines.specs.Reading.{line_length}
 
--- ---- the end of a line, looked for from a place on
-module _ (s : List ℕ) (i : ℕ) where
-  pub at_newline : i < length s → get_or s i 0 ≡ 10 → line_length (drop i s) ≡ 0
-  unfolding line_length
-  at_newline h e = rw (drop-cons s i 0 h, eq-eqb (get_or s i 0) 10 e)
+-- ---- the end of a line, as `part_end` tells it
+line_part : (s : List ℕ) → part_length 10 s ≡ line_length s
+unfolding part_length line_length
+line_part [] = refl
+line_part (b ∷ s) = ap (λ (n : ℕ). if eqb b 10 then 0 else suc n) (line_part s)
 
-  pub past : i < length s → (get_or s i 0 ≡ 10 → ⊥) → line_length (drop i s) ≡ 1 + line_length (drop (i + 1) s)
-  unfolding line_length
-  past h f = rw (add-one i, drop-cons s i 0 h, ne_eqb (get_or s i 0) 10 f) (omega arith)
-
-  pub at_end : length s ≤ i → line_length (drop i s) ≡ 0
-  unfolding line_length
-  at_end h = rw (drop_of_length-le s h)
+pub line_ends : (s : List ℕ) (at : ℕ) {end : ℕ} → end ≡ at + part_length 10 (drop at s) → end ≡ at + line_length (drop at s)
+line_ends s at e = e ∙ ap (λ (n : ℕ). at + n) (line_part (drop at s))
 
 -- a line ends within the text
 pub line-within : (s : List ℕ) → line_length s ≤ length s

@@ -4,31 +4,19 @@
 ghost use Rattle.std.specs.Prelude.{◌≡◌, ◌+◌, ◌≤◌, length, drop};
 ghost use Rattle.tally.specs.Tallies.{tallied_of, add_of};
 ghost use Rattle.tree_stack.specs.Deals.{suits};
-ghost use Rattle.score_lines.specs.Reading.{line_length, size_on, if_valid, signed_of, said_on};
+ghost use Rattle.score_lines.specs.Reading.{size_on, if_valid, signed_of, said_on};
 ghost use Rattle.score_lines.specs.Whole.{Found};
 
 use deal::SUITS;
 use decimal::read_number;
 use laws::Refused;
+use parts::part_end;
 use score::valid;
 use tally::Tally;
 
 // The number of a line that is refused, the first line's being 1.
 #[derive(Clone, Copy, Debug, PartialEq, Eq)]
 pub struct RefusedLine(pub u32);
-
-// The end of the line that starts at a place: its newline, or the end of the bytes.
-fn line_end(bytes: &[u8], at: usize) -> usize
-    requires { at ≤ length bytes.now }
-    ensures { result ≡ at + line_length (drop at bytes.now) }
-{
-    for i in at..bytes.len() {
-        if bytes[i] == b'\n' {
-            return i;
-        }
-    }
-    bytes.len()
-}
 
 // A digit 1 to 9 and at most three digits more.
 fn size_on(bytes: &[u8]) -> Option<u32>
@@ -57,9 +45,7 @@ fn if_valid(score: i16) -> Option<i16>
 fn signed(n: Option<u32>, minus: bool) -> Option<i16>
     ensures { result ≡ signed_of minus n }
 {
-    let Some(size) = n else {
-        return None;
-    };
+    let size = n?;
     if 7600 < size {
         return None;
     }
@@ -96,8 +82,8 @@ fn with_score(t: Tally, score: i16) -> Result<Tally, Refused>
     merging::add(t, score, &SUITS)
 }
 
-// The tally of the scores on the lines, all of one deal; or the first line that is refused. A turn goes from a line's start to the next one's: `split` is no
-// plainer, since it gives a part behind the last newline, which is no line.
+// The tally of the scores on the lines, all of one deal; or the first line that is refused. A turn goes from a line's start to the next one's: `split_inclusive` is
+// no plainer, since the newline that it leaves at a part's end has to be taken off again where there is one.
 pub fn results_of(bytes: &[u8]) -> Result<Tally, RefusedLine>
     ensures { Found bytes.now result }
 {
@@ -105,7 +91,7 @@ pub fn results_of(bytes: &[u8]) -> Result<Tally, RefusedLine>
     let mut k: u32 = 0;
     let mut at: usize = 0;
     while at < bytes.len() {
-        let end = line_end(bytes, at);
+        let end = part_end(bytes, at, b'\n');
         let line = &bytes[at..end];
         k += 1;
         let Some(score) = said_on(line) else {

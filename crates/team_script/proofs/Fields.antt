@@ -1,29 +1,26 @@
 -- The fields of a line, by its spaces. Assumes nothing.
 use Prim.Native.Nat.{ℕ, suc, min, ◌+◌, ◌≤◌, ◌<◌}
-use native.Mathlib.Numerals.{add-one}
 use native.Mathlib.Omega.{arith}
-use mathlib.Core.Path.{◌≡◌, sym, ap, ◌∙◌}
+use Rattle.std.specs.Prelude.{if◌then◌else◌}
+use mathlib.Core.Path.{◌≡◌, refl, sym, ap, ◌∙◌}
 use mathlib.Core.Bool.{true, false}
-use mathlib.Core.List.{List}
-use borrow.Author.Tests.{eq-eqb, ne_eqb, leb-true, leb-false}
-use lib.Dec.{leb}
-use lib.ListN.{length, get_or, take, drop, drop_of_length-le}
-use lib.Seq.{drop-cons}
+use mathlib.Core.List.{List, [], ◌∷◌}
+use borrow.Author.Tests.{leb-true, leb-false}
+use lib.Dec.{eqb, leb}
+use lib.ListN.{length, take, drop, drop_of_length-le}
 use Rattle.laws.proofs.Tests.{by_test}
+use Rattle.parts.specs.Parts.{part_length}
+use Rattle.parts.proofs.PartsOf.{part_within}
 use Rattle.team_script.specs.Boards.{to_space, field, behind}
 
-module _ (s : List ℕ) (i : ℕ) where
-  pub at_space : i < length s → get_or s i 0 ≡ 32 → to_space (drop i s) ≡ 0
-  unfolding to_space
-  at_space h e = rw (drop-cons s i 0 h, eq-eqb (get_or s i 0) 32 e)
+-- `part_end` tells where the first space stands
+spaces : (s : List ℕ) → part_length 32 s ≡ to_space s
+unfolding part_length to_space
+spaces [] = refl
+spaces (b ∷ s) = ap (λ (n : ℕ). if eqb b 32 then 0 else suc n) (spaces s)
 
-  pub no_space : i < length s → (get_or s i 0 ≡ 32 → ⊥) → to_space (drop i s) ≡ suc (to_space (drop (i + 1) s))
-  unfolding to_space
-  no_space h e = rw (add-one i, drop-cons s i 0 h, ne_eqb (get_or s i 0) 32 e)
-
-  pub at_end : length s ≤ i → to_space (drop i s) ≡ 0
-  unfolding to_space
-  at_end h = rw (drop_of_length-le s h)
+pub space_ends : (s : List ℕ) {end : ℕ} → end ≡ 0 + part_length 32 s → (end ≡ to_space s) × (end ≤ length s)
+space_ends s e = (omega (arith, e, spaces s), omega (arith, e, part_within 32 s))
 
 -- what stands behind the first space
 module _ (s : List ℕ) (n : ℕ) (e : n ≡ to_space s) where

@@ -6,6 +6,7 @@ ghost use Rattle.decimal.specs.Scores.{score_on};
 ghost use Rattle.team_script.specs.Boards.{to_space, field, behind, scored, asked_on};
 
 use decimal::{board_in, read_number, read_score};
+use parts::part_end;
 
 // A board by its number, with its scores at the two tables.
 #[derive(Clone, Copy, Debug, PartialEq, Eq)]
@@ -19,12 +20,7 @@ pub struct Board {
 fn to_space(bytes: &[u8]) -> usize
     ensures { (result ≡ to_space bytes.now) × (result ≤ length bytes.now) }
 {
-    for (i, b) in bytes.iter().enumerate() {
-        if *b == b' ' {
-            return i;
-        }
-    }
-    bytes.len()
+    part_end(bytes, 0, b' ')
 }
 
 // The place behind the first space, or the end of the bytes.
@@ -46,13 +42,9 @@ fn score_in(bytes: &[u8]) -> Option<i16>
 fn with_scores(board: u8, bytes: &[u8]) -> Option<Board>
     ensures { result ≡ scored board (score_on (field bytes.now)) (score_on (behind bytes.now)) }
 {
-    let Some(first) = score_in(bytes) else {
-        return None;
-    };
+    let first = score_in(bytes)?;
     let at = behind_space(bytes);
-    let Some(second) = read_score(&bytes[at..]) else {
-        return None;
-    };
+    let second = read_score(&bytes[at..])?;
     Some(Board {
         number: board,
         first,
@@ -65,9 +57,7 @@ pub fn read_line(line: &[u8]) -> Option<Board>
     ensures { result ≡ asked_on line.now }
 {
     let end = to_space(line);
-    let Some(n) = read_number(&line[..end]) else {
-        return None;
-    };
+    let n = read_number(&line[..end])?;
     let at = behind_space(line);
     with_scores(board_in(n), &line[at..])
 }

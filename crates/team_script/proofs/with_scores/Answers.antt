@@ -9,32 +9,32 @@ use Rattle.decimal.proofs.Scores.{rest-is}
 use Rattle.team_script.specs.Boards.{scored}
 use Rattle.team_script.proofs.with_scores.Goals as goal
 
-pub returns-in_default : goal.returns-in_default
+pub returns-in_err-first : goal.returns-in_err-first
 unfolding scored
-returns-in_default c = rw (← c.score_in.ensures, c.in_default.is)
+returns-in_err-first c = c.from_residual.ensures ∙ rw (← c.score_in.ensures, c.in_err-first.was)
 
-pub returns-in_default-read_score : goal.returns-in_default-read_score
+pub returns-in_err-second : goal.returns-in_err-second
 unfolding scored
-returns-in_default-read_score c =
-    rw (
+returns-in_err-second c =
+    c.from_residual-in_err-second.ensures ∙ rw (
       ← c.score_in.ensures,
-      c.in-Some.is,
+      c.in_ok-first.was,
       ← (let s = c.args.bytes.now in
           c.read_score.ensures ∙ ap score_on (rest-is c.behind_space-at.result s ∙ c.behind_space-at.ensures.0)),
-      c.in_default-read_score.is,
+      c.in_err-second.was,
     )
 
 pub returns : goal.returns
 unfolding scored
 returns c =
-    let f : SFits w16 c.in-Some.first = search rules in
-    let g : SFits w16 c.in-Some-read_score.second = search rules in
+    let f : SFits w16 c.in_ok-first.first = search rules in
+    let g : SFits w16 c.in_ok-second.second = search rules in
     rw (
       ← c.score_in.ensures,
-      c.in-Some.is,
+      c.in_ok-first.was,
       ← (let s = c.args.bytes.now in
           c.read_score.ensures ∙ ap score_on (rest-is c.behind_space-at.result s ∙ c.behind_space-at.ensures.0)),
-      c.in-Some-read_score.is,
+      c.in_ok-second.was,
       to_z-of_z f,
       to_z-of_z g,
     )

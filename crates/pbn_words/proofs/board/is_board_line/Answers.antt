@@ -4,7 +4,7 @@ use lib.Pointwise.{pointwise}
 use Rattle.laws.specs.PbnText.{board_tag}
 use Rattle.laws.specs.PbnReading.{same_bytes}
 use Rattle.pbn_words.proofs.SameBytes.{pair_by_pair, equal_bytes}
-use Rattle.pbn_words.proofs.TagLines.{rest-is}
+use Rattle.parts.proofs.PartsOf.{rest-is}
 use Rattle.pbn_words.proofs.BoardLines.{no_tag, line-one, line-two, line_three}
 use Rattle.pbn_words.proofs.board.is_board_line.Goals as goal
 

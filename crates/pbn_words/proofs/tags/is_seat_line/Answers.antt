@@ -3,7 +3,8 @@ use Rattle.std.proofs.Common.{◌-◌, ◌∷◌, ◌∙◌, sym, ap, take, drop
 use Rattle.laws.specs.PbnText.{letter_of, seat_letters, tag_end}
 use Rattle.laws.specs.PbnReading.{same_bytes}
 use Rattle.pbn_words.proofs.SameBytes.{pair_by_pair, equal_bytes}
-use Rattle.pbn_words.proofs.TagLines.{rest-is, no_tag, with_tag}
+use Rattle.parts.proofs.PartsOf.{rest-is}
+use Rattle.pbn_words.proofs.TagLines.{no_tag, with_tag}
 use Rattle.pbn_words.proofs.tags.is_seat_line.Goals as goal
 
 pub returns-then-not-starts_with : goal.returns-then-not-starts_with

@@ -1,13 +1,13 @@
--- `pbn_words::rows::part_end` meets its contract. Assumes nothing.
+-- `parts::part_end` meets its contract. Assumes nothing.
 use Rattle.std.proofs.Common.{ℕ, ◌-◌, take, drop, length, arith, rules, ap}
 use borrow.Author.Tests.{tests}
 use lib.Dec.{eqb}
 use Rattle.std.proofs.lemmas.Iterator.{YieldsList-from_slice}
 use Rattle.std.proofs.lemmas.Iterator.Search.{position_from_yields_List}
-use Rattle.pbn_words.proofs.PartsOf.{place_or_end, behind_end}
-use Rattle.pbn_words.proofs.TagLines.{rest-is}
-use Rattle.pbn_words.specs.WordNumbers.{part_length}
-use Rattle.pbn_words.proofs.rows.part_end.Goals as goal
+use Rattle.parts.proofs.PartsOf.{place_or_end, behind_end}
+use Rattle.parts.proofs.PartsOf.{rest-is}
+use Rattle.parts.specs.Parts.{part_length}
+use Rattle.parts.proofs.part_end.Goals as goal
 
 pub returns-then-bytes-at : goal.returns-then-bytes-at
 returns-then-bytes-at c = omega (arith, behind_end c.args.byte c.args.bytes.now c.args.at (omega arith))

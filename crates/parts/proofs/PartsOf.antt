@@ -1,19 +1,20 @@
 -- The parts of bytes between those that part them: the first part, and the parts after it. Assumes nothing.
-use Prim.Native.Nat.{ℕ, suc, ◌≤◌, ◌<◌}
+use Prim.Native.Nat.{ℕ, suc, ◌-◌, ◌≤◌, ◌<◌}
 use native.Mathlib.Omega.{arith}
 use mathlib.Core.Path.{◌≡◌, refl, ◌∙◌}
 use mathlib.Core.Bool.{true, false}
 use mathlib.Core.List.{List, [], ◌∷◌}
 use borrow.Author.Tests.{ltb-false}
 use lib.Dec.{eqb, ltb}
-use lib.ListN.{length, take, drop, drop_of_length-le}
+use lib.ListN.{length, take, drop, length-drop, drop_of_length-le}
+use lib.Seq.{take_all}
 use Rattle.laws.specs.Sheet.{before}
 use Rattle.laws.specs.PbnReading.{parted_by}
 use Rattle.laws.proofs.Tests.{by_test}
 use Rattle.std.specs.List.{position_or_len}
 use Rattle.std.specs.Prelude.{Option, Some, None, cond}
 use Rattle.std.specs.Option.{unwrap_or}
-use Rattle.pbn_words.specs.WordNumbers.{part_length}
+use Rattle.parts.specs.Parts.{part_length}
 
 module _ (byte : ℕ) where
   -- a part ends within the bytes
@@ -69,3 +70,7 @@ module _ (byte : ℕ) where
       (λ (q : eqb b byte ≡ false).
       let all : suc (part_length byte s) ≡ suc (length s) = rw q at h in
       rw (q, last_part s (omega arith)))
+
+-- the rest from a place on, as a slice to the end has it
+pub rest-is : (s : List ℕ) (at : ℕ) → take (length s - at) (drop at s) ≡ drop at s
+rest-is s at = take_all (length s - at) (drop at s) (omega (arith, length-drop at s))
