@@ -4,17 +4,22 @@ use native.Mathlib.Numerals.{add-one}
 use native.Mathlib.Omega.{arith}
 use mathlib.Core.Path.{◌≡◌, refl, sym, ap, ap₂, ◌∙◌}
 use mathlib.Core.List.{List, [], ◌∷◌, ◌++◌, append_assoc}
-use lib.ListN.{length, get_or, take, set, replicate, length-append}
-use lib.Seq.{take-append-le, take-set-lt, set_at, take-suc}
+use lib.ListN.{length, get_or, take, set, replicate, length-append, length-replicate, get_or-replicate}
+use lib.Seq.{ext_get_or, take-append-le, take-set-lt, set_at, take-suc}
+use Rattle.std.specs.Array.{AllOfLen}
 use Rattle.pbn_text.specs.declared.numbers.Numbers.{Numbers}
 use Rattle.pbn_text.specs.Kept.{kept_of}
 
 abbrev zeros : List ℕ
 zeros = replicate 511 0
 
-pub none_kept : ◌≡◌ {A = Numbers} (record { count = 0; numbers = replicate 511 0 }) (kept_of [])
+-- no number, as `default` makes it
+pub none_kept : (n : Numbers) → n.count ≡ 0 → AllOfLen (λ (x : ℕ). x ≡ 0) n.numbers 511 → n ≡ kept_of []
 unfolding kept_of
-none_kept = refl
+none_kept n a b =
+    ap₂ (λ (count : ℕ) (numbers : List ℕ). record { count = count; numbers = numbers }) a
+    (ext_get_or 0 n.numbers zeros (b.long ∙ sym (length-replicate {A = ℕ} 511 0))
+    (λ i h. b.at i 0 (rw b.long at h) ∙ sym (get_or-replicate 511 i 0 0 (rw b.long at h))))
 
 module _ (kept : Numbers) (l : List ℕ) (e : kept ≡ kept_of l) (x : ℕ) where
   count-is : kept.count ≡ min (length l) 512

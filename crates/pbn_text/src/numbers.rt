@@ -5,19 +5,10 @@ ghost use Rattle.pbn_text.specs.Kept.{kept_of};
 use pbn_words::Row;
 
 // They stand in an array with their count beside: a rule of the project (no heap, fixed memory).
-#[derive(Clone, Copy)]
+#[derive(Clone, Copy, Default)]
 pub struct Numbers {
     pub count: usize,
     pub numbers: [u8; 511],
-}
-
-pub(crate) fn no_numbers() -> Numbers
-    ensures { result ≡ kept_of [] }
-{
-    Numbers {
-        count: 0,
-        numbers: [0; 511],
-    }
 }
 
 // One number more.

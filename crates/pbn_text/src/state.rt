@@ -4,7 +4,7 @@ ghost use Rattle.laws.specs.PbnText.{columns, Game};
 ghost use Rattle.laws.specs.PbnReading.{Stage as Laws, board, deal, auction, cards, calls_in, play_in, line_in};
 ghost use Rattle.pbn_text.specs.TextOf.{text_of, kept_after};
 
-use crate::numbers::{Numbers, no_numbers, with_row};
+use crate::numbers::{Numbers, with_row};
 use pbn_deal::deal_in;
 use pbn_words::{board_in, row_in, seat_in};
 
@@ -78,7 +78,7 @@ pub(crate) fn play_line(t: Text, line: &[u8]) -> Option<Text>
     Some(Text {
         stage: Stage::Cards { rows: 13 },
         seat: Some(seat),
-        cards: no_numbers(),
+        cards: Numbers::default(),
         ..t
     })
 }

@@ -5,7 +5,7 @@ ghost use Rattle.pbn_text.specs.TextOf.{stage_in, text_of};
 ghost use Rattle.pbn_text.specs.ParsedAs.{ParsedAs, EndsAs};
 
 use crate::lines::line_in;
-use crate::numbers::no_numbers;
+use crate::numbers::Numbers;
 use crate::state::{Stage, Text};
 use parts::part_end;
 
@@ -18,8 +18,8 @@ fn start_text() -> Text
         caller: 0,
         seat: None,
         holders: [0; 52],
-        calls: no_numbers(),
-        cards: no_numbers(),
+        calls: Numbers::default(),
+        cards: Numbers::default(),
     }
 }
 
@@ -53,7 +53,7 @@ pub(crate) fn read_text(text: &[u8]) -> Result<Text, u32>
     let mut t = start_text();
     let mut line: u32 = 1;
     let mut at: usize = 0;
-    // `part_end` tells where each line ends: no place is counted by hand.
+    // A turn goes from a line's start to the next one's: the lines of `split` do not tell whether a newline ends them, and the last has to have one.
     while at <= text.len() {
         let end = part_end(text, at, b'\n');
         if end == text.len() {
