@@ -2,7 +2,7 @@
 use Prim.Native.Nat.{ℕ, zero, suc, ◌<◌, ◌+◌, ◌-◌, ◌*◌, ◌/◌, ◌%◌, ◌^◌}
 use native.Mathlib.Nat.{div-one}
 use native.Mathlib.Omega.{arith}
-use mathlib.Core.Path.{◌≡◌, refl, sym, ap, ◌∙◌}
+use mathlib.Core.Path.{◌≡◌, refl, ap, ◌∙◌}
 use mathlib.Core.List.{List, [], ◌∷◌}
 use lib.IntN.{ℤ, pos}
 use lib.ListN.{length, get_or, take}
@@ -70,22 +70,14 @@ four_at (a ∷ b ∷ c ∷ d ∷ deal) (suc i) h =
     let s : 4 * suc i + 3 ≡ suc (suc (suc (suc (4 * i + 3)))) = omega arith in
     rw (q, r, s, p) (four_at deal i (omega arith))
 
-high_at : (scores : List ℤ) (i : ℕ) → i < length scores → get_or (score_bytes scores) (2 * i) 0 ≡ twos_complement (get_or scores i (pos 0)) / 256 % 256
+pub high_at : (scores : List ℤ) (i : ℕ) → i < length scores → get_or (score_bytes scores) (2 * i) 0 ≡ twos_complement (get_or scores i (pos 0)) / 256 % 256
 unfolding score_bytes bytes_of
 high_at [] i h = absurd (omega arith)
 high_at (s ∷ scores) zero h = refl
 high_at (s ∷ scores) (suc i) h = let p : 2 * suc i ≡ suc (suc (2 * i)) = omega arith in rw p (high_at scores i (omega arith))
 
-low_at : (scores : List ℤ) (i : ℕ) → i < length scores → get_or (score_bytes scores) (2 * i + 1) 0 ≡ twos_complement (get_or scores i (pos 0)) % 256
+pub low_at : (scores : List ℤ) (i : ℕ) → i < length scores → get_or (score_bytes scores) (2 * i + 1) 0 ≡ twos_complement (get_or scores i (pos 0)) % 256
 unfolding score_bytes bytes_of
 low_at [] i h = absurd (omega arith)
 low_at (s ∷ scores) zero h = rw div-one
 low_at (s ∷ scores) (suc i) h = let p : 2 * suc i + 1 ≡ suc (suc (2 * i + 1)) = omega arith in rw p (low_at scores i (omega arith))
-
--- the two bytes of a word
-module _ (scores : List ℤ) (i : ℕ) (h : i < length scores) {word : ℕ} (e : word ≡ twos_complement (get_or scores i (pos 0))) (small : word < 65536) where
-  pub high_byte : word / 256 ≡ get_or (score_bytes scores) (2 * i) 0
-  high_byte = let f : word / 256 ≡ word / 256 % 256 = omega arith in f ∙ rw e (sym (high_at scores i h))
-
-  pub low_byte : word % 256 ≡ get_or (score_bytes scores) (2 * i + 1) 0
-  low_byte = rw e (sym (low_at scores i h))

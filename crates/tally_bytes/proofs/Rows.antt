@@ -4,9 +4,10 @@ use native.Mathlib.Nat.{add-zero}
 use native.Mathlib.Numerals.{add-one}
 use native.Mathlib.Omega.{arith}
 use mathlib.Core.Path.{◌≡◌, sym, ap, ◌∙◌}
-use mathlib.Core.List.{List, [], ◌∷◌, ◌++◌}
-use lib.ListN.{length, get_or, take, set}
-use lib.Seq.{take-suc, take-suc-set, take_all, take-length, sets, length-take-le}
+use borrow.Rule.Slice.PartMut.{put_mid}
+use mathlib.Core.List.{List, [], ◌∷◌, ◌++◌, append_assoc}
+use lib.ListN.{length, get_or, take, drop, set}
+use lib.Seq.{take-suc, take-suc-set, take_all, take-length, drop-drop, sets, sets-eq, length-take-le}
 
 module _ {A : Type 0} where
   -- one more place of a row is that of the target
@@ -43,3 +44,8 @@ module _ {A : Type 0} where
       let p : suc at + 2 * i ≡ at + (2 * i + 1) = omega arith in
       let q : 2 * (i + 1) ≡ 2 * i + 1 + 1 = omega arith in
       rw (p, q) (stored old vs at (2 * i + 1) d (stored old vs at (2 * i) d e (omega arith) f) h g)
+
+  -- a part written over is a run of stores
+  pub part_stored : (old vs : List A) (at k : ℕ) → length vs ≡ k → at + k ≤ length old → put_mid at k old vs ≡ sets old at vs
+  part_stored old vs at k e h =
+      rw (drop-drop k at old, ← e) (sym (append_assoc (take at old) vs (drop (at + length vs) old)) ∙ sym (sets-eq vs old at (omega (arith, e, h))))

@@ -1,11 +1,12 @@
--- The four stores of a tally, one behind the other, are its bytes over the front of the buffer. Assumes nothing.
+-- The four stores of a tally in 398 bytes, one behind the other, are its bytes. Assumes nothing.
 use Prim.Native.Nat.{ℕ, ◌≤◌, ◌+◌}
 use native.Mathlib.Nat.{zero-add}
 use native.Mathlib.Omega.{arith}
 use mathlib.Core.Path.{◌≡◌, sym, ap, ◌∙◌}
-use mathlib.Core.List.{List, ◌++◌}
+use mathlib.Core.List.{List, ◌++◌, append-nil}
+use Rattle.std.proofs.lemmas.List.{drop_all}
 use borrow.Author.Tests.{le-ltb}
-use lib.ListN.{length, set, length-append, length-set}
+use lib.ListN.{length, set, drop, length-append, length-set}
 use lib.Seq.{sets, sets-eq, length-sets}
 use Rattle.laws.specs.Lent.{◌over◌}
 use Rattle.tally.specs.declared.Tally.{Tally}
@@ -15,18 +16,18 @@ use Rattle.tally_bytes.specs.Written.{tally_left}
 use Rattle.tally_bytes.proofs.Rows.{sets_append}
 
 module _ (t : Tally) (old : List ℕ) {first : List ℕ} (deal : first ≡ sets (set old 0 t.board) 1 (deal_bytes t.deal)) where
-  pub length_first : length first ≡ length old
+  length_first : length first ≡ length old
   length_first = rw deal (length-sets _ _ (deal_bytes t.deal) ∙ length-set old 0 t.board)
 
   module _ {second : List ℕ} (scores : second ≡ sets first 14 (score_bytes t.scores)) where
-    pub length-second : length second ≡ length old
+    length-second : length second ≡ length old
     length-second = rw scores (length-sets first 14 (score_bytes t.scores) ∙ length_first)
 
     module _ {third : List ℕ} (counts : third ≡ sets second 270 t.counts) where
       pub length_third : length third ≡ length old
       length_third = rw counts (length-sets second 270 t.counts ∙ length-second)
 
-      module _ (room : 398 ≤ length old) (n : length t.deal ≡ 52) (m : length t.scores ≡ 128) (k : length t.counts ≡ 128) where
+      module _ (long : length old ≡ 398) (n : length t.deal ≡ 52) (m : length t.scores ≡ 128) (k : length t.counts ≡ 128) where
         abbrev d : List ℕ
         d = deal_bytes t.deal
 
@@ -55,9 +56,9 @@ module _ (t : Tally) (old : List ℕ) {first : List ℕ} (deal : first ≡ sets 
         unfolding tally_bytes
         whole = omega (arith, length-append d (s ++ t.counts), length-append s t.counts, behind, last)
 
-        pub stores : third ≡ tally_left t old
+        all : third ≡ tally_bytes t
+        all = one_run ∙ sets-eq (tally_bytes t) old 0 (omega (arith, whole)) ∙ rw (zero-add, drop_all (length (tally_bytes t)) old (omega (arith, whole)), append-nil (tally_bytes t))
+
+        pub over_front : (out : List ℕ) → 398 ≤ length out → third ++ drop 398 out ≡ tally_left t out
         unfolding tally_left ◌over◌
-        stores =
-            one_run
-            ∙ sets-eq (tally_bytes t) old 0 (omega (arith, whole))
-            ∙ rw (zero-add, le-ltb (length old) 398 room)
+        over_front out room = rw (all, le-ltb (length out) 398 room, whole)

@@ -19,9 +19,9 @@ pub const TALLY_LENGTH: usize = 398;
 pub fn read(bytes: &[u8]) -> Tally
     ensures { result ≡ tally_in bytes.now }
 {
-    if bytes.len() != TALLY_LENGTH {
+    let Some(bytes) = bytes.as_array::<TALLY_LENGTH>() else {
         return tally::empty(0, [0u8; 52]);
-    }
+    };
     Tally {
         board: bytes[0],
         deal: deal_in(bytes),
@@ -34,9 +34,9 @@ pub fn read(bytes: &[u8]) -> Tally
 pub fn write(t: Tally, out: &mut [u8])
     ensures { out.new ≡ tally_left t out.old }
 {
-    if out.len() < TALLY_LENGTH {
+    let Some(out) = out.first_chunk_mut::<TALLY_LENGTH>() else {
         return;
-    }
+    };
     out[0] = t.board;
     put_deal(out, t.deal);
     put_scores(out, t.scores);
