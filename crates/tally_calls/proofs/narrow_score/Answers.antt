@@ -24,8 +24,5 @@ within c =
     let e = to_z-of_z c.ranges.score in
     score-within c.args.score (rw e at c.if-score-ltminus7600.false) (rw e at c.if-score-gt7600.false)
 
-pub overflow_cast-result : goal.overflow_cast-result
-overflow_cast-result c = rw (to_z-of_z c.ranges.score) (within c).1
-
 pub returns : goal.returns
 returns c = rw (to_z-of_z c.ranges.score, to_z-of_z (within c).1) (sym (within c).0)
