@@ -1,7 +1,7 @@
 // The shares of both sides in a result: hundredths of a per cent of the matchpoints that it can have, rounded half up from the exact fraction.
 #![tactic(auto)]
 
-ghost use Rattle.std.specs.Prelude.{◌≡◌, ◌+◌, ◌≤◌};
+ghost use Rattle.std.specs.Prelude.{◌≡◌};
 ghost use Rattle.laws.specs.Refusals.{given};
 ghost use Rattle.hundredths.specs.Shares.{share_of, shares, shares_by, share_answer, shares_of_tally};
 
@@ -19,7 +19,7 @@ pub struct Shares {
 }
 
 // So many points of so many, in hundredths of a per cent; `ALONE` where there are none to be had.
-pub fn share(points: u8, most: u8) -> u32
+pub fn share(points: u8, most: u16) -> u32
     ensures { result ≡ share_of points most }
 {
     if most == 0 {
@@ -29,14 +29,13 @@ pub fn share(points: u8, most: u8) -> u32
 }
 
 // The shares of both sides, by their matchpoints: together those that can be had.
-fn shares_by(ns: u32, ew: u32) -> Shares
-    requires { ns + ew ≤ 254 }
+fn shares_by(ns: u8, ew: u8) -> Shares
     ensures { given (shares result) ≡ shares_by ns ew }
 {
-    let most = (ns + ew) as u8;
+    let most = u16::from(ns) + u16::from(ew);
     Shares {
-        ns: share(ns as u8, most),
-        ew: share(ew as u8, most),
+        ns: share(ns, most),
+        ew: share(ew, most),
     }
 }
 
@@ -45,5 +44,5 @@ pub fn shares_of(t: Tally, score: i16, holders: &[u8]) -> Result<Shares, Refused
     ensures { share_answer result ≡ shares_of_tally t (record { score = score; deal = holders.now }) }
 {
     let points = matchpoints::matchpoints(t, score, holders)?;
-    Ok(shares_by(points.ns.0, points.ew.0))
+    Ok(shares_by(points.ns.0 as u8, points.ew.0 as u8))
 }

@@ -1,7 +1,7 @@
 // The cells of a page of results: a result of a tally with its percentage as a 64-bit float, and awarded results.
 #![tactic(auto)]
 
-ghost use Rattle.std.specs.Prelude.{◌≡◌, ◌+◌, ◌-◌, ◌*◌, ◌/◌, ◌≤◌};
+ghost use Rattle.std.specs.Prelude.{◌≡◌, ◌+◌, ◌-◌, ◌*◌, ◌/◌};
 ghost use Rattle.laws.specs.Percentages.{percentage, is_award, award as awardAsked};
 ghost use Rattle.laws.specs.Refusals.{given, placed};
 ghost use Rattle.percentages.specs.Cells.{entered, cell_answer, cell_of_tally, cell_by};
@@ -18,18 +18,16 @@ pub enum Cell {
 }
 
 // The percentage of so many matchpoints in so many results: one division of two whole numbers held exactly.
-fn percentage_of(points: u32, results: u32) -> f64
-    requires { (points ≤ 254) × (1 ≤ results) × (results ≤ 128) }
+fn percentage_of(points: u8, results: u16) -> f64
     ensures { result ≡ percentage points (2 * (results - 1)) }
 {
-    let hundredfold = f64::from(100 * points);
-    let most = f64::from(2 * (results - 1));
+    let hundredfold = f64::from(100 * u32::from(points));
+    let most = f64::from(2 * u32::from(results.saturating_sub(1)));
     hundredfold / most
 }
 
 // The cell of a result with so many matchpoints, one of so many results.
-fn cell_by(points: u32, results: u32) -> Cell
-    requires { (points ≤ 254) × (1 ≤ results) × (results ≤ 128) }
+fn cell_by(points: u8, results: u16) -> Cell
     ensures { given (entered result) ≡ cell_by points results }
 {
     if results == 1 {
@@ -39,11 +37,10 @@ fn cell_by(points: u32, results: u32) -> Cell
 }
 
 // How many results there are, from the matchpoints of both sides for one of them: together two for each other result.
-fn results_of(ns: u32, ew: u32) -> u32
-    requires { ns + ew ≤ 254 }
+fn results_of(ns: u8, ew: u8) -> u16
     ensures { result ≡ (ns + ew) / 2 + 1 }
 {
-    (ns + ew) / 2 + 1
+    (u16::from(ns) + u16::from(ew)) / 2 + 1
 }
 
 // The cell of one result: a score with the holders of the cards that were played; 17, 20, 4, 28 or 21.
@@ -51,8 +48,8 @@ pub fn cell_of(t: Tally, score: i16, holders: &[u8]) -> Result<Cell, Refused>
     ensures { cell_answer result ≡ cell_of_tally t (record { score = score; deal = holders.now }) }
 {
     let points = matchpoints::matchpoints(t, score, holders)?;
-    let results = results_of(points.ns.0, points.ew.0);
-    Ok(cell_by(points.ns.0, results))
+    let ns = points.ns.0 as u8;
+    Ok(cell_by(ns, results_of(ns, points.ew.0 as u8)))
 }
 
 // Whether a percentage can be awarded.

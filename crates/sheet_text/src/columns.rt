@@ -1,5 +1,5 @@
 // What stands for each side in a table: its matchpoints, or its percentage to two decimals, which are rounded half up from the exact fraction.
-ghost use Rattle.std.specs.Prelude.{◌∷◌, ◌+◌, ◌≤◌, length};
+ghost use Rattle.std.specs.Prelude.{◌∷◌};
 ghost use Rattle.laws.specs.CellSheet.{two_decimals};
 ghost use Rattle.sheet_text.specs.Columns.{share_text, side_text, header_as};
 ghost use Rattle.text.specs.Putting.{Put};
@@ -33,30 +33,22 @@ fn put_hundredths(out: &mut [u8], at: usize, n: u32) -> usize
 }
 
 // A space and the percentage of so many points of so many.
-fn put_share(out: &mut [u8], at: usize, points: u32, most: u32) -> usize
-    requires { (points ≤ 254) × (most ≤ 254) }
+fn put_share(out: &mut [u8], at: usize, points: u8, most: u16) -> usize
     ensures { Put out.old at (32 ∷ share_text points most) out.new result }
 {
     if most == 0 {
         return put_bytes(out, at, b" ALONE");
     }
-    let n = hundredths::share(points as u8, most as u8);
+    let n = hundredths::share(points, most);
     put_hundredths(out, at, n)
 }
 
 // A space and what stands for a side with so many matchpoints where the other has so many.
-pub(crate) fn put_side(
-    out: &mut [u8],
-    at: usize,
-    columns: Columns,
-    points: u32,
-    other: u32,
-) -> usize
-    requires { points + other ≤ 254 }
+pub(crate) fn put_side(out: &mut [u8], at: usize, columns: Columns, points: u8, other: u8) -> usize
     ensures { Put out.old at (32 ∷ side_text columns points other) out.new result }
 {
     match columns {
-        Columns::Matchpoints => put_field(out, at, points),
-        Columns::Percentages => put_share(out, at, points, points + other),
+        Columns::Matchpoints => put_field(out, at, u32::from(points)),
+        Columns::Percentages => put_share(out, at, points, u16::from(points) + u16::from(other)),
     }
 }

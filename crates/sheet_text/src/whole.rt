@@ -1,5 +1,5 @@
 // The table of a tally, and the sheets with matchpoints and with percentages.
-ghost use Rattle.std.specs.Prelude.{◌≡◌, true, ◌+◌, ◌≤◌, length};
+ghost use Rattle.std.specs.Prelude.{◌≡◌, true, length};
 ghost use Rattle.laws.specs.CellSheet.{cell_sheet};
 ghost use Rattle.laws.specs.Sheet.{refusal, sheet};
 ghost use Rattle.tally.specs.Points.{matchpoints_of};
@@ -21,10 +21,9 @@ fn put_row(
     columns: Columns,
     score: i16,
     count: u32,
-    ns: u32,
-    ew: u32,
+    ns: u8,
+    ew: u8,
 ) -> usize
-    requires { ns + ew ≤ 254 }
     ensures { Put out.old at (row_text columns score count ns ew) out.new result }
 {
     let a = put_score(out, at, score);
@@ -56,8 +55,8 @@ fn put_table(out: &mut [u8], t: Tally, columns: Columns) -> usize
         let Ok(points) = points_of(t, score) else {
             return at;
         };
-        let ns = points.ns.0;
-        let ew = points.ew.0;
+        let ns = points.ns.0 as u8;
+        let ew = points.ew.0 as u8;
         at = put_row(out, at, columns, score, u32::from(count), ns, ew);
     }
     at

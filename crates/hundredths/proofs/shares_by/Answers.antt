@@ -4,4 +4,4 @@ use Rattle.hundredths.proofs.shares_by.Goals as goal
 
 pub returns : goal.returns
 unfolding shares_by
-returns c = rw (c.share.ensures, c.share-2.ensures)
+returns c = rw (c.share.ensures, c.share-2.ensures, c.from.ensures, c.from-2.ensures)

@@ -11,16 +11,17 @@ returns-in_err-points c =
     let p = err_from_is_err_and c.from_residual.result c.from_residual.ensures.1 in
     rw (p.1, p.2) (ap by_points (rw (to_z-of_z c.ranges.score) at c.in_err-points.ensures) ∙ by_points_lem c.args.t _)
 
-pub results_of-results-requires : goal.results_of-results-requires
-results_of-results-requires c = subst Few (sym (rw (to_z-of_z c.ranges.score) at c.in_ok-points.ensures)) (few c.args.t _)
+pub overflow_cast-ns : goal.overflow_cast-ns
+overflow_cast-ns c =
+    let both = subst Few (sym (rw (to_z-of_z c.ranges.score) at c.in_ok-points.ensures)) (few c.args.t _) in
+    record { fits = omega (arith, both) }
 
-pub cell_by-requires : goal.cell_by-requires
-cell_by-requires c =
-    let b = subst Few (sym (rw (to_z-of_z c.ranges.score) at c.in_ok-points.ensures)) (few c.args.t _) in
-    let r = c.results_of-results.ensures in
-    (omega arith, omega arith, omega arith)
+pub overflow_cast-points : goal.overflow_cast-points
+overflow_cast-points c =
+    let both = subst Few (sym (rw (to_z-of_z c.ranges.score) at c.in_ok-points.ensures)) (few c.args.t _) in
+    record { fits = omega (arith, both) }
 
 pub returns : goal.returns
 returns c =
-    rw c.results_of-results.ensures at c.cell_by.ensures
+    rw c.results_of.ensures at c.cell_by.ensures
     ∙ (ap by_points (rw (to_z-of_z c.ranges.score) at c.in_ok-points.ensures) ∙ by_points_lem c.args.t _)

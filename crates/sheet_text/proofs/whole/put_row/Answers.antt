@@ -1,14 +1,7 @@
 -- `sheet_text::whole::put_row` meets its contract. Assumes nothing.
-use native.Mathlib.Omega.{arith}
 use mir.Facts.{to_z-of_z}
 use Rattle.text.proofs.Puts.{then}
 use Rattle.sheet_text.proofs.whole.put_row.Goals as goal
-
-pub put_side-c-requires : goal.put_side-c-requires
-put_side-c-requires c = c.requires
-
-pub put_side-d-requires : goal.put_side-d-requires
-put_side-d-requires c = omega (arith, c.requires)
 
 pub returns : goal.returns
 returns c =
