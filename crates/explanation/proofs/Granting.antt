@@ -1,12 +1,12 @@
 -- The code's items of a contract, made or down, are Law 77's from North-South; each fits 16 bits. Assumes nothing.
-use Prim.Native.Nat.{ℕ, ◌≤◌, ◌<◌, ◌^◌}
+use Prim.Native.Nat.{ℕ, ◌≤◌}
 use native.Mathlib.Omega.{arith}
 use mathlib.Core.Path.{◌≡◌, refl, sym, ◌∙◌}
 use mathlib.Core.Bool.{true, false}
-use lib.IntN.{ℤ, pos, neg_ℤ, nat_abs, ◌-ℤ◌, +ℤ_idl}
-use mir.Syntax.{w16, w64}
+use lib.IntN.{ℤ, pos, neg_ℤ, nat_abs}
+use mir.Syntax.{w16}
 use mir.Val.{SFits, to_z, of_z}
-use mir.Facts.{to_z-of_z, to_z_pos}
+use mir.Facts.{to_z-of_z}
 use Rattle.laws.specs.Law77.{Stake, is_made, trick_points, overtrick_points, undertrick_points, part_score_points, game_points, slam_points, doubling_points}
 use Rattle.laws.specs.Law77.{items, declarer_score, ns_score}
 use Rattle.laws.specs.Slip.{Name, TRICKS, OVERTRICKS, UNDERTRICKS, PARTSCORE, GAME, SLAM, DOUBLING, gain}
@@ -26,23 +26,6 @@ told {r} {x} e h = rw e (to_z-of_z {w = w16} (fits_16 x h))
 
 pub ns-small : (d : ℕ) (z : ℤ) → nat_abs z ≤ 7600 → nat_abs (ns_score d z) ≤ 7600
 ns-small d z h = omega (arith, size-ns d z)
-
--- a small number in 64 bits, and its negation
-module _ (n : ℕ) (h : n ≤ 7600) where
-  small_64 : n < 2 ^ 63
-  small_64 = omega arith
-
-  pub plain : to_z w64 n ≡ pos n
-  plain = to_z_pos w64 small_64
-
-  negative : SFits w64 (neg_ℤ (pos n))
-  negative = record { sfits = omega (arith, mag-le-size (neg_ℤ (pos n)), size_neg (pos n)) }
-
-  pub minus-fits : SFits w64 (pos 0 -ℤ to_z w64 n)
-  minus-fits = rw (plain, +ℤ_idl) negative
-
-  pub minus : to_z w64 (of_z w64 (pos 0 -ℤ to_z w64 n)) ≡ neg_ℤ (pos n)
-  minus = rw (plain, +ℤ_idl) (to_z-of_z negative)
 
 -- eight equal fields
 pub eight : {a b c d e f g h a' b' c' d' e' f' g' h' : ℤ} → a ≡ a' → b ≡ b' → c ≡ c' → d ≡ d' → e ≡ e' → f ≡ f' → g ≡ g' → h ≡ h'

@@ -6,6 +6,7 @@ ghost use Rattle.laws.specs.Refused.{placed_of};
 ghost use Rattle.law77.specs.Scoring.{stake_of};
 ghost use Rattle.explanation.specs.Explained.{Possible, no_items, items_for, level_in, stake_in, tricks_in, items_at, explained_of};
 
+use super::played::Played;
 use judgement::judge;
 use law77::{
     Stake, declarer_score, doubling_points, game_points, overtricks, part_score_points,
@@ -54,54 +55,52 @@ fn lost(points: u64, declarer: u8) -> i16
 }
 
 // The score from North-South.
-fn score(s: Stake, tricks: u32, declarer: u8) -> i16
-    requires { Possible (stake_of s) tricks }
-    ensures { result ≡ ns_score declarer (declarer_score (stake_of s) tricks) }
+fn score(p: Played) -> i16
+    ensures { result ≡ ns_score p.declarer (declarer_score (stake_of p.stake) p.tricks) }
 {
-    from_ns(declarer_score(s, tricks), declarer)
+    from_ns(declarer_score(p.stake, p.tricks), p.declarer)
 }
 
 // Of a contract that went down.
-fn items_down(s: Stake, tricks: u32, declarer: u8) -> Items
-    requires possible { Possible (stake_of s) tricks }
-    requires down { is_made (stake_of s) tricks ≡ false }
-    ensures { result ≡ items_for declarer (stake_of s) tricks }
+fn items_down(p: Played) -> Items
+    requires { is_made (stake_of p.stake) p.tricks ≡ false }
+    ensures { result ≡ items_for p.declarer (stake_of p.stake) p.tricks }
 {
-    let down = s.level as u32 + 6 - tricks;
+    let down = p.stake.level as u32 + 6 - p.tricks;
     Items {
-        undertricks: lost(undertricks(s, down), declarer),
-        sum: score(s, tricks, declarer),
+        undertricks: lost(undertricks(p.stake, down), p.declarer),
+        sum: score(p),
         ..Items::default()
     }
 }
 
 // Of a contract that was made.
-fn items_made(s: Stake, tricks: u32, declarer: u8) -> Items
-    requires possible { Possible (stake_of s) tricks }
-    requires made { is_made (stake_of s) tricks ≡ true }
-    ensures { result ≡ items_for declarer (stake_of s) tricks }
+fn items_made(p: Played) -> Items
+    requires { is_made (stake_of p.stake) p.tricks ≡ true }
+    ensures { result ≡ items_for p.declarer (stake_of p.stake) p.tricks }
 {
-    let over = tricks - (s.level as u32 + 6);
+    let over = p.tricks - (p.stake.level as u32 + 6);
+    let s = p.stake;
+    let d = p.declarer;
     Items {
-        tricks: gained(trick_points(s) as u64, declarer),
-        overtricks: gained(overtricks(s, over), declarer),
-        partscore: gained(part_score_points(s) as u64, declarer),
-        game: gained(game_points(s) as u64, declarer),
-        slam: gained(slam_points(s) as u64, declarer),
-        doubling: gained(doubling_points(s) as u64, declarer),
-        sum: score(s, tricks, declarer),
+        tricks: gained(trick_points(s) as u64, d),
+        overtricks: gained(overtricks(s, over), d),
+        partscore: gained(part_score_points(s) as u64, d),
+        game: gained(game_points(s) as u64, d),
+        slam: gained(slam_points(s) as u64, d),
+        doubling: gained(doubling_points(s) as u64, d),
+        sum: score(p),
         ..Items::default()
     }
 }
 
-fn items_of(s: Stake, tricks: u32, declarer: u8) -> Items
-    requires { Possible (stake_of s) tricks }
-    ensures { result ≡ items_for declarer (stake_of s) tricks }
+fn items_of(p: Played) -> Items
+    ensures { result ≡ items_for p.declarer (stake_of p.stake) p.tricks }
 {
-    if tricks < s.level as u32 + 6 {
-        return items_down(s, tricks, declarer);
+    if p.tricks < p.stake.level as u32 + 6 {
+        return items_down(p);
     }
-    items_made(s, tricks, declarer)
+    items_made(p)
 }
 
 // Some bits of the answer: those that are left of so many, as many as a byte has at the most.
@@ -131,7 +130,11 @@ fn items_in(bits: u64) -> Items
         doubling: part(bits, 4294967296, 4),
         vulnerable: deal::vulnerable(board, declarer),
     };
-    items_of(stake, part(bits, 4194304, 16) as u32, declarer)
+    items_of(Played {
+        stake,
+        tricks: part(bits, 4194304, 16) as u32,
+        declarer,
+    })
 }
 
 // The items of Law 77 that make the score of a table record, or the judge's refusal with its place.

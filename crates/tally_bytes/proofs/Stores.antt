@@ -24,9 +24,6 @@ module _ (t : Tally) (old : List ℕ) {first : List ℕ} (deal : first ≡ sets 
     length-second = rw scores (length-sets first 14 (score_bytes t.scores) ∙ length_first)
 
     module _ {third : List ℕ} (counts : third ≡ sets second 270 t.counts) where
-      pub length_third : length third ≡ length old
-      length_third = rw counts (length-sets second 270 t.counts ∙ length-second)
-
       module _ (long : length old ≡ 398) (n : length t.deal ≡ 52) (m : length t.scores ≡ 128) (k : length t.counts ≡ 128) where
         abbrev d : List ℕ
         d = deal_bytes t.deal

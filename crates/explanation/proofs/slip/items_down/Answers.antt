@@ -12,18 +12,18 @@ use Rattle.explanation.proofs.slip.items_down.Goals as goal
 
 pub overflow_sub-down : goal.overflow_sub-down
 unfolding is_made
-overflow_sub-down c = let a = c.args in omega (arith, leb-false (a.s.level + 6) a.tricks c.requires.down)
+overflow_sub-down c = let a = c.args in omega (arith, leb-false (a.p.stake.level + 6) a.p.tricks c.requires)
 
 pub lost-requires : goal.lost-requires
 unfolding undertrick_points
-lost-requires c = rw c.undertricks.ensures (down-small c.args.declarer (stake_of c.args.s) c.args.tricks c.requires.possible c.requires.down)
+lost-requires c = rw c.undertricks.ensures (down-small c.args.p.declarer (stake_of c.args.p.stake) c.args.p.tricks c.args.p.possible c.requires)
 
 pub returns : goal.returns
 unfolding items_for undertrick_points
 returns c =
-    let d = c.args.declarer in
-    let s = stake_of c.args.s in
-    let t = c.args.tricks in
-    let none = down-none d s t c.requires.possible c.requires.down in
-    rw (all_zero c.default.ensures) (eight (none TRICKS refl) (none OVERTRICKS refl) (down-told d s t c.requires.possible c.requires.down c.undertricks.ensures c.lost.ensures)
-    (none PARTSCORE refl) (none GAME refl) (none SLAM refl) (none DOUBLING refl) (sum_told d s t c.requires.possible c.score.ensures))
+    let d = c.args.p.declarer in
+    let s = stake_of c.args.p.stake in
+    let t = c.args.p.tricks in
+    let none = down-none d s t c.args.p.possible c.requires in
+    rw (all_zero c.default.ensures) (eight (none TRICKS refl) (none OVERTRICKS refl) (down-told d s t c.args.p.possible c.requires c.undertricks.ensures c.lost.ensures)
+    (none PARTSCORE refl) (none GAME refl) (none SLAM refl) (none DOUBLING refl) (sum_told d s t c.args.p.possible c.score.ensures))

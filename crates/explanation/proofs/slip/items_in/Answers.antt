@@ -10,14 +10,6 @@ pub returns-then-level-eq0 : goal.returns-then-level-eq0
 unfolding items_at
 returns-then-level-eq0 c = rw (eq-eqb (level_in c.args.bits) 0 (sym c.part-level.ensures ∙ c.if-level-eq0.true)) (all_zero c.default.ensures)
 
-pub items_of-requires : goal.items_of-requires
-items_of-requires c =
-    let bits = c.args.bits in
-    rw (
-      stake_read bits c.part-level.ensures c.part.ensures c.part-2.ensures c.part-board.ensures c.part-declarer.ensures c.vulnerable.ensures,
-      c.part-3.ensures,
-    ) (c.requires (λ z. c.if-level-eq0.false (c.part-level.ensures ∙ z)))
-
 pub returns : goal.returns
 returns c =
     let bits = c.args.bits in

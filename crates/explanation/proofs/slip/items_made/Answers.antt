@@ -12,36 +12,36 @@ use Rattle.explanation.proofs.slip.items_made.Goals as goal
 
 pub overflow_sub-over : goal.overflow_sub-over
 unfolding is_made
-overflow_sub-over c = let a = c.args in omega (arith, leb-true (a.s.level + 6) a.tricks c.requires.made)
+overflow_sub-over c = let a = c.args in omega (arith, leb-true (a.p.stake.level + 6) a.p.tricks c.requires)
 
 pub gained-requires : goal.gained-requires
-gained-requires c = rw c.trick_points.ensures (made_small c.args.declarer (stake_of c.args.s) c.args.tricks c.requires.possible c.requires.made TRICKS)
+gained-requires c = rw c.trick_points.ensures (made_small c.args.p.declarer (stake_of c.args.p.stake) c.args.p.tricks c.args.p.possible c.requires TRICKS)
 
 pub gained-requires-2 : goal.gained-requires-2
 unfolding overtrick_points
-gained-requires-2 c = rw c.overtricks.ensures (made_small c.args.declarer (stake_of c.args.s) c.args.tricks c.requires.possible c.requires.made OVERTRICKS)
+gained-requires-2 c = rw c.overtricks.ensures (made_small c.args.p.declarer (stake_of c.args.p.stake) c.args.p.tricks c.args.p.possible c.requires OVERTRICKS)
 
 pub gained-requires-3 : goal.gained-requires-3
-gained-requires-3 c = rw c.part_score_points.ensures (made_small c.args.declarer (stake_of c.args.s) c.args.tricks c.requires.possible c.requires.made PARTSCORE)
+gained-requires-3 c = rw c.part_score_points.ensures (made_small c.args.p.declarer (stake_of c.args.p.stake) c.args.p.tricks c.args.p.possible c.requires PARTSCORE)
 
 pub gained-requires-4 : goal.gained-requires-4
-gained-requires-4 c = rw c.game_points.ensures (made_small c.args.declarer (stake_of c.args.s) c.args.tricks c.requires.possible c.requires.made GAME)
+gained-requires-4 c = rw c.game_points.ensures (made_small c.args.p.declarer (stake_of c.args.p.stake) c.args.p.tricks c.args.p.possible c.requires GAME)
 
 pub gained-requires-5 : goal.gained-requires-5
-gained-requires-5 c = rw c.slam_points.ensures (made_small c.args.declarer (stake_of c.args.s) c.args.tricks c.requires.possible c.requires.made SLAM)
+gained-requires-5 c = rw c.slam_points.ensures (made_small c.args.p.declarer (stake_of c.args.p.stake) c.args.p.tricks c.args.p.possible c.requires SLAM)
 
 pub gained-requires-6 : goal.gained-requires-6
-gained-requires-6 c = rw c.doubling_points.ensures (made_small c.args.declarer (stake_of c.args.s) c.args.tricks c.requires.possible c.requires.made DOUBLING)
+gained-requires-6 c = rw c.doubling_points.ensures (made_small c.args.p.declarer (stake_of c.args.p.stake) c.args.p.tricks c.args.p.possible c.requires DOUBLING)
 
 pub returns : goal.returns
 unfolding items_for overtrick_points
 returns c =
-    let d = c.args.declarer in
-    let s = stake_of c.args.s in
-    let t = c.args.tricks in
-    let told = made_told d s t c.requires.possible c.requires.made in
+    let d = c.args.p.declarer in
+    let s = stake_of c.args.p.stake in
+    let t = c.args.p.tricks in
+    let told = made_told d s t c.args.p.possible c.requires in
     rw (all_zero c.default.ensures) (eight (told TRICKS _ _ c.trick_points.ensures c.gained.ensures)
     (told OVERTRICKS _ _ c.overtricks.ensures c.gained-2.ensures)
-    (made_none d s t c.requires.possible c.requires.made UNDERTRICKS refl) (told PARTSCORE _ _ c.part_score_points.ensures c.gained-3.ensures)
+    (made_none d s t c.args.p.possible c.requires UNDERTRICKS refl) (told PARTSCORE _ _ c.part_score_points.ensures c.gained-3.ensures)
     (told GAME _ _ c.game_points.ensures c.gained-4.ensures) (told SLAM _ _ c.slam_points.ensures c.gained-5.ensures)
-    (told DOUBLING _ _ c.doubling_points.ensures c.gained-6.ensures) (sum_told d s t c.requires.possible c.score.ensures))
+    (told DOUBLING _ _ c.doubling_points.ensures c.gained-6.ensures) (sum_told d s t c.args.p.possible c.score.ensures))

@@ -5,8 +5,8 @@ use Rattle.explanation.proofs.slip.items_of.Goals as goal
 
 pub items_down-requires : goal.items_down-requires
 unfolding is_made
-items_down-requires c = record { possible = c.requires; down = lt-leb _ _ c.if-tricks-s.true }
+items_down-requires c = lt-leb _ _ c.if-p.true
 
 pub items_made-requires : goal.items_made-requires
 unfolding is_made
-items_made-requires c = record { possible = c.requires; made = le-leb _ _ c.if-tricks-s.false }
+items_made-requires c = le-leb _ _ c.if-p.false
