@@ -70,12 +70,12 @@ fn places_to(from: u8, seat: u8) -> usize
     ((seat + 4 - from) % 4) as usize
 }
 
-// The order of play of cards in columns from a seat, which leads first.
-fn order_of(cards: [u8; 52], trump: u8, first: u8) -> [u8; 52]
-    requires { first < 4 }
-    ensures { result ≡ order_of_play trump first cards }
+// The order of play of cards that are listed in columns from a seat, which leads first.
+pub fn order_of_play(cards: [u8; 52], trump: u8, seat: u8) -> [u8; 52]
+    ensures { result ≡ order_of_play trump (seat % 4) cards }
 {
     let mut order = [0u8; 52];
+    let first = seat % 4;
     let mut leader = first;
     for trick in 0..13 {
         let at = 4 * trick;
@@ -90,11 +90,4 @@ fn order_of(cards: [u8; 52], trump: u8, first: u8) -> [u8; 52]
         leader = winner(trump, leader, a, b, c, d);
     }
     order
-}
-
-// The order of play of cards that are listed in columns from a seat, which leads first.
-pub fn order_of_play(cards: [u8; 52], trump: u8, seat: u8) -> [u8; 52]
-    ensures { result ≡ order_of_play trump (seat % 4) cards }
-{
-    order_of(cards, trump, seat % 4)
 }

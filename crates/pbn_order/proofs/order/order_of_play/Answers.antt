@@ -1,8 +1,8 @@
--- `pbn_order::order::order_of` meets its contract. The loop's invariant is `InPlay`. Assumes nothing.
+-- `pbn_order::order::order_of_play` meets its contract. The loop's invariant is `InPlay`. Assumes nothing.
 use Rattle.std.proofs.Common.{◌≡◌, ◌+◌, ◌*◌, arith}
 use Rattle.laws.specs.Cards.{clockwise}
 use Rattle.pbn_order.proofs.Ordered.{turn, ends}
-use Rattle.pbn_order.proofs.order.order_of.Goals as goal
+use Rattle.pbn_order.proofs.order.order_of_play.Goals as goal
 
 pub loop-trick-preserved : goal.loop-trick-preserved
 unfolding clockwise
