@@ -9,4 +9,6 @@ pub slice_bounds-lend-end : goal.slice_bounds-lend-end
 slice_bounds-lend-end c = taken-length _ _ _ _ c.put_items-n.ensures c.requires
 
 pub returns : goal.returns
-returns c = record { answer = rw (← taken _ _ _ _ c.put_items-n.ensures c.requires) c.lend.ensures.answer; bytes = rw (← taken _ _ _ _ c.put_items-n.ensures c.requires) c.lend.ensures.bytes }
+returns c =
+    let all = taken _ _ _ _ c.put_items-n.ensures c.requires in
+    record { answer = rw (← all) c.lend.ensures.answer; bytes = rw (← all) c.lend.ensures.bytes }

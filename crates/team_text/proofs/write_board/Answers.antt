@@ -10,5 +10,5 @@ slice_bounds-lend-end c = taken-length _ _ _ _ c.put_board-n.ensures.0 c.put_boa
 
 pub returns : goal.returns
 returns c =
-    let p = c.put_board-n.ensures in
-    record { answer = rw (← taken _ _ _ _ p.0 p.1) c.lend.ensures.answer; bytes = rw (← taken _ _ _ _ p.0 p.1) c.lend.ensures.bytes }
+    let all = taken _ _ _ _ c.put_board-n.ensures.0 c.put_board-n.ensures.1 in
+    record { answer = rw (← all) c.lend.ensures.answer; bytes = rw (← all) c.lend.ensures.bytes }

@@ -20,11 +20,7 @@ slice_bounds-lend-end c =
 
 pub returns : goal.returns
 returns c =
-    record {
-      answer = rw (← taken _ _ _ _ c.put_totals-n.ensures (let f : SFits w32 c.args.first.0 = search rules in
-          let g : SFits w32 c.args.second.0 = search rules in
-          totals-short c.args.first.0 c.args.second.0 f g)) c.lend.ensures.answer;
-      bytes = rw (← taken _ _ _ _ c.put_totals-n.ensures (let f : SFits w32 c.args.first.0 = search rules in
-          let g : SFits w32 c.args.second.0 = search rules in
-          totals-short c.args.first.0 c.args.second.0 f g)) c.lend.ensures.bytes;
-    }
+    let f : SFits w32 c.args.first.0 = search rules in
+    let g : SFits w32 c.args.second.0 = search rules in
+    let all = taken _ _ _ _ c.put_totals-n.ensures (totals-short c.args.first.0 c.args.second.0 f g) in
+    record { answer = rw (← all) c.lend.ensures.answer; bytes = rw (← all) c.lend.ensures.bytes }
