@@ -2,6 +2,8 @@
 // insufficient bid that was accepted.
 #![tactic(auto)]
 
+mod place;
+
 ghost use Rattle.std.specs.Prelude.{◌≡◌, [], ◌-◌, ◌<◌, ◌≤◌, eqb, if◌then◌else◌};
 ghost use Rattle.laws.specs.Cards.{clockwise};
 ghost use Rattle.laws.specs.CallRefusal.{place_of};
@@ -19,6 +21,7 @@ ghost use Rattle.auction.specs.Asked.{
 ghost use Rattle.laws.specs.Refused.{placed_of};
 
 use laws::{Refusal, Refused};
+use place::Place;
 
 // The seat that stands for nobody, in a contract too: its declarer without a bid, as `contract_of` has it.
 const NOBODY: u8 = 4;
@@ -109,27 +112,24 @@ fn is_free(entry: u64) -> u64
 }
 
 // The three bits at a place.
-fn entry(word: u64, place: u8) -> u64
-    requires { place < 10 }
-    ensures value { result ≡ entry_at word place }
+fn entry(word: u64, place: Place) -> u64
+    ensures value { result ≡ entry_at word place.at }
     ensures bound { result < 8 }
 {
-    (word >> (3 * place)) % 8
+    (word >> (3 * place.at)) % 8
 }
 
 // The word with a seat at a place, where nobody stands there.
-fn entered(word: u64, place: u8, seat: u8) -> u64
-    requires { place < 10 }
-    ensures { result ≡ entered word place seat }
+fn entered(word: u64, place: Place, seat: u8) -> u64
+    ensures { result ≡ entered word place.at seat }
 {
     let free = is_free(entry(word, place));
-    word % 1099511627776 + ((free * (seat % 4 + 1) as u64) << (3 * place))
+    word % 1099511627776 + ((free * (seat % 4 + 1) as u64) << (3 * place.at))
 }
 
 // The seat at a place, or nobody.
-fn seat_at(word: u64, place: u8) -> u8
-    requires { place < 10 }
-    ensures { result ≡ seat_at word place }
+fn seat_at(word: u64, place: Place) -> u8
+    ensures { result ≡ seat_at word place.at }
 {
     let e = entry(word, place);
     if e == 0 {
@@ -183,7 +183,7 @@ impl Auction {
         self.bidder = turn;
         self.doubling = 4;
         self.left = 3;
-        self.first = entered(self.first, (turn % 2) * 5 + (code - 3) % 5, turn);
+        self.first = entered(self.first, Place::of(turn, code - 3), turn);
         self
     }
 
@@ -270,11 +270,10 @@ impl Auction {
         ensures { result ≡ contract_of self }
     {
         let above = self.last.saturating_sub(3);
-        let strain = above % 5;
-        let first = seat_at(self.first, (self.bidder % 2) * 5 + strain);
+        let first = seat_at(self.first, Place::of(self.bidder, above));
         Contract {
             level: above / 5 + 1,
-            strain,
+            strain: above % 5,
             doubling: self.doubling % 4,
             declarer: first,
         }

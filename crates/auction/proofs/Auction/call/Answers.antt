@@ -20,4 +20,4 @@ returns-then-code-gt-HIGHEST c = no_call_lem _ _ (search rules) c.next_seat.ensu
 
 pub returns : goal.returns
 unfolding first_place strain_of
-returns c = bid _ _ (search rules) (search rules) c.next_seat.ensures c.entered.ensures
+returns c = bid _ _ (search rules) (search rules) c.next_seat.ensures (rw c.of.ensures at c.entered.ensures)

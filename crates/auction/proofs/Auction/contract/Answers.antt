@@ -14,4 +14,4 @@ unfolding contract_of level_of strain_of first_place
 told a e f = rw (f, e)
 
 pub returns : goal.returns
-returns c = told _ c.saturating_sub-above.ensures c.seat_at-first.ensures
+returns c = told _ c.saturating_sub-above.ensures (rw c.of.ensures at c.seat_at-first.ensures)
