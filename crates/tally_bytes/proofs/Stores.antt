@@ -54,7 +54,10 @@ module _ (t : Tally) (old : List ℕ) {first : List ℕ} (deal : first ≡ sets 
         whole = omega (arith, length-append d (s ++ t.counts), length-append s t.counts, behind, last)
 
         all : third ≡ tally_bytes t
-        all = one_run ∙ sets-eq (tally_bytes t) old 0 (omega (arith, whole)) ∙ rw (zero-add, drop_all (length (tally_bytes t)) old (omega (arith, whole)), append-nil (tally_bytes t))
+        all =
+            one_run
+            ∙ sets-eq (tally_bytes t) old 0 (omega (arith, whole))
+            ∙ rw (zero-add, drop_all (length (tally_bytes t)) old (omega (arith, whole)), append-nil (tally_bytes t))
 
         pub over_front : (out : List ℕ) → 398 ≤ length out → third ++ drop 398 out ≡ tally_left t out
         unfolding tally_left ◌over◌

@@ -17,6 +17,7 @@ returns c =
     let fits : SFits w16 c.narrow_score.result = search rules in
     let asked = rw (to_z-of_z fits, c.narrow_score.ensures, to_z-of_z c.ranges.score, c.read.ensures) at c.matchpoints-answer.ensures
     ∙ points_narrowed (tally_in c.args.tally.now) c.args.holders.now c.args.score in
-    let bytes = mapped points_bytes points_answer (λ p. record { ns = p.ns.0; ew = p.ew.0 }) (λ _. refl) (λ _. refl) c.matchpoints-answer.result c.map.result c.map.ensures.cases in
+    let r = c.matchpoints-answer.result in
+    let bytes = mapped points_bytes points_answer (λ p. record { ns = p.ns.0; ew = p.ew.0 }) (λ _. refl) (λ _. refl) r c.map.result c.map.ensures.cases in
     let s = says 4 c.args.points.now (bytes ∙ ap (spelled points_bytes) asked) (c.put.ensures.number, c.put.ensures.left) in
     record { number = s.0; left = s.1 }

@@ -16,14 +16,16 @@ overflow_sub-down c = let a = c.args in omega (arith, leb-false (a.p.stake.level
 
 pub lost-requires : goal.lost-requires
 unfolding undertrick_points
-lost-requires c = rw c.undertricks.ensures (down-small c.args.p.declarer (stake_of c.args.p.stake) c.args.p.tricks c.args.p.possible c.requires)
+lost-requires c = let p = c.args.p in rw c.undertricks.ensures (down-small p.declarer (stake_of p.stake) p.tricks p.possible c.requires)
 
 pub returns : goal.returns
 unfolding items_for undertrick_points
 returns c =
-    let d = c.args.p.declarer in
-    let s = stake_of c.args.p.stake in
-    let t = c.args.p.tricks in
-    let none = down-none d s t c.args.p.possible c.requires in
-    rw (all_zero c.default.ensures) (eight (none TRICKS refl) (none OVERTRICKS refl) (down-told d s t c.args.p.possible c.requires c.undertricks.ensures c.lost.ensures)
-    (none PARTSCORE refl) (none GAME refl) (none SLAM refl) (none DOUBLING refl) (sum_told d s t c.args.p.possible c.score.ensures))
+    let p = c.args.p in
+    let d = p.declarer in
+    let s = stake_of p.stake in
+    let t = p.tricks in
+    let none = down-none d s t p.possible c.requires in
+    rw (all_zero c.default.ensures) (eight (none TRICKS refl) (none OVERTRICKS refl)
+    (down-told d s t p.possible c.requires c.undertricks.ensures c.lost.ensures)
+    (none PARTSCORE refl) (none GAME refl) (none SLAM refl) (none DOUBLING refl) (sum_told d s t p.possible c.score.ensures))

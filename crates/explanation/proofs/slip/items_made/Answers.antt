@@ -15,33 +15,34 @@ unfolding is_made
 overflow_sub-over c = let a = c.args in omega (arith, leb-true (a.p.stake.level + 6) a.p.tricks c.requires)
 
 pub gained-requires : goal.gained-requires
-gained-requires c = rw c.trick_points.ensures (made_small c.args.p.declarer (stake_of c.args.p.stake) c.args.p.tricks c.args.p.possible c.requires TRICKS)
+gained-requires c = let p = c.args.p in rw c.trick_points.ensures (made_small p.declarer (stake_of p.stake) p.tricks p.possible c.requires TRICKS)
 
 pub gained-requires-2 : goal.gained-requires-2
 unfolding overtrick_points
-gained-requires-2 c = rw c.overtricks.ensures (made_small c.args.p.declarer (stake_of c.args.p.stake) c.args.p.tricks c.args.p.possible c.requires OVERTRICKS)
+gained-requires-2 c = let p = c.args.p in rw c.overtricks.ensures (made_small p.declarer (stake_of p.stake) p.tricks p.possible c.requires OVERTRICKS)
 
 pub gained-requires-3 : goal.gained-requires-3
-gained-requires-3 c = rw c.part_score_points.ensures (made_small c.args.p.declarer (stake_of c.args.p.stake) c.args.p.tricks c.args.p.possible c.requires PARTSCORE)
+gained-requires-3 c = let p = c.args.p in rw c.part_score_points.ensures (made_small p.declarer (stake_of p.stake) p.tricks p.possible c.requires PARTSCORE)
 
 pub gained-requires-4 : goal.gained-requires-4
-gained-requires-4 c = rw c.game_points.ensures (made_small c.args.p.declarer (stake_of c.args.p.stake) c.args.p.tricks c.args.p.possible c.requires GAME)
+gained-requires-4 c = let p = c.args.p in rw c.game_points.ensures (made_small p.declarer (stake_of p.stake) p.tricks p.possible c.requires GAME)
 
 pub gained-requires-5 : goal.gained-requires-5
-gained-requires-5 c = rw c.slam_points.ensures (made_small c.args.p.declarer (stake_of c.args.p.stake) c.args.p.tricks c.args.p.possible c.requires SLAM)
+gained-requires-5 c = let p = c.args.p in rw c.slam_points.ensures (made_small p.declarer (stake_of p.stake) p.tricks p.possible c.requires SLAM)
 
 pub gained-requires-6 : goal.gained-requires-6
-gained-requires-6 c = rw c.doubling_points.ensures (made_small c.args.p.declarer (stake_of c.args.p.stake) c.args.p.tricks c.args.p.possible c.requires DOUBLING)
+gained-requires-6 c = let p = c.args.p in rw c.doubling_points.ensures (made_small p.declarer (stake_of p.stake) p.tricks p.possible c.requires DOUBLING)
 
 pub returns : goal.returns
 unfolding items_for overtrick_points
 returns c =
-    let d = c.args.p.declarer in
-    let s = stake_of c.args.p.stake in
-    let t = c.args.p.tricks in
-    let told = made_told d s t c.args.p.possible c.requires in
+    let p = c.args.p in
+    let d = p.declarer in
+    let s = stake_of p.stake in
+    let t = p.tricks in
+    let told = made_told d s t p.possible c.requires in
     rw (all_zero c.default.ensures) (eight (told TRICKS _ _ c.trick_points.ensures c.gained.ensures)
     (told OVERTRICKS _ _ c.overtricks.ensures c.gained-2.ensures)
-    (made_none d s t c.args.p.possible c.requires UNDERTRICKS refl) (told PARTSCORE _ _ c.part_score_points.ensures c.gained-3.ensures)
+    (made_none d s t p.possible c.requires UNDERTRICKS refl) (told PARTSCORE _ _ c.part_score_points.ensures c.gained-3.ensures)
     (told GAME _ _ c.game_points.ensures c.gained-4.ensures) (told SLAM _ _ c.slam_points.ensures c.gained-5.ensures)
-    (told DOUBLING _ _ c.doubling_points.ensures c.gained-6.ensures) (sum_told d s t c.args.p.possible c.score.ensures))
+    (told DOUBLING _ _ c.doubling_points.ensures c.gained-6.ensures) (sum_told d s t p.possible c.score.ensures))
