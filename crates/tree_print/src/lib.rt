@@ -61,7 +61,7 @@ pub fn finish<W: Write>(out: &mut W, run: Run) -> io::Result<Run>
     if last.over {
         return Ok(last);
     }
-    if let Some(t) = tree_run::top(last.stack) {
+    if let Some(t) = tree_stack::top(last.stack) {
         show(out, t)?;
     }
     Ok(last)

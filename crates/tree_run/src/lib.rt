@@ -3,10 +3,9 @@
 
 ghost use Rattle.std.specs.Prelude.{◌≡◌, None};
 ghost use Rattle.tree_stack.specs.Saying.{saying};
-ghost use Rattle.tree_run.specs.Runs.{start_of, is_ended, brought, call_in, line_done, taken_byte, finished_of, top_of};
+ghost use Rattle.tree_run.specs.Runs.{start_of, is_ended, brought, call_in, line_done, taken_byte, finished_of};
 
 use script_line::{Line, first_line, next_line, with_byte};
-use tally::Tally;
 use tree_script::{Call, read_call};
 use tree_stack::{Said, Stack, make_call};
 
@@ -106,18 +105,4 @@ pub fn finish(run: Run) -> Fed
         return silent(run);
     }
     line_done(run)
-}
-
-// The top tally of a stack, where it has one.
-pub fn top(s: Stack) -> Option<Tally>
-    ensures { result ≡ top_of s }
-{
-    let n = s.used;
-    if n < 1 {
-        return None;
-    }
-    if 16 < n {
-        return None;
-    }
-    Some(s.tallies[n - 1])
 }

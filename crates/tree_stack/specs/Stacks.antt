@@ -36,6 +36,10 @@ landed s at used made =
 abbrev pub lacks : Stack → ℕ → Bool
 lacks s n = ltb s.used n || ltb 16 s.used
 
+-- the top tally of a stack, where it has one
+unfoldable pub top_of : Stack → Option Tally
+top_of s = if lacks s 1 then None else Some (tally_at s (s.used - 1))
+
 -- `fresh B`: pushed on a stack that is not full
 unfoldable pub fresh_step : Stack → ℕ → Stepped
 fresh_step s board = if ltb 15 s.used then stopped s else landed s s.used (s.used + 1) (fresh_of board)

@@ -8,7 +8,7 @@ ghost use Rattle.percentages.specs.Cells.{entered, cell_answer, Numbered};
 ghost use Rattle.matchpoints.specs.Points.{points_answer};
 ghost use Rattle.tree_stack.specs.Deals.{suits, deal_numbered};
 ghost use Rattle.tree_stack.specs.Saying.{saying, stepped};
-ghost use Rattle.tree_stack.specs.Stacks.{stopped, landed, said_of, fresh_step, add_step, merge_step, matchpoints_step, said_cell, cell_step, award_step, step_of};
+ghost use Rattle.tree_stack.specs.Stacks.{top_of, stopped, landed, said_of, fresh_step, add_step, merge_step, matchpoints_step, said_cell, cell_step, award_step, step_of};
 
 use deal::SUITS;
 use laws::Refused;
@@ -101,6 +101,20 @@ fn land(s: Stack, at: usize, used: usize, made: Result<Tally, Refused>) -> Step
     }
 }
 
+// The top tally of a stack, where it has one.
+pub fn top(s: Stack) -> Option<Tally>
+    ensures { result ≡ top_of s }
+{
+    let n = s.used;
+    if n < 1 {
+        return None;
+    }
+    if 16 < n {
+        return None;
+    }
+    Some(s.tallies[n - 1])
+}
+
 // A fresh tally on top.
 fn fresh_step(s: Stack, board: u8) -> Step
     ensures { stepped result ≡ fresh_step s board }
@@ -116,16 +130,16 @@ fn fresh_step(s: Stack, board: u8) -> Step
 fn add_step(s: Stack, given: Given) -> Step
     ensures { stepped result ≡ add_step s given }
 {
-    let n = s.used;
-    if n < 1 {
+    let Some(t) = top(s) else {
         return stop(s);
-    }
-    if 16 < n {
-        return stop(s);
-    }
-    let top = s.tallies[n - 1];
+    };
     let holders = holders_of(given.deal);
-    land(s, n - 1, n, merging::add(top, given.score, &holders))
+    land(
+        s,
+        s.used - 1,
+        s.used,
+        merging::add(t, given.score, &holders),
+    )
 }
 
 // The two topmost tallies merged, the lower one first; refused, the lower one is left.
@@ -160,16 +174,11 @@ fn said_of(answer: Result<BothSides, Refused>) -> Said
 fn matchpoints_step(s: Stack, given: Given) -> Step
     ensures { stepped result ≡ matchpoints_step s given }
 {
-    let n = s.used;
-    if n < 1 {
+    let Some(t) = top(s) else {
         return stop(s);
-    }
-    if 16 < n {
-        return stop(s);
-    }
-    let top = s.tallies[n - 1];
+    };
     let holders = holders_of(given.deal);
-    let said = said_of(matchpoints::matchpoints(top, given.score, &holders));
+    let said = said_of(matchpoints::matchpoints(t, given.score, &holders));
     Step { stack: s, said }
 }
 
@@ -200,16 +209,11 @@ fn said_cell(answer: Result<Cell, Refused>) -> Said
 fn cell_step(s: Stack, given: Given) -> Step
     ensures { stepped result ≡ cell_step s given }
 {
-    let n = s.used;
-    if n < 1 {
+    let Some(t) = top(s) else {
         return stop(s);
-    }
-    if 16 < n {
-        return stop(s);
-    }
-    let top = s.tallies[n - 1];
+    };
     let holders = holders_of(given.deal);
-    let said = said_cell(percentages::cell_of(top, given.score, &holders));
+    let said = said_cell(percentages::cell_of(t, given.score, &holders));
     Step { stack: s, said }
 }
 

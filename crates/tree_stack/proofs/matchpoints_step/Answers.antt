@@ -4,17 +4,14 @@ use borrow.Author.Rules.{rules}
 use mir.Syntax.{w16}
 use mir.Val.{SFits}
 use mir.Facts.{to_z-of_z}
-use Rattle.tree_stack.proofs.Steps.{points-short, points-long, points-said}
+use Rattle.tree_stack.proofs.Steps.{no_top, has_top, no-points, points-said}
 use Rattle.tree_stack.proofs.matchpoints_step.Goals as goal
 
-pub returns-then-n-lt1 : goal.returns-then-n-lt1
-returns-then-n-lt1 c = c.stop.ensures ∙ points-short _ _ c.if-n-lt1.true
-
-pub returns-then-n-gt16 : goal.returns-then-n-gt16
-returns-then-n-gt16 c = c.stop-then-n-gt16.ensures ∙ points-long _ _ c.if-n-gt16.true
+pub returns-in_default : goal.returns-in_default
+returns-in_default c = c.stop.ensures ∙ no-points _ _ (no_top _ c.top.ensures c.in_default.is)
 
 pub returns : goal.returns
 returns c =
     let f : SFits w16 c.args.given.score = search rules in
-    rw (c.said_of-said.ensures, c.matchpoints.ensures, to_z-of_z f, c.holders_of-holders.ensures)
-    (points-said c.args.s _ c.if-n-lt1.false c.if-n-gt16.false)
+    let k = has_top _ c.top.ensures c.in-Some.is in
+    rw (c.said_of-said.ensures, c.matchpoints.ensures, to_z-of_z f, c.holders_of-holders.ensures, k.1) (points-said c.args.s _ k.0)

@@ -1,7 +1,7 @@
--- `tree_run::top` meets its contract. Assumes nothing.
+-- `tree_stack::top` meets its contract. Assumes nothing.
 use Rattle.tree_stack.proofs.Steps.{few, many, enough}
-use Rattle.tree_run.specs.Runs.{top_of}
-use Rattle.tree_run.proofs.top.Goals as goal
+use Rattle.tree_stack.specs.Stacks.{top_of}
+use Rattle.tree_stack.proofs.top.Goals as goal
 
 pub returns-then-n-lt1 : goal.returns-then-n-lt1
 unfolding top_of
