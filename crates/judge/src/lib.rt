@@ -21,13 +21,12 @@ fn put7(answer: &mut [u8], x: u64)
     answer[..7].copy_from_slice(&bytes[1..]);
 }
 
-// The first bytes of a revoke list over the front of list.
-fn put_list(list: &mut [u8], revokes: [u8; 48], count: usize)
-    requires few { count ≤ 48 }
-    requires room { 48 ≤ length list.old }
-    ensures { list.new ≡ take count revokes ++ drop count list.old }
+// Revokes over the front of list.
+fn put_list(list: &mut [u8], revokes: &[u8])
+    requires { length revokes.now ≤ length list.old }
+    ensures { list.new ≡ revokes.now ++ drop (length revokes.now) list.old }
 {
-    list[..count].copy_from_slice(&revokes[..count]);
+    list[..revokes.len()].copy_from_slice(revokes);
 }
 
 // The 52 bytes of the plays against Law 50 over the front of failures.
@@ -91,7 +90,8 @@ pub fn judge_record(
     match judge(bytes) {
         Ok(judged) => {
             put7(answer, judged.bits);
-            put_list(list, judged.revokes.list, judged.revokes.count as usize);
+            let revokes = judged.revokes.list;
+            put_list(list, &revokes[..judged.revokes.count as usize]);
             put_failures(failures, judged.failures);
             put_winners(winners, judged.tricks);
             0

@@ -1,5 +1,6 @@
 -- `judge_record` meets its contract: a law of Answering for each way out. Assumes nothing.
-use Rattle.std.proofs.Common.{arith}
+use Rattle.std.proofs.Common.{◌≡◌, ◌≤◌, sym, length, arith, rules}
+use lib.Seq.{length-take-le}
 use Rattle.judge.proofs.Answering.{enough-of, short_answer, short_list, short_failures, short_winners, judge_refuses, few-listed, judge_accepts}
 use Rattle.judge.proofs.judge_record.Goals as goal
 
@@ -34,12 +35,32 @@ returns-in-Err c =
     let l = judge_refuses a.bytes.now a.answer.now a.list.now a.failures.now a.winners.now enough c.in-Err.ensures in
     record { number = rw c.from-in-Err.ensures l.number; answered = l.answered; listed = l.listed; failed = l.failed; won = l.won }
 
+pub slice_bounds-revokes-end : goal.slice_bounds-revokes-end
+slice_bounds-revokes-end c =
+    let a = c.args in
+    let enough = enough-of a.answer.now a.list.now a.failures.now a.winners.now (omega arith) (omega arith) (omega arith) (omega arith) in
+    let few = few-listed a.bytes.now a.answer.now a.list.now a.failures.now a.winners.now enough c.in-Ok.ensures in
+    let all : length c.in-Ok.judged.revokes.list ≡ 48 = search rules in
+    let inside : c.in-Ok.judged.revokes.count ≤ length c.in-Ok.judged.revokes.list = omega (arith, few.0) in
+    inside
+
+pub slice_bounds-put_list-end : goal.slice_bounds-put_list-end
+slice_bounds-put_list-end c =
+    let a = c.args in
+    let enough = enough-of a.answer.now a.list.now a.failures.now a.winners.now (omega arith) (omega arith) (omega arith) (omega arith) in
+    let few = few-listed a.bytes.now a.answer.now a.list.now a.failures.now a.winners.now enough c.in-Ok.ensures in
+    let all : length c.in-Ok.judged.revokes.list ≡ 48 = search rules in
+    let inside : c.in-Ok.judged.revokes.count ≤ length c.in-Ok.judged.revokes.list = omega (arith, few.0) in
+    sym (length-take-le _ _ inside)
+
 pub put_list-requires : goal.put_list-requires
 put_list-requires c =
     let a = c.args in
     let enough = enough-of a.answer.now a.list.now a.failures.now a.winners.now (omega arith) (omega arith) (omega arith) (omega arith) in
     let few = few-listed a.bytes.now a.answer.now a.list.now a.failures.now a.winners.now enough c.in-Ok.ensures in
-    record { few = few.0; room = omega arith }
+    let all : length c.in-Ok.judged.revokes.list ≡ 48 = search rules in
+    let inside : c.in-Ok.judged.revokes.count ≤ length c.in-Ok.judged.revokes.list = omega (arith, few.0) in
+    omega (arith, length-take-le _ _ inside, few.0)
 
 pub put_winners-requires : goal.put_winners-requires
 put_winners-requires c =
@@ -52,6 +73,9 @@ pub returns-in-Ok : goal.returns-in-Ok
 returns-in-Ok c =
     let a = c.args in
     let enough = enough-of a.answer.now a.list.now a.failures.now a.winners.now (omega arith) (omega arith) (omega arith) (omega arith) in
+    let few = few-listed a.bytes.now a.answer.now a.list.now a.failures.now a.winners.now enough c.in-Ok.ensures in
+    let all : length c.in-Ok.judged.revokes.list ≡ 48 = search rules in
+    let inside : c.in-Ok.judged.revokes.count ≤ length c.in-Ok.judged.revokes.list = omega (arith, few.0) in
     let l = judge_accepts a.bytes.now a.answer.now a.list.now a.failures.now a.winners.now enough c.in-Ok.ensures
-    (c.put7.ensures, c.put_list.ensures, c.put_failures.ensures, c.put_winners.ensures) in
+    (c.put7.ensures, rw (length-take-le _ _ inside) at c.put_list.ensures, c.put_failures.ensures, c.put_winners.ensures) in
     record { number = l.number; answered = l.answered; listed = l.listed; failed = l.failed; won = l.won }
