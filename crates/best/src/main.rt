@@ -4,6 +4,7 @@
 use std::io;
 use std::io::Write;
 
+// `filling::fill` says why each program of its kind has a `main`.
 fn main(rt: HostRuntime) -> io::Result<()> {
     let mut input = [0u8; 505];
     let mut stdin = rt.stdin();

@@ -1,2 +1,1 @@
-pub mod Vulnerable
 pub mod Boards

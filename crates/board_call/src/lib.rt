@@ -6,6 +6,7 @@ ghost use Rattle.board_call.specs.Asked.{is_board, dealer_asked, vulnerable_aske
 ghost use Rattle.deal.specs.Sides.{sides_of};
 ghost use Rattle.laws.specs.Law2.{vulnerability};
 
+use deal::Vulnerability;
 use laws::{Refusal, Refused};
 
 const NO_BOARD: Refused = Refused {
@@ -35,12 +36,12 @@ pub fn judge_dealer(board: u32) -> u32
 fn sides(board: u8) -> u32
     ensures { result ≡ sides_of (vulnerability board) }
 {
-    let north_south = deal::vulnerable(board, 0);
-    let east_west = deal::vulnerable(board, 1);
-    if north_south {
-        return if east_west { 3 } else { 1 };
+    match deal::vulnerable_sides(board) {
+        Vulnerability::Neither => 0,
+        Vulnerability::NorthSouth => 1,
+        Vulnerability::EastWest => 2,
+        Vulnerability::Both => 3,
     }
-    if east_west { 2 } else { 0 }
 }
 
 // The vulnerable sides of a board, as above; 3 with place 0 for a number that is not 1 to 127.

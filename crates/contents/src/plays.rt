@@ -148,7 +148,7 @@ fn check_each(plays: &[u8], start: Start, cards: u16) -> Result<(), Refused>
     }
 }
 
-// The most cards that may be played: none on a board that was passed out.
+// The most cards that may be played: none on a board that was passed out. `last_card` has its like, which its refused edit `passed_out_cards` changes there.
 fn most_cards(out: bool) -> usize
     ensures { result ≡ (if out then 0 else 52) }
 {

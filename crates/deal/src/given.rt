@@ -7,7 +7,8 @@ ghost use Rattle.deal.specs.Taking.{taken_by};
 use super::{hands, seat_without_thirteen};
 use laws::{Refusal, Refused};
 
-// The holders of the cards, and the hands of the four seats.
+// The holders of the cards, and the hands of the four seats. That the hands are those of the holders is no ghost field: `taken_by`, which stands in clauses,
+// builds a value of any holders. `position::Start` keeps it, for a deal with thirteen cards a seat.
 #[derive(Clone, Copy, Debug, PartialEq, Eq)]
 pub struct Dealt {
     pub holders: [u8; 52],

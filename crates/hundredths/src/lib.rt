@@ -8,7 +8,7 @@ ghost use Rattle.hundredths.specs.Shares.{share_of, shares, shares_by, share_ans
 use laws::Refused;
 use tally::Tally;
 
-// What stands for a result that is alone on its board.
+// What stands for a result that is alone on its board, for C too: no share is so great, and no second value has to say so.
 pub const ALONE: u32 = 65535;
 
 // The shares of both sides.

@@ -11,8 +11,8 @@ use auction::Auction;
 use deal::Dealt;
 use laws::{Refusal, Refused};
 
-// What was read, and the bit behind it. How far that bit may lie is asked for where bits are added to it: each step leaves another bound, so that a type with one
-// bound would ask for as much at each step.
+// What was read, and the bit behind it. How far that bit may lie is asked for where bits are added to it: each step leaves another bound, so that a type with
+// one bound would ask for as much at each step.
 #[derive(Clone, Copy)]
 pub struct Read<T> {
     pub value: T,
@@ -105,7 +105,8 @@ fn holders(bytes: &[u8]) -> [u8; 52]
     row
 }
 
-// The deal, which stands behind board and table.
+// The deal, which stands behind board and table. `deal::take_places` asks besides whether each holder is a seat, which two bits always are: the judge has no
+// time for it.
 pub(crate) fn read_deal(bytes: &[u8]) -> Result<Dealt, Refused>
     ensures { placed_of result ≡ deal_of (read_deal bytes.now 16) }
 {

@@ -6,7 +6,7 @@ ghost use Rattle.laws.specs.PbnText.{ranks_held, hand_and, hands_and, deal_line}
 ghost use Rattle.laws.specs.PbnReading.{same_bytes, place_among, held_by};
 ghost use Rattle.pbn_deal.specs.Walks.{follows, with_rank, with_byte};
 
-// The place of a byte among letters; their number where it is none of them.
+// The place of a byte among letters; their number where it is none of them, as the Laws' `place_among` has it.
 pub(crate) fn place_among(letters: &[u8], byte: u8) -> usize
     ensures { (result ≡ place_among letters.now byte) × (result ≤ length letters.now) }
 {

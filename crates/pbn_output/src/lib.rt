@@ -14,7 +14,7 @@ use pbn_record::read_pbn;
 use pbn_text::line_end;
 use text::{lend, write_pair};
 
-// The table that a line says, 0 where it says none.
+// The table that a line says, 0 where it says none, which is no table: `pbn_record` refuses it as it refuses table 0.
 fn table_on(line: &[u8]) -> u32
     ensures { result ≡ table_on line.now }
 {

@@ -11,7 +11,7 @@ fn value_of(b: u8) -> u32
     b.saturating_sub(b'0') as u32
 }
 
-// What one to three digits in a Board line's place say.
+// What one to three digits in a Board line's place say; 0 for none, as for a board of 0, which `board_in` takes neither.
 fn board_said(line: &[u8]) -> u32
     ensures { result ≡ board_said line.now }
 {

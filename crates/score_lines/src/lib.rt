@@ -82,8 +82,8 @@ fn with_score(t: Tally, score: i16) -> Result<Tally, Refused>
     merging::add(t, score, &SUITS)
 }
 
-// The tally of the scores on the lines, all of one deal; or the first line that is refused. A turn goes from a line's start to the next one's: `split_inclusive` is
-// no plainer, since the newline that it leaves at a part's end has to be taken off again where there is one.
+// The tally of the scores on the lines, all of one deal; or the first line that is refused. A turn goes from a line's start to the next one's:
+// `split_inclusive` is no plainer, since the newline that it leaves at a part's end has to be taken off again where there is one.
 pub fn results_of(bytes: &[u8]) -> Result<Tally, RefusedLine>
     ensures { Found bytes.now result }
 {

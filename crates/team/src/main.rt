@@ -9,7 +9,7 @@ use std::io::{Read, Write};
 use team_match::TeamMatch;
 use team_run::{Fed, Reply, Run};
 
-// A run after one read, and whether there may be more to read.
+// A run after one read, and whether there may be more to read. `tree` has its like on a run of its own: `tree_run` says why there are two.
 #[derive(Clone, Copy)]
 struct Turn {
     run: Run,

@@ -10,8 +10,8 @@ use script_line::{Line, first_line, next_line, with_byte};
 use team_match::TeamMatch;
 use team_script::{Board, read_line};
 
-// A run under way: the match, the line so far, and whether it is over. `tree_run` has its like: one type for both, with a trait for what a whole line does and
-// a ghost member for its meaning, is no plainer than the two short functions `take` and `finish`.
+// A run under way: the match, the line so far, and whether it is over. `tree_run` has its like: one type for both, with a trait or a closure for what a whole
+// line does and a ghost member for its meaning, is no plainer than the two short functions `take` and `finish`.
 #[derive(Clone, Copy)]
 pub struct Run {
     pub state: TeamMatch,
@@ -19,7 +19,8 @@ pub struct Run {
     pub over: bool,
 }
 
-// What a line brings: what its board is answered, or that the run ends at a line that cannot be read.
+// What a line brings: what its board is answered, or that the run ends at a line that cannot be read. An Option here would stand in that of `Fed`, where
+// neither lack tells which it is.
 #[derive(Clone, Copy, Debug, PartialEq, Eq)]
 pub enum Reply {
     Answer(Result<Imps, Refusal>),

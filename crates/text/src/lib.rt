@@ -1,4 +1,5 @@
 // Texts put into bytes: at a place, as far as there is room, and to lent bytes, whole or not at all. Each put answers the place after what it put.
+// Numbers are put digit by digit: `write!` into lent bytes tells no such place.
 #![tactic(auto)]
 
 ghost use Rattle.std.specs.Prelude.{◌≡◌, [], ◌∷◌, ◌%◌, length};

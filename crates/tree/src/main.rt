@@ -6,7 +6,7 @@ use std::io;
 use std::io::{Read, Write};
 use tree_run::Run;
 
-// A run after one read, and whether there may be more to read.
+// A run after one read, and whether there may be more to read. `team` has its like on a run of its own: `tree_run` says why there are two.
 #[derive(Clone, Copy)]
 struct Turn {
     run: Run,

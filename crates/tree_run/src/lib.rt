@@ -9,8 +9,8 @@ use script_line::{Line, first_line, next_line, with_byte};
 use tree_script::{Call, read_call};
 use tree_stack::{Said, Stack, make_call};
 
-// A run under way: the stack, the line so far, and whether it is over. `team_run` has its like: one type for both, with a trait for what a whole line does and
-// a ghost member for its meaning, is no plainer than the two short functions `take` and `finish`.
+// A run under way: the stack, the line so far, and whether it is over. `team_run` has its like: one type for both, with a trait or a closure for what a whole
+// line does and a ghost member for its meaning, is no plainer than the two short functions `take` and `finish`.
 #[derive(Clone, Copy)]
 pub struct Run {
     pub stack: Stack,

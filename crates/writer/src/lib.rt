@@ -13,7 +13,8 @@ use crate::write::{Plays, length_of, play_bits, write_contents};
 use contents::{Given, check_contents};
 use laws::{Refusal, Refused};
 
-// Writes a record from its contents over the front of a buffer. The answer is how many bytes were written; or a refusal with its place, with the buffer as it was.
+// Writes a record from its contents over the front of a buffer. The answer is how many bytes were written; or a refusal with its place, with the buffer as it
+// was.
 pub fn write_record(given: Given, out: &mut [u8]) -> Result<usize, Refused>
     ensures answer { placed_of result ≡ written_by (write_of (given_with given.entry.board given.entry.table
         given.entry.holders.now given.entry.calls.now given.entry.plays.now given.entry.claim) (length out.old)) }
