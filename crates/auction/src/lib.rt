@@ -40,7 +40,7 @@ pub struct Auction {
     last: u8,
     bidder: u8,
     // The doubling of the last bid: 0, 1 doubled, 2 redoubled; and 4 more where only passes stand since the bid, or since a double of it
-    // that had only passes before it.
+    // that had only passes before it. A number: `after_call` and `contract_of` reckon with it in every position.
     doubling: u8,
     // How many passes in a row are left until the auction is over.
     left: u8,
@@ -50,7 +50,9 @@ pub struct Auction {
     marked: bool,
 }
 
-// The last bid with its doubling, and its declarer. Without a bid it is level 1, strain 0, declarer nobody.
+// The last bid with its doubling, and its declarer. Without a bid it is level 1, strain 0, declarer nobody: `contract_of` says what it is of every position,
+// and `reached_as` of `last_card` and `OfCards` of `judgement` name it beside whether the board was passed out. So it is no Option, and `out` goes beside it.
+// Numbers: `opening_leader` answers every declarer, and `law77` every level, strain and doubling.
 #[derive(Clone, Copy, Debug, PartialEq, Eq)]
 pub struct Contract {
     pub level: u8,
@@ -68,7 +70,8 @@ impl Contract {
     }
 }
 
-// The place of a refusal at a code with so many codes before it: a wrong mark is the code before.
+// The place of a refusal at a code with so many codes before it: a wrong mark is the code before. The refusal comes as its number, since the clause speaks of
+// every number, 0 and those of no refusal among them.
 pub fn place_of(refusal: u8, codes: u16) -> u16
     ensures { result ≡ place_of refusal codes }
 {
@@ -79,6 +82,7 @@ pub fn place_of(refusal: u8, codes: u16) -> u16
 }
 
 // The seat to the left.
+#[tactic(auto, unfolding(laws::specs::Cards::clockwise))]
 fn next_seat(seat: u8) -> u8
     ensures { result ≡ clockwise seat 1 }
 {
@@ -86,6 +90,7 @@ fn next_seat(seat: u8) -> u8
 }
 
 // How many passes in a row end the auction after a last bid, 0 for none.
+#[tactic(auto, unfolding(crate::specs::Position::passes_to_end))]
 fn passes_to_end(last: u8) -> u8
     ensures { result ≡ passes_to_end last }
 {
@@ -128,6 +133,7 @@ fn entered(word: u64, place: Place, seat: u8) -> u64
 }
 
 // The seat at a place, or nobody.
+#[tactic(auto, unfolding(crate::specs::Position::seat_at))]
 fn seat_at(word: u64, place: Place) -> u8
     ensures { result ≡ seat_at word place.at }
 {
@@ -140,6 +146,7 @@ fn seat_at(word: u64, place: Place) -> u8
 
 impl Auction {
     // The position before the first call.
+    #[tactic(auto, unfolding(crate::specs::Position::before_calls, crate::specs::Position::position_of))]
     pub fn new(dealer: u8) -> Self
         ensures { result ≡ position_of dealer [] }
     {
@@ -188,6 +195,7 @@ impl Auction {
     }
 
     // Whether the auction is over.
+    #[tactic(auto, unfolding(crate::specs::Asked::over_of))]
     pub fn is_over(self) -> bool
         ensures { result ≡ over_of self }
     {
@@ -195,6 +203,7 @@ impl Auction {
     }
 
     // Whether there is no bid: an auction that is over without one is passed out.
+    #[tactic(auto, unfolding(crate::specs::Asked::passed_out_of))]
     pub fn is_passed_out(self) -> bool
         ensures { result ≡ passed_out_of self }
     {
@@ -259,6 +268,7 @@ impl Auction {
     pub fn take(self, code: u8, before: u16) -> Result<Self, Refused>
         ensures { placed_of result ≡ taken_of self code before }
     {
+        // A `match` has its two ways in two lines; `map_err` and `?` would have the first in a closure and the second behind it, and be no shorter.
         match self.verdict(code) {
             Ok(()) => Ok(self.call(code)),
             Err(refusal) => Err(refusal.at(place_of(refusal.number(), before))),

@@ -4,7 +4,7 @@ use mathlib.Core.Path.{◌≡◌, refl, sym, ap, ap₂, ◌∙◌}
 use mathlib.Core.Bool.{Bool, true, false}
 use mathlib.Core.List.{List, [], ◌∷◌}
 use Prim.Native.Nat.{ℕ, zero, suc, ◌+◌, ◌*◌, ◌/◌, ◌%◌, ◌^◌, ◌≤◌, ◌<◌}
-use native.Mathlib.Nat.{not-suc-le-zero, le_of_suc-le-suc, pow-suc, div-one, zero-div, zero-mod, mod-one}
+use native.Mathlib.Nat.{not-suc-le-zero, le_of_suc-le-suc, mod-eq_of_lt, pow-suc, div-one, zero-div, zero-mod, mod-one}
 use native.Mathlib.Numerals.{add-one, one-add}
 use native.Mathlib.Omega.{arith}
 use lib.Dec.{eqb}
@@ -35,6 +35,10 @@ low_bit s x t = omega (arith, bit_lt (eqb x s))
 
 top-bits : (s x : ℕ) (t : List ℕ) → (word_of s t * 2 + bit (eqb x s)) / 2 ≡ word_of s t
 top-bits s x t = omega (arith, bit_lt (eqb x s))
+
+-- the bit of a card, as `card_bit` tells it
+pub own_bit : {card b : ℕ} → card < 64 → b ≡ 2 ^ (card % 64) → b ≡ 2 ^ card
+own_bit {card} h e = e ∙ ap (λ (n : ℕ). 2 ^ n) (mod-eq_of_lt h)
 
 -- the set bits are the cards of the seat
 pub ones_word : (s : ℕ) (l : List ℕ) → ones (word_of s l) ≡ cards_dealt s l

@@ -22,7 +22,7 @@ pub const SUITS: [u8; 52] = [
 ];
 
 // Whether there are 52 holders, and each is a seat.
-fn are_seats(holders: &[u8]) -> bool
+pub fn are_seats(holders: &[u8]) -> bool
     ensures { result ≡ are_seats holders.now }
 {
     holders.len() == 52 && holders.iter().all(|holder| *holder <= 3)

@@ -4,19 +4,18 @@
 
 mod given;
 
-ghost use Rattle.std.specs.Prelude.{◌≡◌, ◌^◌, ◌<◌, unwrap_or, IfSome};
+ghost use Rattle.std.specs.Prelude.{◌≡◌, ◌^◌, ◌%◌, ◌<◌, unwrap_or, IfSome};
 ghost use Rattle.laws.specs.Law2;
 ghost use Rattle.deal.specs.Sides.{law_of};
 ghost use Rattle.deal.specs.Hands.{words_of, suit_bits, has_suit, not_thirteen_from};
 
-pub use given::{Dealt, SUITS, take, take_places};
+pub use given::{Dealt, SUITS, are_seats, take, take_places};
 
 // The bit of a card.
-fn bit_of(card: usize) -> u64
-    requires { card < 52 }
-    ensures { result ≡ 2 ^ card }
+pub fn card_bit(card: usize) -> u64
+    ensures { result ≡ 2 ^ (card % 64) }
 {
-    1u64 << card
+    1u64 << (card % 64)
 }
 
 // How many cards of a suit a hand has.
@@ -27,7 +26,7 @@ pub fn suit_held(hand: u64, suit: u8) -> u32
         return 0;
     }
     let first = 13 * (suit as usize);
-    u64::count_ones(hand / bit_of(first) % 8192)
+    u64::count_ones(hand / card_bit(first) % 8192)
 }
 
 // Whether a hand has a card of a suit.
@@ -44,7 +43,7 @@ pub fn hands(holders: [u8; 52]) -> [u64; 4]
     let mut words = [0u64; 4];
     for (i, holder) in holders.iter().enumerate() {
         if *holder < 4 {
-            words[*holder as usize] += bit_of(i);
+            words[*holder as usize] += card_bit(i);
         }
     }
     words

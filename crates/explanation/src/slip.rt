@@ -32,10 +32,7 @@ fn from_ns(score: i64, declarer: u8) -> i16
     requires { nat_abs score ≤ 7600 }
     ensures { result ≡ ns_score declarer score }
 {
-    if declarer % 2 == 0 {
-        return score as i16;
-    }
-    (-score) as i16
+    law77::ns_score(score, declarer) as i16
 }
 
 // Points that declarer's side gains.

@@ -32,6 +32,7 @@ fn named_by(revoke: bool, required: u64) -> u64
 }
 
 // The five words with one entry of twelve bits more, lowest.
+#[tactic(auto, unfolding(crate::specs::Found::last_of, crate::specs::Found::push_word, crate::specs::Found::pushed))]
 fn pushed(words: [u64; 5], entry: u64) -> [u64; 5]
     ensures { result ≡ pushed words entry }
 {
@@ -45,6 +46,7 @@ fn pushed(words: [u64; 5], entry: u64) -> [u64; 5]
 }
 
 impl Found {
+    #[tactic(auto, unfolding(crate::specs::Found::none_found))]
     pub fn new() -> Self
         ensures { result ≡ none_found }
     {
@@ -58,6 +60,7 @@ impl Found {
     }
 
     // With a card that is a revoke or not, a lead or not, and by a seat that is excused or not.
+    #[tactic(auto, unfolding(crate::specs::Found::with_revoke))]
     pub fn with_revoke(mut self, lead: bool, revoke: bool, excused: bool) -> Self
         ensures { result ≡ with_revoke self lead revoke excused }
     {
@@ -67,6 +70,7 @@ impl Found {
     }
 
     // With a lead, where the card is one.
+    #[tactic(auto, unfolding(crate::specs::Found::with_lead))]
     pub fn with_lead(mut self, lead: bool, revoke: bool, required: u64) -> Self
         ensures { result ≡ with_lead self lead revoke required }
     {
@@ -78,6 +82,7 @@ impl Found {
     }
 
     // With a play against Law 50.
+    #[tactic(auto, unfolding(crate::specs::Found::with_failure))]
     pub fn with_failure(mut self, entry: u64) -> Self
         ensures { result ≡ with_failure self entry }
     {

@@ -5,6 +5,7 @@ ghost use Rattle.found.specs.Told.{popped, failure_bytes_in};
 use crate::Found;
 
 // The five words without their lowest entry.
+#[tactic(auto, unfolding(crate::specs::Told::pop_word, crate::specs::Told::popped))]
 fn popped(words: [u64; 5]) -> [u64; 5]
     ensures { result ≡ popped words }
 {

@@ -1,13 +1,12 @@
 -- The answer's 56 bits as one number, and a score as 16 bits. Assumes nothing.
 use Prim.Native.Nat.{ℕ, ◌≤◌, ◌<◌, ◌+◌, ◌-◌, ◌*◌, ◌%◌}
 use native.Mathlib.Omega.{arith}
-use mathlib.Core.Path.{◌≡◌, refl, sym}
+use mathlib.Core.Path.{◌≡◌, refl, sym, ◌∙◌}
 use mathlib.Core.Bool.{Bool, true, false}
 use mathlib.Core.List.{List, ◌∷◌}
 use borrow.Author.Tests.{le-leb}
-use lib.Dec.{T}
-use lib.IntN.{ℤ, pos, negsuc, neg_ℤ, nat_abs}
-use lib.Signed.{le_z, non_neg}
+use lib.IntN.{ℤ, pos, negsuc, nat_abs}
+use lib.Signed.{le_z}
 use Rattle.laws.specs.Law64.{side_revoked, tricks_after}
 use Rattle.laws.specs.LeadRevoke.{Counted}
 use Rattle.laws.specs.Record.{field, bits, number}
@@ -15,9 +14,12 @@ use Rattle.laws.specs.Judgement.{twos_complement}
 use Rattle.laws.proofs.Tests.{by_test, not_both}
 use Rattle.auction.specs.declared.Contract.{Contract}
 use mir.Syntax.{w64}
-use mir.Val.{to_z, of_z}
+use mir.Val.{to_z, of_z, SFits}
 use mir.Facts.{to_z-of_z}
+use Rattle.std.specs.Int.{int_wrap}
+use Rattle.std.proofs.lemmas.Int.{int_wrap_fits}
 use Rattle.laws.proofs.Integers.{mag-le-size}
+use Rattle.laws.proofs.Slip.{size-ns}
 use Rattle.laws.specs.Law2.{vulnerable}
 use Rattle.laws.specs.Law77.{declarer_score, ns_score}
 use Rattle.play.specs.declared.Tricks.{Tricks}
@@ -50,18 +52,10 @@ unfolding twos_complement
 word_up (pos n) e = refl
 word_up (negsuc n) e = not_both false e refl
 
-pub up-non_neg : (z : ℤ) → le_z (pos 0) z ≡ true → T (non_neg z)
-up-non_neg (pos n) e = tt
-up-non_neg (negsuc n) e = not_both false e refl
-
 pub at_least_0 : (n : ℕ) → le_z (pos 0) (pos n) ≡ true
 at_least_0 n = le-leb 0 n (omega arith)
 
-pub down-non_neg : (z : ℤ) → le_z (pos 0) z ≡ false → T (non_neg (neg_ℤ z))
-down-non_neg (pos n) e = not_both (le_z (pos 0) (pos n)) (at_least_0 n) e
-down-non_neg (negsuc n) e = tt
-
-pub word_down : (z : ℤ) → le_z (pos 0) z ≡ false → 65536 - nat_abs (neg_ℤ z) ≡ twos_complement z
+pub word_down : (z : ℤ) → le_z (pos 0) z ≡ false → 65536 - nat_abs z ≡ twos_complement z
 unfolding twos_complement
 word_down (pos n) e = not_both (le_z (pos 0) (pos n)) (at_least_0 n) e
 word_down (negsuc n) e = refl
@@ -91,3 +85,13 @@ settled board table k ts rs claim left taken moved after v score ns word head pl
 -- a small number, read back from its 64 bits
 pub read_small : (z : ℤ) → nat_abs z < 10000000000000 → to_z w64 (of_z w64 z) ≡ z
 read_small z h = to_z-of_z {w = w64} (record { sfits = omega (arith, mag-le-size z) })
+
+-- the score from North-South of a small number, which does not wrap
+module _ (declarer : ℕ) (z : ℤ) (h : nat_abs z < 10000000000000) {r : ℤ} (e : r ≡ int_wrap w64 (ns_score declarer (to_z w64 (of_z w64 z)))) where
+  pub ns_told : r ≡ ns_score declarer z
+  ns_told =
+      let fits : SFits w64 (ns_score declarer z) = record { sfits = omega (arith, mag-le-size (ns_score declarer z), size-ns declarer z) } in
+      e ∙ rw (read_small z h) (int_wrap_fits w64 (ns_score declarer z) fits)
+
+  pub ns_small : nat_abs r < 10000000000000
+  ns_small = rw ns_told (omega (arith, h, size-ns declarer z))

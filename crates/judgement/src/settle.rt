@@ -1,39 +1,24 @@
 // The judgement's numbers: tricks after Law 64, score by Law 77, and the 56 bits of the answer.
 ghost use Rattle.std.specs.Prelude.{◌≡◌, ◌<◌, ◌^◌, nat_abs};
-ghost use Rattle.laws.specs.Law77.{ns_score};
 ghost use Rattle.laws.specs.Record.{number};
 ghost use Rattle.laws.specs.Judgement.{twos_complement};
 ghost use Rattle.judgement.specs.Settled.{head_fields, play_fields, won_in, settled_fields};
 
 use auction::Contract;
-use law77::{Stake, declarer_score};
+use law77::{Stake, declarer_score, ns_score};
 use play::Tricks;
 use position::Listed;
 
-// The score from North-South.
-fn ns_score(score: i64, declarer: u8) -> i64
-    requires { nat_abs score < 10000000000000 }
-    ensures { (result ≡ ns_score declarer score) × (nat_abs result < 10000000000000) }
-{
-    if declarer % 2 == 0 {
-        return score;
-    }
-    -score
-}
-
-// A score as 16 bits, two's complement.
+// A score as 16 bits, two's complement. The clause speaks of numbers over 16 bits too, which `as u16` would cut.
 fn score_word(score: i64) -> u64
     requires { nat_abs score < 10000000000000 }
     ensures { (result ≡ twos_complement score) × (result < 10000000000000) }
 {
+    let size = score.unsigned_abs();
     if 0 <= score {
-        return score as u64;
+        return size;
     }
-    let size = (-score) as u64;
-    if 65536 < size {
-        return 0;
-    }
-    65536 - size
+    65536u64.saturating_sub(size)
 }
 
 // Board and table at the head of the answer.
@@ -57,6 +42,7 @@ fn contract_bits(k: Contract, won: u16, after: u32, revokes: u8, word: u64) -> u
 }
 
 // Tricks won by declarer's side, claimed ones included.
+#[tactic(auto, unfolding(crate::specs::Settled::won_in))]
 fn won(ts: Tricks, declarer: u8, claim: u8) -> u16
     ensures { result ≡ won_in ts declarer claim }
 {

@@ -24,6 +24,7 @@ pub struct Judged {
 }
 
 // The answer's bits, passed out or with a contract, with so many tricks claimed or without a claim.
+#[tactic(auto, unfolding(crate::specs::Whole::board_fields))]
 fn settle_board(
     board: u8,
     table: u16,

@@ -1,5 +1,7 @@
 // Law 77, item by item: the score of a contract.
 ghost use Rattle.std.specs.Prelude.{◌≡◌, ◌+◌, ◌-◌, ◌*◌, ◌<◌, nat_abs, if◌then◌else◌};
+ghost use Rattle.std.specs.Int.{int_wrap};
+ghost use mir.Syntax.{w64};
 ghost use Rattle.laws.specs.Law77;
 ghost use Rattle.law77.specs.Scoring.{stake_of, made_points};
 
@@ -28,12 +30,14 @@ fn by_doubling(s: Stake, undoubled: u32, doubled: u32, redoubled: u32) -> u32
     }
 }
 
+#[tactic(auto, unfolding(laws::specs::Law77::trick_value))]
 fn trick_value(strain: u8) -> u32
     ensures { result ≡ Law77.trick_value strain }
 {
     if strain < 2 { 20 } else { 30 }
 }
 
+#[tactic(auto, unfolding(laws::specs::Law77::first_trick_value))]
 fn first_trick_value(strain: u8) -> u32
     ensures { result ≡ Law77.first_trick_value strain }
 {
@@ -51,6 +55,7 @@ pub fn trick_points(s: Stake) -> u32
     odd_tricks * by_doubling(s, 1, 2, 4)
 }
 
+#[tactic(auto, unfolding(laws::specs::Law77::overtrick_value))]
 fn overtrick_value(s: Stake) -> u32
     ensures { result ≡ Law77.overtrick_value (stake_of s) }
 {
@@ -59,6 +64,7 @@ fn overtrick_value(s: Stake) -> u32
     by_doubling(s, trick_value(s.strain), doubled, redoubled)
 }
 
+#[tactic(auto, unfolding(laws::specs::Law77::doubled_undertrick))]
 fn doubled_undertrick(s: Stake, k: u32) -> u32
     ensures { result ≡ Law77.doubled_undertrick (stake_of s) k }
 {
@@ -95,6 +101,7 @@ fn is_game(s: Stake) -> bool
     100 <= trick_points(s)
 }
 
+#[tactic(auto, unfolding(laws::specs::Law77::part_score_points))]
 pub fn part_score_points(s: Stake) -> u32
     ensures { result ≡ Law77.part_score_points (stake_of s) }
 {
@@ -104,6 +111,7 @@ pub fn part_score_points(s: Stake) -> u32
     50
 }
 
+#[tactic(auto, unfolding(laws::specs::Law77::game_points))]
 pub fn game_points(s: Stake) -> u32
     ensures { result ≡ Law77.game_points (stake_of s) }
 {
@@ -113,6 +121,7 @@ pub fn game_points(s: Stake) -> u32
     0
 }
 
+#[tactic(auto, unfolding(laws::specs::Law77::slam_points))]
 pub fn slam_points(s: Stake) -> u32
     ensures { result ≡ Law77.slam_points (stake_of s) }
 {
@@ -125,6 +134,7 @@ pub fn slam_points(s: Stake) -> u32
     0
 }
 
+#[tactic(auto, unfolding(laws::specs::Law77::doubling_points))]
 pub fn doubling_points(s: Stake) -> u32
     ensures { result ≡ Law77.doubling_points (stake_of s) }
 {
@@ -155,4 +165,14 @@ pub fn declarer_score(s: Stake, tricks: u32) -> i64
         return made(s, tricks - needed) as i64;
     }
     -(undertricks(s, needed - tricks) as i64)
+}
+
+// A score of declarer's side from North-South, in 64 bits: the least number is its own negation there.
+pub fn ns_score(score: i64, declarer: u8) -> i64
+    ensures { result ≡ int_wrap w64 (Law77.ns_score declarer score) }
+{
+    if declarer % 2 == 0 {
+        return score;
+    }
+    score.wrapping_neg()
 }

@@ -5,6 +5,6 @@
 mod law77;
 
 pub use law77::{
-    Stake, declarer_score, doubling_points, game_points, overtricks, part_score_points,
+    Stake, declarer_score, doubling_points, game_points, ns_score, overtricks, part_score_points,
     slam_points, trick_points, undertricks,
 };

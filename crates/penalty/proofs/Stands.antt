@@ -1,5 +1,6 @@
 -- The penalty cards that the code keeps are the Laws' after every history of which no event is refused: each field, an event at a time.
 -- Assumes nothing.
+use Rattle.std.specs.Prelude.{Some, None}
 use Prim.Native.Nat.{ℕ, ◌<◌}
 use mathlib.Core.Path.{◌≡◌, refl, sym, ap, ◌∙◌}
 use mathlib.Core.Bool.{Bool, true, false, not, ◌&&◌, ◌||◌}
@@ -21,7 +22,7 @@ use Rattle.laws.proofs.KeptCards.{faced_unplayed, major-faced}
 use Rattle.play.proofs.Masks.{word_by, word_same, word_and}
 use Rattle.penalty.specs.declared.Penalty.{Penalty}
 use Rattle.penalty.specs.declared.Turn.{Turn}
-use Rattle.penalty.specs.Position.{start_of, asked_of_lead, asked_in, obeying_in, obeys_in, excused_in, against_50c, against_50d1, fails_in}
+use Rattle.penalty.specs.Position.{start_of, asked_of_lead, asked_by, asked_in, obeying_in, obeys_in, excused_in, against_50c, against_50d1, fails_in}
 use Rattle.penalty.proofs.Tests.{eqb-sym, in_hand, own_faced, own_minor}
 use Rattle.penalty.proofs.Sets.{word_without, word_free, word_card, word_suit, word_meets, word_has}
 
@@ -41,8 +42,8 @@ module _ (deal : List ℕ) (trump opening : ℕ) where
   -- what the seat at turn has before it plays
   pub record AtTurn (t : Turn) (e : List Event) : Type 0 where
     pub hand : t.hand ≡ word_by 52 (λ k. holds deal (cards_of e) (seat_after trump opening e) k)
-    pub first : t.leads ≡ leads e
-    pub led : leads e ≡ false → t.led ≡ led_after e
+    pub first : leads e ≡ true → t.led ≡ None
+    pub led : leads e ≡ false → t.led ≡ Some (led_after e)
 
   abbrev held : List Event → ℕ → Bool
   held e k = holds deal (cards_of e) (seat_after trump opening e) k
@@ -53,15 +54,15 @@ module _ (deal : List ℕ) (trump opening : ℕ) where
   -- ---- what is asked of the card, and which cards obey
   module _ {p : Penalty} {t : Turn} {e : List Event} (s : Stands p e) (a : AtTurn t e) where
     asked_is : asked_in p t ≡ word_by 52 (asked e)
-    unfolding asked_in asked_of_lead
+    unfolding asked_in asked_by asked_of_lead
     asked_is =
-        rw (a.first, s.requires) (by_test (leads e)
-        (λ (q : leads e ≡ true). rw q (by_test (eqb (required e) no_suit)
+        by_test (leads e)
+        (λ (q : leads e ≡ true). rw (a.first q, s.requires) (by_test (eqb (required e) no_suit)
         (λ (n : eqb (required e) no_suit ≡ true). rw (n, s.forbidden)
         (word_free (λ k. is_forbidden trump opening e (suit_of k)) ∙ word_same 52 _ (asked e) (λ k h. sym (asked_free trump opening e q n k))))
         (λ (n : eqb (required e) no_suit ≡ false). rw n
         (word_suit (required e) ∙ word_same 52 _ (asked e) (λ k h. sym (asked-suit trump opening e q n k))))))
-        (λ (q : leads e ≡ false). rw (q, a.led q) (word_suit (led_after e) ∙ word_same 52 _ (asked e) (λ k h. sym (asked_led trump opening e q k)))))
+        (λ (q : leads e ≡ false). rw (a.led q) (word_suit (led_after e) ∙ word_same 52 _ (asked e) (λ k h. sym (asked_led trump opening e q k))))
 
     obeying_is : obeying_in p t ≡ word_by 52 (λ k. held e k && obeys trump opening deal e k)
     unfolding obeying_in obeys is_able

@@ -1,6 +1,6 @@
 -- The penalty cards and what binds the next lead, on the structs that the code keeps, and one step of each kind.
 -- Assumes nothing.
-use Rattle.std.specs.Prelude.{ℕ, ◌+◌, ◌-◌, ◌%◌, ◌^◌, Bool, not, ◌&&◌, ◌||◌, eqb, leb, if◌then◌else◌}
+use Rattle.std.specs.Prelude.{ℕ, ◌+◌, ◌-◌, ◌%◌, ◌^◌, Bool, not, ◌&&◌, ◌||◌, Option, Some, None, eqb, leb, if◌then◌else◌}
 use Rattle.std.specs.Int.Bits.{bit_and, bit_or}
 use Rattle.laws.specs.Cards.{suit_of}
 use Rattle.laws.specs.Law50.{is_honour}
@@ -18,9 +18,14 @@ start_of = record { faced = 0; major = 0; forbidden = 0; required = no_suit; cod
 unfoldable pub asked_of_lead : Penalty → ℕ
 asked_of_lead p = if eqb p.required no_suit then without (2 ^ 52 - 1) p.forbidden else suit_word p.required
 
+-- the cards that do what is asked of a lead, or those of the suit led
+unfoldable pub asked_by : Penalty → Option ℕ → ℕ
+asked_by p None = asked_of_lead p
+asked_by p (Some suit) = suit_word suit
+
 -- the cards that do what is asked
 unfoldable pub asked_in : Penalty → Turn → ℕ
-asked_in p t = if t.leads then asked_of_lead p else suit_word t.led
+asked_in p t = asked_by p t.led
 
 -- the cards of the hand whose play is no revoke
 unfoldable pub obeying_in : Penalty → Turn → ℕ

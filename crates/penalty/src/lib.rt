@@ -28,7 +28,7 @@ ghost use Rattle.penalty.specs.Position.{
 
 use crate::words::{card_word, meets, suit_word, without};
 
-// Whether a number in a card's place begins a code: 52 an exposure, 53 a choice.
+// Whether a number in a card's place begins a code: 52 an exposure, 53 a choice. A number, since the clause says it of every one, cards among them.
 pub fn begins_code(number: u8) -> bool
     ensures { result ≡ begins_code number }
 {
@@ -54,13 +54,13 @@ pub struct Penalty {
 pub struct Turn {
     // Its hand.
     pub hand: u64,
-    // Whether its card is the first of the trick, and the suit led where it is not.
-    pub leads: bool,
-    pub led: u64,
+    // The suit led, where its card is not the first of the trick.
+    pub led: Option<u64>,
 }
 
 impl Penalty {
     // Before the first event.
+    #[tactic(auto, unfolding(crate::specs::Position::start_of))]
     pub fn new() -> Self
         ensures { result ≡ start_of }
     {
@@ -74,6 +74,7 @@ impl Penalty {
     }
 
     // The cards that do what is asked of a lead: those of the suit required, or of no forbidden suit.
+    #[tactic(auto, unfolding(crate::specs::Position::asked_of_lead))]
     fn asked_of_lead(self) -> u64
         ensures { result ≡ asked_of_lead self }
     {
@@ -84,16 +85,18 @@ impl Penalty {
     }
 
     // The cards that do what is asked of the seat at turn: those of the suit led, where its card does not lead.
+    #[tactic(auto, unfolding(crate::specs::Position::asked_in, crate::specs::Position::asked_by))]
     fn asked(self, t: Turn) -> u64
         ensures { result ≡ asked_in self t }
     {
-        if t.leads {
-            return self.asked_of_lead();
+        match t.led {
+            None => self.asked_of_lead(),
+            Some(suit) => suit_word(suit),
         }
-        suit_word(t.led)
     }
 
     // The cards of the hand whose play is no revoke: those that do what is asked, or all where none does.
+    #[tactic(auto, unfolding(crate::specs::Position::obeying_in))]
     fn obeying(self, t: Turn) -> u64
         ensures { result ≡ obeying_in self t }
     {
@@ -106,6 +109,7 @@ impl Penalty {
     }
 
     // Whether the play of a card of the hand is no revoke.
+    #[tactic(auto, unfolding(crate::specs::Position::obeys_in))]
     pub fn obeys(self, t: Turn, card: u8) -> bool
         ensures { result ≡ obeys_in self t card }
     {
@@ -147,6 +151,7 @@ impl Penalty {
     }
 
     // Whether the play of the card is against Law 50C or 50D1.
+    #[tactic(auto, unfolding(crate::specs::Position::fails_in))]
     pub fn fails(self, t: Turn, card: u8) -> bool
         ensures { result ≡ fails_in self t card }
     {
@@ -157,6 +162,7 @@ impl Penalty {
     }
 
     // Whether a card can be exposed that stands at its place with this holder; `side` is the defenders'.
+    #[tactic(auto, unfolding(crate::specs::Position::exposable_in))]
     pub fn exposable(self, side: u64, holder: u64, card: u8) -> bool
         ensures { result ≡ exposable_in self side holder card }
     {
@@ -170,6 +176,7 @@ impl Penalty {
     }
 
     // Whether the bans that run leave room for a choice: a suit may be required if there is none.
+    #[tactic(auto, unfolding(crate::specs::Position::unbarred_in))]
     fn unbarred(self, kind: u8) -> bool
         ensures { result ≡ unbarred_in self kind }
     {
@@ -180,6 +187,7 @@ impl Penalty {
     }
 
     // Whether a choice is open, where a defender is to lead whose partner was dealt these cards.
+    // Kinds are numbers: of those over 1 the clause says that none is open.
     pub fn is_open(self, partner: u64, kind: u8, suit: u8) -> bool
         ensures { result ≡ open_in self partner kind suit }
     {
@@ -196,6 +204,7 @@ impl Penalty {
     }
 
     // After a card: it is faced no more, the requirement has ended, and the bans where the leader has lost the lead.
+    #[tactic(auto, unfolding(crate::specs::Position::after_card))]
     pub fn after_card(mut self, card: u8, keeps: bool) -> Self
         ensures { result ≡ after_card self card keeps }
     {
@@ -229,6 +238,7 @@ impl Penalty {
     }
 
     // With a card exposed, whose owner was dealt the cards of `own`.
+    #[tactic(auto, unfolding(crate::specs::Position::with_exposed))]
     pub fn with_exposed(mut self, own: u64, card: u8, deliberate: bool) -> Self
         ensures { result ≡ with_exposed self own card deliberate }
     {
@@ -241,6 +251,7 @@ impl Penalty {
     }
 
     // With the suit required or forbidden.
+    #[tactic(auto, unfolding(crate::specs::Position::with_kind))]
     fn with_kind(mut self, kind: u8, suit: u8) -> Self
         ensures { result ≡ with_kind self kind suit }
     {
@@ -253,6 +264,7 @@ impl Penalty {
     }
 
     // With a choice made, before a lead by a defender whose partner was dealt the cards of `partner`.
+    #[tactic(auto, unfolding(crate::specs::Position::with_choice))]
     pub fn with_choice(mut self, partner: u64, kind: u8, suit: u8) -> Self
         ensures { result ≡ with_choice self partner kind suit }
     {

@@ -13,6 +13,7 @@ pub(crate) fn card_word(card: u8) -> u64
 }
 
 // The cards of a suit; none for a number from 4 on.
+#[tactic(auto, unfolding(crate::specs::Words::suit_word))]
 pub(crate) fn suit_word(suit: u64) -> u64
     ensures { result ≡ suit_word suit }
 {
@@ -23,6 +24,7 @@ pub(crate) fn suit_word(suit: u64) -> u64
 }
 
 // Whether two sets have a card in common.
+#[tactic(auto, unfolding(crate::specs::Words::meets))]
 pub(crate) fn meets(a: u64, b: u64) -> bool
     ensures { result ≡ meets a b }
 {
@@ -30,6 +32,7 @@ pub(crate) fn meets(a: u64, b: u64) -> bool
 }
 
 // The cards of a set that are not in another.
+#[tactic(auto, unfolding(crate::specs::Words::without))]
 pub(crate) fn without(a: u64, b: u64) -> u64
     ensures { result ≡ without a b }
 {

@@ -29,7 +29,8 @@ ghost use Rattle.play.specs.History.{best_worth, told_of};
 
 pub use crate::told::byte_after;
 pub use crate::words::with_bit;
-use crate::words::{CARDS, card_bit, entered, with_four};
+use crate::words::{CARDS, entered, with_four};
+use deal::card_bit;
 use laws::Refusal;
 
 // What the code keeps of the play. A word of entries has the last entry lowest.
@@ -56,14 +57,15 @@ pub struct Play {
     pub holders: [u8; 52],
 }
 
-// A trick's answer: the seat that won it, and the card that won.
+// A trick's answer: the seat that won it, and the card that won. Numbers: `won`'s clause says them of every worth, with cards up to 63.
 #[derive(Clone, Copy, Debug, PartialEq, Eq)]
 pub struct Won {
     pub seat: u8,
     pub card: u8,
 }
 
-// The complete tricks: how many, those of each side, and their answers.
+// The complete tricks: how many, those of each side, and their answers. A count beside an array: there is no heap, and `tricks_in` says what stands at all
+// thirteen places.
 #[derive(Clone, Copy, Debug, PartialEq, Eq)]
 pub struct Tricks {
     pub count: u8,
@@ -72,6 +74,7 @@ pub struct Tricks {
 }
 
 // The holders with one place changed: who held the card has played it. Every place is compared, and none is stored to apart.
+// By an index: after `holders.iter_mut().zip(&CARDS)` no proof knows what was written, and this one does not close.
 pub fn with_played(mut holders: [u8; 52], card: u8) -> [u8; 52]
     ensures { result ≡ put_played holders card }
 {
@@ -83,6 +86,7 @@ pub fn with_played(mut holders: [u8; 52], card: u8) -> [u8; 52]
 
 impl Play {
     // The position before the first card, which `opening` leads; `dealt` has the hands of the holders.
+    #[tactic(auto, unfolding(crate::specs::Position::start_of))]
     pub fn new(holders: [u8; 52], dealt: [u64; 4], trump: u8, opening: u8) -> Self
         ensures { result ≡ start_of holders dealt trump opening }
     {
@@ -104,6 +108,7 @@ impl Play {
     }
 
     // The seat at turn.
+    #[tactic(auto, unfolding(crate::specs::Position::turn_of, laws::specs::Cards::clockwise))]
     pub fn turn(self) -> u64
         ensures { result ≡ turn_of self }
     {
@@ -120,6 +125,7 @@ impl Play {
     }
 
     // Whether the seat at turn holds a card of the suit led.
+    #[tactic(auto, unfolding(crate::specs::Position::could_follow))]
     fn could_follow(self) -> bool
         ensures { result ≡ could_follow self }
     {
@@ -163,6 +169,7 @@ impl Play {
     }
 
     // The position with the suit led, where the card is the first of its trick.
+    #[tactic(auto, unfolding(crate::specs::Position::with_lead))]
     fn with_lead(mut self, card: u8) -> Self
         ensures { result ≡ with_lead self card }
     {
@@ -200,7 +207,7 @@ impl Play {
         let held = self.holders;
         let after = with_played(held, card);
         self.holders = after;
-        self.left = self.left ^ card_bit(card);
+        self.left = self.left ^ card_bit(card as usize);
         self.revoked = with_bit(self.revoked, revoke);
         self.best = self.best.max(worth);
         self.played = self.played % 64 + 1;
@@ -220,6 +227,7 @@ impl Play {
     }
 
     // The position with the trick counted, where it is complete: its answer is kept, and its winner leads to the next.
+    #[tactic(auto, unfolding(crate::specs::Position::with_trick))]
     fn with_trick(mut self) -> Self
         ensures { result ≡ with_trick self }
     {
@@ -237,6 +245,7 @@ impl Play {
     }
 
     // The position with one card more, played by the seat at turn.
+    #[tactic(auto, unfolding(crate::specs::Position::step))]
     #[inline(always)]
     pub fn play(mut self, card: u8) -> Self
         ensures { result ≡ step self card }

@@ -7,6 +7,7 @@ use crate::{Play, Tricks, Won};
 
 impl Play {
     // How many tricks are complete; there are thirteen.
+    #[tactic(auto, unfolding(crate::specs::Told::complete_in))]
     fn complete(self) -> u8
         ensures value { result ≡ complete_in self }
         ensures most { result ≤ 13 }
@@ -45,6 +46,7 @@ impl Play {
     }
 
     // The entries of the tricks, with the trick under way where there is one; its winner is not told.
+    #[tactic(auto, unfolding(crate::specs::Told::entries_in))]
     pub fn entries(self) -> u64
         ensures { result ≡ entries_in self }
     {
@@ -56,6 +58,7 @@ impl Play {
 }
 
 // The byte of a revoke at a card with so many cards after it, by the entries and the number of cards played.
+#[tactic(auto, unfolding(crate::specs::Told::byte_after, crate::specs::Told::revoke_byte))]
 pub fn byte_after(entries: u64, played: u64, later: u64) -> u8
     ensures { result ≡ byte_after entries played later }
 {

@@ -1,5 +1,5 @@
 // Words of the play: bits, entries of a few bits each with the last one lowest, and the card of each place.
-ghost use Rattle.std.specs.Prelude.{◌≡◌, ◌^◌, ◌<◌};
+ghost use Rattle.std.specs.Prelude.{◌≡◌};
 ghost use Rattle.play.specs.Words.{with_bit, with_four, with_entry};
 
 // The card of each place.
@@ -9,15 +9,8 @@ pub(crate) const CARDS: [u8; 52] = [
     50, 51,
 ];
 
-// The bit of a card.
-pub(crate) fn card_bit(card: u8) -> u64
-    requires { card < 52 }
-    ensures { result ≡ 2 ^ card }
-{
-    1u64 << card
-}
-
 // The word with one bit more, lowest.
+#[tactic(auto, unfolding(crate::specs::Words::with_bit))]
 pub fn with_bit(word: u64, bit: u64) -> u64
     ensures { result ≡ with_bit word bit }
 {
@@ -25,6 +18,7 @@ pub fn with_bit(word: u64, bit: u64) -> u64
 }
 
 // The word with four bits more, lowest.
+#[tactic(auto, unfolding(crate::specs::Words::with_four))]
 pub(crate) fn with_four(word: u64, bits: u64) -> u64
     ensures { result ≡ with_four word bits }
 {
@@ -32,6 +26,7 @@ pub(crate) fn with_four(word: u64, bits: u64) -> u64
 }
 
 // The word with one trick more, lowest: its winner 2 bits, and the suit led 2.
+#[tactic(auto, unfolding(crate::specs::Words::with_entry))]
 pub(crate) fn entered(word: u64, winner: u64, led: u64) -> u64
     ensures { result ≡ with_entry word winner led }
 {

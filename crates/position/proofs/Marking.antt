@@ -1,11 +1,13 @@
 -- What the code marks of a card is what its definition says: a law over variables. Assumes nothing.
+use Rattle.std.specs.Prelude.{Some, None, is_some, if◌then◌else◌}
 use Prim.Native.Nat.{ℕ, ◌+◌, ◌%◌}
-use mathlib.Core.Path.{◌≡◌}
+use mathlib.Core.Path.{◌≡◌, refl}
 use mathlib.Core.Bool.{Bool, true, false, not}
 use mathlib.Core.List.{List}
 use native.Mathlib.Omega.{arith}
 use lib.ListN.{get_or}
 use Rattle.laws.specs.Cards.{clockwise, partner_of}
+use Rattle.play.specs.Position.{leads}
 use Rattle.penalty.specs.declared.Turn.{Turn}
 use Rattle.penalty.specs.Position.{obeys_in, excused_in, fails_in}
 use Rattle.found.specs.declared.found.Found.{Found}
@@ -13,14 +15,21 @@ use Rattle.position.specs.declared.table.Table.{Table}
 use Rattle.found.specs.Found.{with_revoke, with_lead, with_failure}
 use Rattle.position.specs.Table.{turn_in, entry_in, revokes_in, found_of, found_after}
 
+-- a turn without a suit led is a lead
+leads_none : (first lead : Bool) (suit : ℕ) → is_some (if first then None else Some suit) ≡ not lead → lead ≡ first
+leads_none true true suit e = refl
+leads_none true false suit e = e
+leads_none false true suit e = e
+leads_none false false suit e = refl
+
 -- what is found of a card, where it is against Law 50 and where it is not
-module _ (t : Table) (card : ℕ) {turn : Turn} {obeys excused fails : Bool} {revoked led : Found} (et : turn ≡ turn_in t)
-    (eo : obeys ≡ obeys_in t.penalty turn card) (ex : excused ≡ excused_in t.penalty turn)
-    (er : revoked ≡ with_revoke t.found turn.leads (not obeys) excused) (el : led ≡ with_lead revoked turn.leads (not obeys) t.penalty.required)
+module _ (t : Table) (card : ℕ) (lead : Bool) {turn : Turn} {obeys excused fails : Bool} {revoked led : Found} (et : turn ≡ turn_in t)
+    (eo : obeys ≡ obeys_in t.penalty turn card) (ex : excused ≡ excused_in t.penalty turn) (en : is_some turn.led ≡ not lead)
+    (er : revoked ≡ with_revoke t.found lead (not obeys) excused) (el : led ≡ with_lead revoked lead (not obeys) t.penalty.required)
     (ef : fails ≡ fails_in t.penalty turn card) where
   found_so_far : led ≡ found_of t card
   unfolding found_of revokes_in turn_in
-  found_so_far = rw (el, er, eo, ex, et)
+  found_so_far = rw (el, er, eo, ex, leads_none (leads t.play) lead t.play.led (rw et at en), et) refl
 
   pub found_failure : fails ≡ true → {entry : ℕ} {more : Found} → entry ≡ entry_in t card → more ≡ with_failure led entry → more ≡ found_after t card
   unfolding found_after

@@ -1,5 +1,6 @@
 -- The position that the code keeps is the Laws' after every history of events of which none is refused, and what it says of the next event is the Law's.
 -- Assumes nothing.
+use Rattle.std.specs.Prelude.{Some}
 use Prim.Native.Nat.{ℕ, ◌≤◌, ◌<◌, ◌+◌, ◌%◌}
 use mathlib.Core.Path.{◌≡◌, refl, sym, ap, ◌∙◌}
 use mathlib.Core.Bool.{Bool, true, false, not}
@@ -151,8 +152,8 @@ module _ (deal : List ℕ) (trump opening : ℕ) where
       turn_stands =
           record {
             hand = hand_word;
-            first = PlayStands.lead_test deal trump opening all s.play;
-            led = λ n. s.play.led (eqb-false (cards_in_trick g) 0 n);
+            first = λ n. rw (PlayStands.lead_test deal trump opening all s.play, n) refl;
+            led = λ n. rw (PlayStands.lead_test deal trump opening all s.play, n) (ap Some (s.play.led (eqb-false (cards_in_trick g) 0 n)));
           }
 
       -- ---- what is found of a card

@@ -1,6 +1,6 @@
 -- The position of the play with its penalty cards, on the structs that the code keeps, and one step of each kind.
 -- Assumes nothing.
-use Rattle.std.specs.Prelude.{ℕ, ◌+◌, ◌*◌, ◌/◌, ◌%◌, Bool, not, ◌&&◌, List, eqb, leb, get_or, if◌then◌else◌}
+use Rattle.std.specs.Prelude.{ℕ, Some, None, ◌+◌, ◌*◌, ◌/◌, ◌%◌, Bool, not, ◌&&◌, List, eqb, leb, get_or, if◌then◌else◌}
 use Rattle.laws.specs.Cards.{partner_of}
 use Rattle.laws.specs.Refusals.{Answer, accepted, not_exposable, choice_not_open}
 use Rattle.laws.specs.Refused.{answer_by}
@@ -24,7 +24,7 @@ table_of holders dealt trump opening = table_with (Position.start_of holders dea
 
 -- what the seat at turn has before it plays
 unfoldable pub turn_in : Table → Turn
-turn_in t = record { hand = hand_of t.play; leads = leads t.play; led = t.play.led }
+turn_in t = record { hand = hand_of t.play; led = if leads t.play then None else Some t.play.led }
 
 -- a play against Law 50 as twelve bits: trick 4, seat 2, card 6
 unfoldable pub entry_in : Table → ℕ → ℕ

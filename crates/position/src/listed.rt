@@ -15,6 +15,7 @@ pub struct Listed {
 }
 
 // The byte of a revoke at the card with so many cards after it: with the suit required, where it is a lead against a requirement.
+#[tactic(auto, unfolding(crate::specs::Listed::listed_byte, crate::specs::Listed::told_of))]
 fn listed_byte(entries: u64, played: u64, named: u64, later: u64) -> u8
     ensures { result ≡ listed_byte entries played named later }
 {
@@ -32,6 +33,7 @@ fn listed_byte(entries: u64, played: u64, named: u64, later: u64) -> u8
 }
 
 // The bit of a card with so many cards after it.
+#[tactic(auto, unfolding(crate::specs::Listed::flag_at))]
 fn flag_at(word: u64, later: u64) -> u8
     ensures { result ≡ flag_at word later }
 {
@@ -62,6 +64,7 @@ impl Table {
         }
         let count = n as u8;
         let mut later: u64 = 0;
+        // A turn takes the lowest bit that is left, which no range of the library counts.
         while rest != 0 {
             let low = rest.trailing_zeros() as u64;
             rest = (rest >> low) / 2;

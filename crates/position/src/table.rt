@@ -29,7 +29,7 @@ use play::Play;
 #[derive(Clone, Copy, Debug, PartialEq, Eq)]
 pub struct Table {
     pub play: Play,
-    // The side of the defenders: 0 North-South, 1 East-West.
+    // The side of the defenders: 0 North-South, 1 East-West. A number: `exposable_in` and `defender_leads` take it % 2, whatever it is.
     pub side: u64,
     pub penalty: Penalty,
     pub found: Found,
@@ -37,6 +37,7 @@ pub struct Table {
 
 impl Table {
     // The position before the first event; `opening` leads, and is a defender.
+    #[tactic(auto, unfolding(crate::specs::Table::table_of))]
     pub fn new(holders: [u8; 52], dealt: [u64; 4], trump: u8, opening: u8) -> Self
         ensures { result ≡ table_of holders dealt trump opening }
     {
@@ -59,18 +60,20 @@ impl Table {
     }
 
     // What the seat at turn has before it plays.
+    #[tactic(auto, unfolding(crate::specs::Table::turn_in))]
     fn turn_now(self) -> Turn
         ensures { result ≡ turn_in self }
     {
         let p = self.play;
+        let led = if p.played % 4 == 0 { None } else { Some(p.led) };
         Turn {
             hand: p.hand(),
-            leads: p.played % 4 == 0,
-            led: p.led,
+            led,
         }
     }
 
     // A play against Law 50 as twelve bits: trick 4, seat 2, card 6.
+    #[tactic(auto, unfolding(crate::specs::Table::entry_in))]
     fn entry(self, card: u8) -> u64
         ensures { result ≡ entry_in self card }
     {
@@ -86,9 +89,10 @@ impl Table {
         let pen = self.penalty;
         let revoke = !pen.obeys(t, card);
         let free = pen.excused(t);
+        let leads = t.led.is_none();
         let mut found = self.found;
-        found = found.with_revoke(t.leads, revoke, free);
-        found = found.with_lead(t.leads, revoke, pen.required);
+        found = found.with_revoke(leads, revoke, free);
+        found = found.with_lead(leads, revoke, pen.required);
         if pen.fails(t, card) {
             return found.with_failure(self.entry(card));
         }
@@ -128,6 +132,7 @@ impl Table {
 // Codes: whether one is refused, and the step.
 impl Table {
     // Whether there is no room for a code: forty went before.
+    #[tactic(auto, unfolding(crate::specs::Table::full_in))]
     pub fn codes_full(self) -> bool
         ensures { result ≡ full_in self }
     {
@@ -136,6 +141,7 @@ impl Table {
     }
 
     // The cards that the owner of a card was dealt.
+    #[tactic(auto, unfolding(crate::specs::Table::owner_word))]
     fn owner_word(self, card: u8) -> u64
         ensures { result ≡ owner_word self card }
     {
@@ -160,6 +166,7 @@ impl Table {
     }
 
     // Whether a card may be exposed.
+    #[tactic(auto, unfolding(crate::specs::Table::exposure_in))]
     pub fn exposure_verdict(self, card: u8) -> Result<(), Refusal>
         ensures { number_or_none result ≡ exposure_in self card }
     {
@@ -177,6 +184,7 @@ impl Table {
     }
 
     // Whether a defender is to lead.
+    #[tactic(auto, unfolding(crate::specs::Table::defender_leads))]
     fn defender_leads(self) -> bool
         ensures { result ≡ defender_leads self }
     {
@@ -203,6 +211,7 @@ impl Table {
     }
 
     // The position with a card exposed.
+    #[tactic(auto, unfolding(crate::specs::Table::after_exposed))]
     pub fn expose(mut self, card: u8, deliberate: bool) -> Self
         ensures { result ≡ after_exposed self card deliberate }
     {
@@ -214,6 +223,7 @@ impl Table {
     }
 
     // The position with a choice made.
+    #[tactic(auto, unfolding(crate::specs::Table::after_choice))]
     pub fn choose(mut self, kind: u8, suit: u8) -> Self
         ensures { result ≡ after_choice self kind suit }
     {

@@ -1,5 +1,6 @@
 -- The listed revokes and the winners, a place at a time. Assumes nothing.
-use Rattle.std.specs.List.{list_any}
+use Rattle.std.specs.List.{list_any, filter}
+use Rattle.std.proofs.lemmas.List.{take-map, drop-map}
 use Rattle.std.proofs.lemmas.List.Folds.{list_any-append}
 use Rattle.std.specs.Prelude.{if◌then◌else◌}
 use Prim.Native.Nat.{ℕ, zero, suc, ◌≤◌, ◌<◌, ◌+◌, ◌/◌, ◌%◌, min}
@@ -7,7 +8,6 @@ use mathlib.Core.Path.{◌≡◌, refl, sym, ap, ◌∙◌}
 use mathlib.Core.Bool.{Bool, true, false, ◌&&◌, ◌||◌}
 use mathlib.Core.List.{List, [], ◌∷◌}
 use native.Mathlib.Omega.{arith}
-use native.Mathlib.Numerals.{add-one}
 use borrow.Author.Tests.{leb-true, leb-false, eqb-true, eq-eqb}
 use lib.Dec.{eqb, leb}
 use lib.ListN.{length, get_or, take, drop, length-take, length-map, get_or-map, get_or-eq_default}
@@ -75,14 +75,6 @@ module _ (ts : Tricks) (all : length ts.answers ≡ 13) where
 
   seat-is : (i : ℕ) → get_or seats i 0 ≡ seat_at i
   seat-is i = get_or-map (λ (w : Won). w.seat) ts.answers i no_trick
-
-  next-winner : (i : ℕ) → i < min ts.count 13 → drop i (winners_in ts) ≡ seat_at i ∷ drop (suc i) (winners_in ts)
-  unfolding winners_in
-  next-winner i h = rw (sym (seat-is i)) (from_place seats ts.count i (omega (arith, seats_13)) (omega arith))
-
-  winners_end : (i : ℕ) → min ts.count 13 ≤ i → drop i (winners_in ts) ≡ []
-  unfolding winners_in
-  winners_end i h = past_end (take ts.count seats) i (rw (length-take ts.count seats) (omega (arith, seats_13)))
 
 -- ---- a revoke before: the same seat and suit, by the low four bits
 pub same_low : (a b : ℕ) → (eqb (a / 4 % 4) (b / 4 % 4) && eqb (a % 4) (b % 4)) ≡ eqb (a % 16) (b % 16)
@@ -171,15 +163,26 @@ side-listed rs all free side =
     = omega (arith, length-take rs.count rs.list, length-take rs.count rs.excused) in
     ap (list_any (λ (b : ℕ). eqb (b / 4 % 2) side)) many ∙ side_any side (take rs.count rs.list) (take rs.count rs.excused) as_long
 
+-- the tricks of a side among answers
+won-of : (side : ℕ) (l : List Won) → length (filter (λ (w : Won). eqb (w.seat % 2) side) l) ≡ tricks_won side (seats_of l)
+won-of side [] = sym (won-none side)
+won-of side (w ∷ l) =
+    let rest = won-of side l in
+    let next = won-next side w.seat (seats_of l) in
+    by_test (eqb (w.seat % 2) side)
+    (λ (q : eqb (w.seat % 2) side ≡ true). rw q (omega (arith, rest, rw q at next)))
+    (λ (q : eqb (w.seat % 2) side ≡ false). rw q (omega (arith, rest, rw q at next)))
+
+pub won-listed : (ts : Tricks) (side i : ℕ)
+    → length (filter (λ (w : Won). eqb (w.seat % 2) side) (drop i (take ts.count ts.answers))) ≡ tricks_won side (drop i (winners_in ts))
+unfolding winners_in
+won-listed ts side i =
+    let seat : Won → ℕ = λ w. w.seat in
+    let seats : drop i (take ts.count (seats_of ts.answers)) ≡ seats_of (drop i (take ts.count ts.answers)) =
+    ap (drop i) (take-map seat ts.count ts.answers) ∙ drop-map seat i (take ts.count ts.answers) in
+    won-of side (drop i (take ts.count ts.answers)) ∙ ap (tricks_won side) (sym seats)
+
 module _ (ts : Tricks) (all : length ts.answers ≡ 13) where
-  pub won_at : (side i : ℕ) → i < min ts.count 13
-      → tricks_won side (drop i (winners_in ts)) ≡ (if eqb (seat_at ts all i % 2) side then 1 else 0) + tricks_won side (drop (i + 1) (winners_in ts))
-  won_at side i h =
-      ap (tricks_won side) (next-winner ts all i h) ∙ won-next side (seat_at ts all i) (drop (suc i) (winners_in ts)) ∙ rw add-one
-
-  pub won_end : (side i : ℕ) → min ts.count 13 ≤ i → tricks_won side (drop i (winners_in ts)) ≡ 0
-  won_end side i h = ap (tricks_won side) (winners_end ts all i h) ∙ won-none side
-
   -- the winner at a place, or nobody
   pub winner_at : (i : ℕ) → i < min ts.count 13 → seat_at ts all i ≡ get_or (winners_in ts) i no_seat
   unfolding winners_in

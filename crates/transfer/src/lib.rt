@@ -71,14 +71,12 @@ fn won_from(ts: Tricks, side: u8, trick: u8) -> u16
     ensures { result ≡ tricks_won side (drop (trick - 1) (winners_in ts)) }
 {
     let first = trick.saturating_sub(1) as usize;
-    let mut n: u16 = 0;
-    // By places: for a slice it would have to be asked first whether the trick lies behind the last.
-    for i in first..(ts.count as usize).min(13) {
-        if ts.answers[i].seat % 2 == side {
-            n += 1;
-        }
-    }
-    n
+    ts.answers
+        .iter()
+        .take(ts.count as usize)
+        .skip(first)
+        .filter(|won| won.seat % 2 == side)
+        .count() as u16
 }
 
 // The tricks that a side gets by the claim: declarer's side those claimed, the defenders the others.

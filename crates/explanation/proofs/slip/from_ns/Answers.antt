@@ -1,31 +1,25 @@
--- `from_ns` meets its contract. Assumes nothing.
-use Prim.Native.Nat.{◌≤◌}
-use mathlib.Core.Path.{refl}
+-- `from_ns` meets its contract: a small score does not wrap, and its 16 bits hold it. Assumes nothing.
 use native.Mathlib.Omega.{arith}
-use borrow.Author.Tests.{eq-eqb, ne_eqb}
-use lib.IntN.{ℤ, neg_ℤ, nat_abs, +ℤ_idl}
+use mathlib.Core.Path.{◌≡◌, ◌∙◌}
+use lib.IntN.{nat_abs}
 use mir.Syntax.{w64}
-use mir.Val.{SFits}
-use mir.Facts.{to_z-of_z}
-use Rattle.laws.proofs.Integers.{size_neg, mag-le-size}
+use mir.Val.{to_z, of_z}
+use Prim.Native.Nat.{◌<◌}
 use Rattle.laws.specs.Law77.{ns_score}
-use Rattle.explanation.proofs.Granting.{told}
+use Rattle.judgement.proofs.Settling.{read_small, ns_told, ns_small}
+use Rattle.explanation.proofs.Granting.{fits_16, told, ns-small}
 use Rattle.explanation.proofs.slip.from_ns.Goals as goal
 
--- a small score's negation is small, and its 64 bits hold it
-minus : (z : ℤ) → nat_abs z ≤ 7600 → nat_abs (neg_ℤ z) ≤ 7600
-minus z h = rw (size_neg z) h
+-- the score in 64 bits is the score from North-South
+whole : (c : goal.After-ns_score) → to_z w64 (of_z w64 c.ns_score.result) ≡ ns_score c.args.declarer c.args.score
+whole c =
+    let d = c.args.declarer in
+    let z = c.args.score in
+    let h : nat_abs z < 10000000000000 = omega (arith, c.requires) in
+    read_small c.ns_score.result (ns_small d z h c.ns_score.ensures) ∙ ns_told d z h c.ns_score.ensures
 
-minus-64 : (z : ℤ) → nat_abs z ≤ 7600 → SFits w64 (neg_ℤ z)
-minus-64 z h = record { sfits = omega (arith, mag-le-size (neg_ℤ z), size_neg z) }
-
-pub returns-then-declarer-eq0 : goal.returns-then-declarer-eq0
-unfolding ns_score
-returns-then-declarer-eq0 c = rw (to_z-of_z c.ranges.score, eq-eqb _ _ c.if-declarer-eq0.true) (told refl c.requires)
+pub overflow_cast-result : goal.overflow_cast-result
+overflow_cast-result c = rw (whole c) (fits_16 (ns_score c.args.declarer c.args.score) (ns-small c.args.declarer c.args.score c.requires))
 
 pub returns : goal.returns
-unfolding ns_score
-returns c =
-    let z = c.args.score in
-    rw (to_z-of_z c.ranges.score, +ℤ_idl, to_z-of_z (minus-64 z c.requires), ne_eqb _ _ c.if-declarer-eq0.false)
-    (told refl (minus z c.requires))
+returns c = told (whole c) (ns-small c.args.declarer c.args.score c.requires)

@@ -2,7 +2,6 @@
 use mathlib.Core.Path.{ap}
 use lib.Dec.{leb}
 use Rattle.laws.specs.Law77.{is_game}
-use borrow.Author.Rules.{rules}
 use Rattle.law77.proofs.law77.is_game.Goals as goal
 
 pub returns : goal.returns

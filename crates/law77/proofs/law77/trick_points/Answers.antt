@@ -1,5 +1,5 @@
 -- `trick_points` meets its contract. Assumes nothing.
-use Prim.Native.Nat.{◌<◌, ◌-◌}
+use Prim.Native.Nat.{◌<◌}
 use native.Mathlib.Omega.{arith}
 use Rattle.laws.specs.Law77.{trick_points}
 use Rattle.law77.proofs.Points.{first-le, later-le, points-le}

@@ -3,7 +3,6 @@ use native.Mathlib.Omega.{arith}
 use Rattle.laws.specs.Law77.{undertrick_value}
 use Rattle.law77.proofs.Points.{doubled_le}
 use Rattle.law77.specs.Scoring.{stake_of}
-use borrow.Author.Rules.{rules}
 use Rattle.law77.proofs.law77.undertrick_value.Goals as goal
 
 pub overflow_mul-doubled : goal.overflow_mul-doubled
