@@ -4,50 +4,34 @@
 
 ghost use Rattle.std.specs.Prelude.{◌≤◌, length};
 
-use auction::Auction;
+use auction::{Auction, Contract};
 use laws::Refused;
 use std::io;
 use std::io::Write;
 
-fn number<W: Write>(out: &mut W, n: u64) -> io::Result<()> {
-    write!(out, "{n}")
-}
-
-fn text<W: Write>(out: &mut W, bytes: &[u8]) -> io::Result<()> {
-    out.write_all(bytes)
-}
-
 // A refused call: its number and its place.
 fn refused<W: Write>(out: &mut W, why: Refused) -> io::Result<()> {
-    text(out, b"refused ")?;
-    number(out, why.refusal.number() as u64)?;
-    text(out, b" at ")?;
-    number(out, why.place as u64)?;
-    text(out, b"\n")
+    writeln!(out, "refused {} at {}", why.refusal.number(), why.place)
 }
 
 // The contract of an auction.
-fn contract<W: Write>(out: &mut W, a: Auction) -> io::Result<()> {
-    let k = a.contract();
-    number(out, k.level as u64)?;
-    text(out, b" ")?;
-    number(out, k.strain as u64)?;
-    text(out, b" ")?;
-    number(out, k.doubling as u64)?;
-    text(out, b" ")?;
-    number(out, k.declarer as u64)?;
-    text(out, b"\n")
+fn contract<W: Write>(out: &mut W, k: Contract) -> io::Result<()> {
+    writeln!(
+        out,
+        "{} {} {} {}",
+        k.level, k.strain, k.doubling, k.declarer
+    )
 }
 
 // How the calls left an auction.
 fn ending<W: Write>(out: &mut W, a: Auction) -> io::Result<()> {
     if !a.is_over() {
-        return text(out, b"not over\n");
+        return writeln!(out, "not over");
     }
     if a.is_passed_out() {
-        return text(out, b"passed out\n");
+        return writeln!(out, "passed out");
     }
-    contract(out, a)
+    contract(out, a.contract())
 }
 
 // The calls of one auction, up to the first that is refused.
@@ -55,8 +39,8 @@ fn show<W: Write>(out: &mut W, dealer: u8, calls: &[u8]) -> io::Result<()>
     requires { length calls.now ≤ 511 }
 {
     let mut a = Auction::new(dealer);
-    for i in 0..calls.len() {
-        match a.take(calls[i], i as u16) {
+    for (i, call) in calls.iter().enumerate() {
+        match a.take(*call, i as u16) {
             Ok(next) => a = next,
             Err(why) => return refused(out, why),
         }

@@ -3,31 +3,19 @@
 // with 1 where it is any.
 #![tactic(auto)]
 
-use std::io;
 use std::io::Write;
-
-fn flag<W: Write>(out: &mut W, b: bool) -> io::Result<()> {
-    if b {
-        return write!(out, " 1");
-    }
-    write!(out, " 0")
-}
+use std::{array, io};
 
 fn board<W: Write>(out: &mut W, b: u8) -> io::Result<()> {
     let dealer = deal::dealer(b);
-    write!(out, "{b} {dealer}")?;
-    flag(out, deal::vulnerable(b, 0))?;
-    flag(out, deal::vulnerable(b, 3))?;
-    writeln!(out)
+    let north_south = u8::from(deal::vulnerable(b, 0));
+    let east_west = u8::from(deal::vulnerable(b, 3));
+    writeln!(out, "{b} {dealer} {north_south} {east_west}")
 }
 
 // A deal in which each suit is one seat's: clubs North's, diamonds East's, hearts South's, spades West's.
 fn by_suits() -> [u8; 52] {
-    let mut holders = [0u8; 52];
-    for card in 0..52 {
-        holders[card] = (card / 13) as u8;
-    }
-    holders
+    array::from_fn(|card| (card / 13 % 4) as u8)
 }
 
 fn holdings<W: Write>(out: &mut W, holders: [u8; 52]) -> io::Result<()> {
@@ -37,8 +25,8 @@ fn holdings<W: Write>(out: &mut W, holders: [u8; 52]) -> io::Result<()> {
     let north = hands[0];
     for suit in 0..5u8 {
         let held = deal::suit_held(north, suit);
-        write!(out, " {held}")?;
-        flag(out, deal::holds_suit(north, suit))?;
+        let any = u8::from(deal::holds_suit(north, suit));
+        write!(out, " {held} {any}")?;
     }
     writeln!(out)
 }

@@ -8,19 +8,6 @@ use position::{Listed, Table};
 use std::io;
 use std::io::Write;
 
-fn number<W: Write>(out: &mut W, n: u64) -> io::Result<()> {
-    write!(out, "{n}")
-}
-
-fn text<W: Write>(out: &mut W, bytes: &[u8]) -> io::Result<()> {
-    out.write_all(bytes)
-}
-
-fn line<W: Write>(out: &mut W, n: u8) -> io::Result<()> {
-    number(out, n as u64)?;
-    text(out, b"\n")
-}
-
 // A rank and a suit make the seat, in turn: North has the 2 6 T A of clubs, the 5 9 K of diamonds, the 4 8 Q of hearts and the 3 7 J of spades;
 // East the 3 7 J, 2 6 T A, 5 9 K and 4 8 Q; South the 4 8 Q, 3 7 J, 2 6 T A and 5 9 K; West the 5 9 K, 4 8 Q, 3 7 J and 2 6 T A.
 const HOLDERS: [u8; 52] = [
@@ -32,11 +19,11 @@ const HOLDERS: [u8; 52] = [
 fn stand<W: Write>(out: &mut W, t: Table, taken: Result<Table, Refusal>) -> io::Result<Table> {
     match taken {
         Ok(next) => {
-            line(out, 0)?;
+            writeln!(out, "0")?;
             Ok(next)
         }
         Err(refusal) => {
-            line(out, refusal.number())?;
+            writeln!(out, "{}", refusal.number())?;
             Ok(t)
         }
     }
@@ -83,26 +70,22 @@ fn third_trick<W: Write>(out: &mut W, t: Table) -> io::Result<Table> {
 }
 
 fn show_revoke<W: Write>(out: &mut W, byte: u8, excused: u8) -> io::Result<()> {
-    number(out, (byte / 16) as u64)?;
-    text(out, b",")?;
-    number(out, (byte / 4 % 4) as u64)?;
-    text(out, b",")?;
-    number(out, (byte % 4) as u64)?;
-    text(out, b",")?;
-    number(out, excused as u64)?;
-    text(out, b"\n")
+    writeln!(out, "{},{},{},{excused}", byte / 16, byte / 4 % 4, byte % 4)
 }
 
 fn show_revokes<W: Write>(out: &mut W, rs: Listed) -> io::Result<()> {
-    line(out, rs.count)?;
-    show_revoke(out, rs.list[0], rs.excused[0])?;
-    show_revoke(out, rs.list[1], rs.excused[1])
+    writeln!(out, "{}", rs.count)?;
+    for (byte, excused) in rs.list.iter().zip(&rs.excused).take(2) {
+        show_revoke(out, *byte, *excused)?;
+    }
+    Ok(())
 }
 
 fn show_failures<W: Write>(out: &mut W, bytes: [u8; 52]) -> io::Result<()> {
-    line(out, bytes[0])?;
-    line(out, bytes[1])?;
-    line(out, bytes[2])
+    for byte in bytes.iter().take(3) {
+        writeln!(out, "{byte}")?;
+    }
+    Ok(())
 }
 
 fn main(rt: HostRuntime) -> io::Result<()> {

@@ -5,58 +5,34 @@
 
 use play::{Play, Tricks};
 use position::{Listed, Table};
-use std::io;
 use std::io::Write;
-
-fn number<W: Write>(out: &mut W, n: u64) -> io::Result<()> {
-    write!(out, "{n}")
-}
-
-fn text<W: Write>(out: &mut W, bytes: &[u8]) -> io::Result<()> {
-    out.write_all(bytes)
-}
+use std::{array, io};
 
 // A rank and a suit make the seat, in turn: North has the 2 6 T A of clubs, the 5 9 K of diamonds, the 4 8 Q of hearts and the 3 7 J of spades;
 // East the 3 7 J, 2 6 T A, 5 9 K and 4 8 Q; South the 4 8 Q, 3 7 J, 2 6 T A and 5 9 K; West the 5 9 K, 4 8 Q, 3 7 J and 2 6 T A.
 fn deal() -> [u8; 52] {
-    let mut holders = [0u8; 52];
-    for card in 0..52 {
-        holders[card] = ((card % 13 + card / 13) % 4) as u8;
-    }
-    holders
+    array::from_fn(|card| ((card % 13 + card / 13) % 4) as u8)
 }
 
 fn show_winners<W: Write>(out: &mut W, ts: Tricks) -> io::Result<()> {
-    text(out, b"winners")?;
+    write!(out, "winners")?;
     for won in ts.answers.iter().take(ts.count as usize) {
-        text(out, b" ")?;
-        number(out, won.seat as u64)?;
-        text(out, b",")?;
-        number(out, won.card as u64)?;
+        write!(out, " {},{}", won.seat, won.card)?;
     }
-    text(out, b"\n")
+    writeln!(out)
 }
 
 fn show_revokes<W: Write>(out: &mut W, rs: Listed) -> io::Result<()> {
-    text(out, b"revokes")?;
+    write!(out, "revokes")?;
     for byte in rs.list.iter().take(rs.count as usize) {
-        let revoke = *byte as u64;
-        text(out, b" ")?;
-        number(out, revoke / 16)?;
-        text(out, b",")?;
-        number(out, revoke / 4 % 4)?;
-        text(out, b",")?;
-        number(out, revoke % 4)?;
+        write!(out, " {},{},{}", byte / 16, byte / 4 % 4, byte % 4)?;
     }
-    text(out, b"\n")
+    writeln!(out)
 }
 
 fn show_sides<W: Write>(out: &mut W, ts: Tricks) -> io::Result<()> {
-    text(out, b"NS ")?;
-    number(out, ts.won[0] as u64)?;
-    text(out, b" EW ")?;
-    number(out, ts.won[1] as u64)?;
-    text(out, b"\n")
+    let [north_south, east_west] = ts.won;
+    writeln!(out, "NS {north_south} EW {east_west}")
 }
 
 // South's claim of so many of the tricks left.
@@ -69,29 +45,18 @@ fn show_claim<W: Write>(
 ) -> io::Result<()> {
     let won = u16::from(ts.won[0]) + u16::from(claim);
     let moved = transfer::transferred(rs, ts, 2, claim, left);
-    text(out, b"claim ")?;
-    number(out, claim as u64)?;
-    text(out, b" moved ")?;
-    number(out, moved as u64)?;
-    text(out, b" after ")?;
-    number(out, transfer::tricks_after(rs, 2, won, moved) as u64)?;
-    text(out, b"\n")
+    let after = transfer::tricks_after(rs, 2, won, moved);
+    writeln!(out, "claim {claim} moved {moved} after {after}")
 }
 
 // Hearts are trumps and West leads; South is declarer and North dummy.
 fn show<W: Write>(out: &mut W, cards: &[u8], claim: u8, left: u8) -> io::Result<()> {
     let holders = deal();
     let mut p = Play::new(holders, deal::hands(holders), 2, 3);
-    for i in 0..cards.len() {
-        match p.take(cards[i]) {
+    for (i, card) in cards.iter().enumerate() {
+        match p.take(*card) {
             Ok(next) => p = next,
-            Err(why) => {
-                text(out, b"refused ")?;
-                number(out, why.number() as u64)?;
-                text(out, b" at ")?;
-                number(out, i as u64)?;
-                return text(out, b"\n");
-            }
+            Err(why) => return writeln!(out, "refused {} at {i}", why.number()),
         }
     }
     let ts = p.tricks();

@@ -6,66 +6,28 @@ use score::{Imps, Matchpoints};
 use std::io;
 use std::io::Write;
 
-fn text<W: Write>(out: &mut W, bytes: &[u8]) -> io::Result<()> {
-    out.write_all(bytes)
-}
-
-fn number<W: Write>(out: &mut W, n: u64) -> io::Result<()> {
-    write!(out, "{n}")
-}
-
-fn signed<W: Write>(out: &mut W, n: i32) -> io::Result<()> {
-    write!(out, "{n}")
-}
-
 // Writes two scores and their IMPs.
 fn imps<W: Write>(out: &mut W, first: i16, second: i16) -> io::Result<()> {
-    signed(out, i32::from(first))?;
-    text(out, b" ")?;
-    signed(out, i32::from(second))?;
     match score::imps_of(first, second) {
-        Err(refusal) => {
-            text(out, b" refused ")?;
-            number(out, u64::from(refusal.number()))?;
-        }
-        Ok(i) => {
-            text(out, b" ")?;
-            signed(out, i.0)?;
-        }
+        Err(refusal) => writeln!(out, "{first} {second} refused {}", refusal.number()),
+        Ok(i) => writeln!(out, "{first} {second} {}", i.0),
     }
-    text(out, b"\n")
 }
 
 // Writes two numbers of IMPs and their sum.
 fn imp_sum<W: Write>(out: &mut W, a: i32, b: i32) -> io::Result<()> {
-    text(out, b"IMPs ")?;
-    signed(out, a)?;
-    text(out, b" ")?;
-    signed(out, b)?;
     match score::add_imps(Imps(a), Imps(b)) {
-        Some(i) => {
-            text(out, b" ")?;
-            signed(out, i.0)?;
-        }
-        None => text(out, b" does not fit")?,
+        Some(i) => writeln!(out, "IMPs {a} {b} {}", i.0),
+        None => writeln!(out, "IMPs {a} {b} does not fit"),
     }
-    text(out, b"\n")
 }
 
 // Writes two numbers of matchpoints and their sum.
 fn matchpoint_sum<W: Write>(out: &mut W, a: u32, b: u32) -> io::Result<()> {
-    text(out, b"matchpoints ")?;
-    number(out, u64::from(a))?;
-    text(out, b" ")?;
-    number(out, u64::from(b))?;
     match score::add_matchpoints(Matchpoints(a), Matchpoints(b)) {
-        Some(m) => {
-            text(out, b" ")?;
-            number(out, u64::from(m.0))?;
-        }
-        None => text(out, b" does not fit")?,
+        Some(m) => writeln!(out, "matchpoints {a} {b} {}", m.0),
+        None => writeln!(out, "matchpoints {a} {b} does not fit"),
     }
-    text(out, b"\n")
 }
 
 fn examples<W: Write>(out: &mut W) -> io::Result<()> {
