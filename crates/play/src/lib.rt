@@ -1,5 +1,6 @@
 // The play, a card at a time: a position by value that steps and returns itself.
-// A holder is a seat, 0 to 3, or 4 + the seat that played the card. Numbers from 52 on are no cards and change nothing.
+// A holder is a seat, 0 to 3, or 4 + the seat that played the card. Numbers from 52 on are no cards and change nothing;
+// `verdict` and `play` test that once, and what stands behind them asks for a card.
 #![tactic(auto)]
 
 mod told;

@@ -6,7 +6,7 @@ ghost use Rattle.text.specs.Putting.{Put};
 
 use text::{put_byte, put_bytes, put_digit, put_field};
 
-// What a table gives for each side.
+// What a table gives for each side. Two functions ask which: a closure for each would have to say by a ghost member what it puts, and be no shorter.
 #[derive(Clone, Copy, Debug, PartialEq, Eq)]
 pub(crate) enum Columns {
     Matchpoints,

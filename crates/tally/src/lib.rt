@@ -15,7 +15,8 @@ use score::valid;
 
 // A board with the deal of its results, the holders of the 52 cards, and with its distinct scores, highest first, and the number of results of each; unused
 // places are zero, and those of the deal where there is no result. Scores and counts are two arrays of fixed length: a rule of the project (no heap, fixed
-// memory), and `Shape`, `count_in` and the 398 bytes speak of them. Loops over entries go by the place, which reads both arrays.
+// memory), and `Shape`, `count_in` and the 398 bytes speak of them. Loops over entries go by the place, which reads both arrays. That a tally is well formed
+// is no ghost field: nobody's tally is trusted, and 17 is answered for one that is not.
 #[derive(Clone, Copy, Debug, PartialEq, Eq)]
 pub struct Tally {
     pub board: u8,
