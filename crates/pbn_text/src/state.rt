@@ -1,7 +1,8 @@
 // What was read of a text, line by line. A line where the reading stops leaves nothing.
 ghost use Rattle.std.specs.Prelude.{◌≡◌, List, ℕ};
 ghost use Rattle.laws.specs.PbnText.{columns, Game};
-ghost use Rattle.laws.specs.PbnReading.{Stage as Laws, board, deal, auction, cards, calls_in, play_in, line_in};
+ghost use Rattle.laws.specs.PbnReading.{board, deal, auction, cards, calls_in, play_in, line_in};
+ghost use Rattle.laws.specs.PbnReading as Law;
 ghost use Rattle.pbn_text.specs.TextOf.{text_of, kept_after};
 
 use crate::numbers::{Numbers, with_row};
@@ -72,7 +73,7 @@ pub(crate) fn auction_line(t: Text, line: &[u8]) -> Option<Text>
 
 // The Play tag.
 pub(crate) fn play_line(t: Text, line: &[u8]) -> Option<Text>
-    ensures { (stage : Laws) (x : Game) → t ≡ text_of (record { stage = stage; game = x }) → result ≡ kept_after (play_in x line.now) }
+    ensures { (stage : Law.Stage) (x : Game) → t ≡ text_of (record { stage = stage; game = x }) → result ≡ kept_after (play_in x line.now) }
 {
     let seat = seat_in(line, b"[Play \"")?;
     Some(Text {
@@ -85,7 +86,7 @@ pub(crate) fn play_line(t: Text, line: &[u8]) -> Option<Text>
 
 // A line of calls.
 pub(crate) fn calls_line(t: Text, line: &[u8]) -> Option<Text>
-    ensures { (stage : Laws) (x : Game) → t ≡ text_of (record { stage = stage; game = x }) → result ≡ kept_after (calls_in x line.now) }
+    ensures { (stage : Law.Stage) (x : Game) → t ≡ text_of (record { stage = stage; game = x }) → result ≡ kept_after (calls_in x line.now) }
 {
     let row = row_in(line, false)?;
     let calls = with_row(t.calls, row);
