@@ -88,97 +88,87 @@ fn zeros() -> Tally {
 
 // The number of a refusal, 0 for none.
 fn refusal_of<T: Copy>(answer: Result<T, Refused>) -> u8 {
-    match answer {
-        Ok(_) => 0,
-        Err(refused) => refused.refusal.number(),
-    }
-}
-
-// Writes a space and a number.
-fn number<W: Write>(out: &mut W, n: u8) -> io::Result<()> {
-    write!(out, " {n}")
+    answer.map_or_else(|refused| refused.refusal.number(), |_| 0)
 }
 
 // Writes a kind of tally, and what each call answers to one of that kind.
-fn line<W: Write>(out: &mut W, kind: &[u8], t: Tally) -> io::Result<()> {
+fn line<W: Write>(out: &mut W, kind: &str, t: Tally) -> io::Result<()> {
     let good = described();
-    out.write_all(kind)?;
-    number(out, u8::from(tally::well_formed(t)))?;
-    number(out, refusal_of(merging::add(t, 100, &SUITS)))?;
-    number(out, refusal_of(merging::merge(t, good)))?;
-    number(out, refusal_of(merging::merge(good, t)))?;
-    number(out, refusal_of(merging::merge(t, t)))?;
-    number(out, refusal_of(matchpoints::matchpoints(t, 420, &SUITS)))?;
-    out.write_all(b"\n")
+    let formed = u8::from(tally::well_formed(t));
+    let added = refusal_of(merging::add(t, 100, &SUITS));
+    let first = refusal_of(merging::merge(t, good));
+    let second = refusal_of(merging::merge(good, t));
+    let both = refusal_of(merging::merge(t, t));
+    let asked = refusal_of(matchpoints::matchpoints(t, 420, &SUITS));
+    writeln!(
+        out,
+        "{kind} {formed} {added} {first} {second} {both} {asked}"
+    )
 }
 
 fn main(rt: HostRuntime) -> io::Result<()> {
     let mut out = rt.stdout();
-    line(&mut out, b"as described:", described())?;
-    line(&mut out, b"unsorted:", with_entry(1, 460, 2))?;
-    line(&mut out, b"repeated score:", with_entry(1, 450, 2))?;
+    line(&mut out, "as described:", described())?;
+    line(&mut out, "unsorted:", with_entry(1, 460, 2))?;
+    line(&mut out, "repeated score:", with_entry(1, 450, 2))?;
     line(
         &mut out,
-        b"score not a multiple of 10:",
+        "score not a multiple of 10:",
         with_entry(1, 425, 2),
     )?;
-    line(&mut out, b"score above 7600:", with_entry(0, 7610, 1))?;
-    line(&mut out, b"score below -7600:", with_entry(2, -7610, 1))?;
+    line(&mut out, "score above 7600:", with_entry(0, 7610, 1))?;
+    line(&mut out, "score below -7600:", with_entry(2, -7610, 1))?;
     line(
         &mut out,
-        b"count 0 before a used place:",
+        "count 0 before a used place:",
         with_entry(1, 420, 0),
     )?;
     line(
         &mut out,
-        b"count 0 at the first place:",
+        "count 0 at the first place:",
         with_entry(0, 450, 0),
     )?;
     line(
         &mut out,
-        b"no entry before a used place:",
+        "no entry before a used place:",
         with_entry(1, 0, 0),
     )?;
+    line(&mut out, "score in an unused place:", with_entry(3, -60, 0))?;
     line(
         &mut out,
-        b"score in an unused place:",
-        with_entry(3, -60, 0),
-    )?;
-    line(
-        &mut out,
-        b"score in the last place:",
+        "score in the last place:",
         with_entry(127, -60, 0),
     )?;
-    line(&mut out, b"count in an unused place:", with_entry(64, 0, 1))?;
-    line(&mut out, b"count in the last place:", with_entry(127, 0, 1))?;
-    line(&mut out, b"129 results:", with_entry(2, -50, 126))?;
-    line(&mut out, b"257 results:", with_entry(1, 420, 255))?;
-    line(&mut out, b"board 0:", with_board(0))?;
-    line(&mut out, b"board 128:", with_board(128))?;
-    line(&mut out, b"board 255:", with_board(255))?;
-    line(&mut out, b"beside a refusal:", zeros())?;
-    line(&mut out, b"another deal:", with_holders(0, 1, 13, 0))?;
+    line(&mut out, "count in an unused place:", with_entry(64, 0, 1))?;
+    line(&mut out, "count in the last place:", with_entry(127, 0, 1))?;
+    line(&mut out, "129 results:", with_entry(2, -50, 126))?;
+    line(&mut out, "257 results:", with_entry(1, 420, 255))?;
+    line(&mut out, "board 0:", with_board(0))?;
+    line(&mut out, "board 128:", with_board(128))?;
+    line(&mut out, "board 255:", with_board(255))?;
+    line(&mut out, "beside a refusal:", zeros())?;
+    line(&mut out, "another deal:", with_holders(0, 1, 13, 0))?;
     line(
         &mut out,
-        b"another deal in the last cards:",
+        "another deal in the last cards:",
         with_holders(26, 3, 39, 2),
     )?;
     line(
         &mut out,
-        b"a holder that is no seat:",
+        "a holder that is no seat:",
         with_holders(51, 4, 51, 4),
     )?;
     line(
         &mut out,
-        b"a seat with twelve cards:",
+        "a seat with twelve cards:",
         with_holders(13, 2, 13, 2),
     )?;
-    line(&mut out, b"results and no deal:", without_deal())?;
-    line(&mut out, b"a deal and no result:", deal_alone())?;
+    line(&mut out, "results and no deal:", without_deal())?;
+    line(&mut out, "a deal and no result:", deal_alone())?;
     line(
         &mut out,
-        b"no result, and one holder:",
+        "no result, and one holder:",
         without_result(51, 1),
     )?;
-    line(&mut out, b"no result:", without_result(0, 0))
+    line(&mut out, "no result:", without_result(0, 0))
 }

@@ -2,27 +2,24 @@
 // what docs/PERFORMANCE.md measures. Each merge takes a count from the one before it, so that none can be left out.
 #![tactic(auto)]
 
-ghost use Rattle.std.specs.Prelude.{◌≤◌};
-
 use deal::SUITS;
-use std::io;
+use std::{array, io};
 use tally::Tally;
 
 // A tally of board 1 and of one deal: 64 scores, each 20 below the one before it, one result each.
-fn filled(top: u16) -> Tally
-    requires { (1280 ≤ top) × (top ≤ 2000) }
-{
-    let mut t = Tally {
+fn filled(top: i16) -> Tally {
+    Tally {
         board: 1,
         deal: SUITS,
-        scores: [0i16; 128],
-        counts: [0u8; 128],
-    };
-    for i in 0..64 {
-        t.scores[i] = (top - 20 * i as u16) as i16;
-        t.counts[i] = 1;
+        scores: array::from_fn(|i| {
+            if i < 64 {
+                top.saturating_sub(20 * i as i16)
+            } else {
+                0
+            }
+        }),
+        counts: array::from_fn(|i| u8::from(i < 64)),
     }
-    t
 }
 
 // How many of n merges are accepted.

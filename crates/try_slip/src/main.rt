@@ -4,10 +4,10 @@
 use std::io::Write;
 use std::{fs, io};
 
-// The slip of a record.
-fn show<W: Write>(out: &mut W, name: &[u8], record: &[u8]) -> io::Result<()> {
-    out.write_all(name)?;
-    out.write_all(b":\n")?;
+// The slip of a record. Other programs that try a text have their like of this and of what follows: one of each for all would stand in a crate of its own, with
+// a trait for the texts, and be no plainer.
+fn show<W: Write>(out: &mut W, name: &str, record: &[u8]) -> io::Result<()> {
+    writeln!(out, "{name}:")?;
     let mut text = [0u8; 72];
     match slip_text::write(record, &mut text) {
         Some(length) => out.write_all(&text[..length]),
@@ -20,17 +20,17 @@ fn file<W: Write>(rt: &HostRuntime, out: &mut W, name: &str) -> io::Result<()> {
     let mut record = [0u8; 4096];
     let mut file = fs::open(rt, name)?;
     let n = filling::fill(&mut file, &mut record)?;
-    show(out, name.as_bytes(), &record[..n])
+    show(out, name, &record[..n])
 }
 
 // What the slip of no bytes gives in lent bytes, all `.` before.
 fn lend<W: Write>(out: &mut W, bytes: &mut [u8]) -> io::Result<()> {
     match slip_text::write(b"", bytes) {
-        Some(_) => out.write_all(b"written:\n"),
-        None => out.write_all(b"too short:\n"),
+        Some(_) => writeln!(out, "written:"),
+        None => writeln!(out, "too short:"),
     }?;
     out.write_all(bytes)?;
-    out.write_all(b"\n")
+    writeln!(out)
 }
 
 fn main(rt: HostRuntime) -> io::Result<()> {
@@ -46,8 +46,8 @@ fn main(rt: HostRuntime) -> io::Result<()> {
     file(&rt, &mut out, "longest-slip")?;
     file(&rt, &mut out, "passed-out")?;
     file(&rt, &mut out, "claim-of-13")?;
-    let mut enough = [46u8; 6];
+    let mut enough = [b'.'; 6];
     lend(&mut out, &mut enough)?;
-    let mut few = [46u8; 3];
+    let mut few = [b'.'; 3];
     lend(&mut out, &mut few)
 }

@@ -3,7 +3,7 @@ use Rattle.text.proofs.Puts.{written-prefix, written-length}
 use Rattle.try_best.proofs.show.Goals as goal
 
 pub slice_bounds-text-end : goal.slice_bounds-text-end
-slice_bounds-text-end g c = written-prefix _ _ _ _ _ c.write.ensures.answer c.write.ensures.bytes c.in-Some.is
+slice_bounds-text-end g c = written-prefix _ _ _ _ _ c.write-2.ensures.answer c.write-2.ensures.bytes c.in-Some.is
 
-pub slice_bounds-write_all-end-in-Some : goal.slice_bounds-write_all-end-in-Some
-slice_bounds-write_all-end-in-Some g c = written-length _ _ _ _ _ c.write.ensures.answer c.write.ensures.bytes c.in-Some.is
+pub slice_bounds-write_all-end : goal.slice_bounds-write_all-end
+slice_bounds-write_all-end g c = written-length _ _ _ _ _ c.write-2.ensures.answer c.write-2.ensures.bytes c.in-Some.is
