@@ -27,6 +27,7 @@ pub fn may_play(p: Play, card: u8) -> bool
 }
 
 // What the card gained that led to the position: 1 where it completed a trick that the side won, else 0.
+#[tactic(auto, unfolding(crate::specs::Search::gain_in))]
 fn gain(after: Play, side: u64) -> u16
     ensures gain { result ≡ gain_in side after }
     ensures one { result ≤ 1 }
@@ -41,6 +42,7 @@ fn gain(after: Play, side: u64) -> u16
 }
 
 // Whether a player of the side is at turn.
+#[tactic(auto, unfolding(crate::specs::Search::ours_in))]
 fn is_ours(p: Play, side: u64) -> bool
     ensures { result ≡ ours_in side p }
 {

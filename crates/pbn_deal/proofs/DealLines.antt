@@ -1,17 +1,15 @@
 -- The Deal line: it is read as the seat and the holders that it says, where it is their line. Assumes nothing.
 use Rattle.std.specs.Prelude.{Option, Some, None, leb}
 use Rattle.std.specs.Prelude.{if◌then◌else◌}
-use Prim.Native.Nat.{ℕ, ◌+◌, ◌-◌, ◌≤◌, ◌<◌}
-use native.Mathlib.Numerals.{add-one}
+use Prim.Native.Nat.{ℕ, ◌-◌, ◌≤◌, ◌<◌}
 use native.Mathlib.Omega.{arith}
 use mathlib.Core.Path.{◌≡◌, sym, ap, ap₂, ◌∙◌}
-use mathlib.Core.Bool.{Bool, true, false, not, ◌&&◌}
+use mathlib.Core.Bool.{true, false, ◌&&◌}
 use mathlib.Core.List.{List, [], ◌∷◌, ◌++◌}
-use borrow.Author.Tests.{leb-true, leb-false, eq-eqb, lt-ltb, le-ltb}
+use borrow.Author.Tests.{leb-true, leb-false, lt-ltb, le-ltb}
 use lib.Dec.{ltb}
-use lib.ListN.{length, get_or, take, drop, drop_of_length-le, length-append}
+use lib.ListN.{length, take, drop, drop_of_length-le, length-append}
 use lib.Seq.{drop-cons}
-use Rattle.laws.specs.Choice.{some}
 use Rattle.laws.specs.Cards.{clockwise, clubs, diamonds, hearts, spades}
 use Rattle.laws.specs.Contents.{are_seats}
 use Rattle.laws.specs.PbnText.{letter_of, seat_letters, space, dot, deal_tag, tag_end, ranks_held, hand_and, hands_and, deal_line}
@@ -22,28 +20,6 @@ use Rattle.pbn_deal.specs.Walks.{follows}
 use Rattle.pbn_deal.specs.declared.deal_line.Deal.{Deal}
 use Rattle.pbn_deal.specs.DealOn.{deal_on}
 use Rattle.pbn_words.proofs.TagLines.{same_append}
-
--- ---- each card has a holder
-module _ (holders : List ℕ) where
-  -- .. from a place on
-  abbrev pub held_from : ℕ → Bool
-  held_from i = not (some (λ holder. ltb 3 holder) (drop i holders))
-
-  pub seats-from : length holders ≡ 52 → are_seats holders ≡ held_from 0
-  unfolding are_seats
-  seats-from all = rw (eq-eqb (length holders) 52 all)
-
-  pub none_here : (i : ℕ) → i < length holders → 3 < get_or holders i 0 → held_from i ≡ false
-  unfolding some
-  none_here i h e = rw (drop-cons holders i 0 h, lt-ltb 3 (get_or holders i 0) e)
-
-  pub held_here : (i : ℕ) → i < length holders → get_or holders i 0 ≤ 3 → held_from i ≡ held_from (i + 1)
-  unfolding some
-  held_here i h e = rw (add-one i, drop-cons holders i 0 h, le-ltb 3 (get_or holders i 0) e)
-
-  pub held_all : (i : ℕ) → length holders ≤ i → held_from i ≡ true
-  unfolding some
-  held_all i h = rw (drop_of_length-le holders h)
 
 -- ---- the line of a seat and holders
 module _ (line : List ℕ) (first : ℕ) (holders : List ℕ) where

@@ -18,7 +18,7 @@ use Rattle.laws.specs.Cards.{clockwise}
 use Rattle.laws.specs.PbnText.{rank_letters, space, dot}
 use Rattle.laws.specs.PbnReading.{place_among, held_by}
 use Rattle.laws.proofs.Tests.{by_test}
-use Rattle.pbn_deal.specs.declared.deal.Held.{Held}
+use Rattle.pbn_deal.specs.declared.held.Held.{Held}
 use Rattle.pbn_deal.specs.Walks.{with_rank, with_byte}
 
 -- ---- the place of a byte among letters

@@ -3,7 +3,7 @@ use Rattle.std.specs.Prelude.{ℕ, ◌+◌, ◌-◌, ◌*◌, Bool, false, List,
 use Rattle.laws.specs.Cards.{clockwise, spades}
 use Rattle.laws.specs.PbnText.{rank_letters, space, dot}
 use Rattle.laws.specs.PbnReading.{same_bytes, place_among}
-use Rattle.pbn_deal.specs.declared.deal.Held.{Held}
+use Rattle.pbn_deal.specs.declared.held.Held.{Held}
 
 -- the line was the same up to a place, and from there on it is these bytes
 unfoldable pub follows : List ℕ → Option ℕ → List ℕ → Bool

@@ -1,12 +1,12 @@
 // The Deal line, read: the seat that it starts from and the holders that it says, where it is their line.
 ghost use Rattle.std.specs.Prelude.{◌≡◌, ◌<◌};
-ghost use Rattle.laws.specs.Contents.{are_seats};
 ghost use Rattle.laws.specs.PbnText.{deal_line};
 ghost use Rattle.laws.specs.PbnReading.{same_bytes};
 ghost use Rattle.pbn_deal.specs.DealOn.{deal_on};
 
-use crate::deal::{held_by, place_among};
+use crate::held::{held_by, place_among};
 use crate::walk::{over_byte, over_hands};
+use deal::are_seats;
 use pbn_words::seat_letter;
 
 // The seat and the holders.
@@ -14,18 +14,6 @@ use pbn_words::seat_letter;
 pub struct Deal {
     pub first: u8,
     pub holders: [u8; 52],
-}
-
-// Each card has a holder.
-fn all_held(holders: [u8; 52]) -> bool
-    ensures { result ≡ are_seats holders }
-{
-    for holder in &holders {
-        if 3 < *holder {
-            return false;
-        }
-    }
-    true
 }
 
 // The line of a seat and holders.
@@ -59,7 +47,7 @@ pub fn deal_in(line: &[u8]) -> Option<Deal>
     }
     let end = line.len() - 2;
     let holders = held_by(&line[9..end], first).holders;
-    if !all_held(holders) {
+    if !are_seats(&holders) {
         return None;
     }
     if !is_deal_line(line, first, holders) {

@@ -26,6 +26,7 @@ pub struct Fed {
 }
 
 // A run before its first byte.
+#[tactic(auto, unfolding(crate::specs::Runs::start_of, tally::specs::Tallies::tally_of))]
 pub fn start() -> Run
     ensures { result ≡ start_of }
 {
@@ -58,6 +59,7 @@ fn call_in(line: Line) -> Option<Call>
 }
 
 // The line is whole: its call is made.
+#[tactic(auto, unfolding(crate::specs::Runs::line_done))]
 fn line_done(run: Run) -> Fed
     ensures { brought result ≡ line_done run }
 {

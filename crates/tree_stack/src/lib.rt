@@ -102,6 +102,7 @@ fn land(s: Stack, at: usize, used: usize, made: Result<Tally, Refused>) -> Step
 }
 
 // The top tally of a stack, where it has one.
+#[tactic(auto, unfolding(crate::specs::Stacks::top_of))]
 pub fn top(s: Stack) -> Option<Tally>
     ensures { result ≡ top_of s }
 {
@@ -226,6 +227,7 @@ fn award_step(s: Stack, percent: u32) -> Step
 }
 
 // A call on a stack, or none where a line could not be read. That, and a stack that is too short or too full, end the run.
+#[tactic(auto, unfolding(crate::specs::Stacks::step_of))]
 pub fn make_call(s: Stack, call: Option<Call>) -> Step
     ensures { stepped result ≡ step_of s call }
 {

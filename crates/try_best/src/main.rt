@@ -4,8 +4,8 @@
 use std::io::Write;
 use std::{fs, io};
 
-// The answer for a record. Other programs that try a text have their like of this and of what follows: one of each for all would stand in a crate of its own, with
-// a trait for the texts, and be no plainer.
+// The answer for a record. Other programs that try a text have their like of this and of what follows: one of each for all would stand in a crate of its own,
+// with a trait for the texts, and be no plainer.
 fn show<W: Write>(out: &mut W, name: &str, record: &[u8]) -> io::Result<()> {
     write!(out, "{name}: ")?;
     let mut text = [0u8; 8];

@@ -86,7 +86,7 @@ fn zeros() -> Tally {
     tally::empty(0, [0u8; 52])
 }
 
-// The number of a refusal, 0 for none.
+// The number of a refusal, 0 for none. `try_team` has its like, of refusals without a place: one for both would be a crate of its own for one line.
 fn refusal_of<T: Copy>(answer: Result<T, Refused>) -> u8 {
     answer.map_or_else(|refused| refused.refusal.number(), |_| 0)
 }

@@ -20,7 +20,7 @@ fn state(total: i32, from: usize, to: usize) -> TeamMatch {
     m
 }
 
-// The number of a refusal, 0 for none.
+// The number of a refusal, 0 for none. `try_forged` has its like, of refusals with a place: one for both would be a crate of its own for one line.
 fn refusal_of<T: Copy>(answer: Result<T, Refusal>) -> u8 {
     answer.map_or_else(|refusal| refusal.number(), |_| 0)
 }

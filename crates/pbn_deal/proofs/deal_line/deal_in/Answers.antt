@@ -14,14 +14,14 @@ returns-then-line-lt11 c = too_short _ c.if-line-lt11.true
 pub returns-then-first-eq4 : goal.returns-then-first-eq4
 returns-then-first-eq4 c = no_seat_lem _ (sym (c.place_among-first.ensures.0) ∙ c.if-first-eq4.true)
 
-pub returns-then-not-all_held : goal.returns-then-not-all_held
-returns-then-not-all_held c =
+pub returns-then-not-are_seats : goal.returns-then-not-are_seats
+returns-then-not-are_seats c =
     let place = c.place_among-first.ensures in
     let low : c.place_among-first.result < 4 = omega (arith, place.1) in
     let hands = hands_cut c.args.line.now _ refl c.if-line-lt11.false in
     let held = c.held_by.ensures ∙ ap₂ (λ f hands. held_by (replicate 52 no_seat) f spades hands) place.0 hands in
     not-held _ _ _ place.0 held low
-    (sym c.all_held.ensures ∙ c.if-not-all_held.true)
+    (sym c.are_seats.ensures ∙ c.if-not-are_seats.true)
 
 pub returns-then-not-is_deal_line : goal.returns-then-not-is_deal_line
 returns-then-not-is_deal_line c =
@@ -30,7 +30,7 @@ returns-then-not-is_deal_line c =
     let hands = hands_cut c.args.line.now _ refl c.if-line-lt11.false in
     let held = c.held_by.ensures ∙ ap₂ (λ f hands. held_by (replicate 52 no_seat) f spades hands) place.0 hands in
     not_line _ _ _ place.0 held low
-    (sym c.all_held.ensures ∙ c.if-not-all_held.false)
+    (sym c.are_seats.ensures ∙ c.if-not-are_seats.false)
     (sym c.is_deal_line.ensures ∙ c.if-not-is_deal_line.true)
 
 pub returns : goal.returns
@@ -40,5 +40,5 @@ returns c =
     let hands = hands_cut c.args.line.now _ refl c.if-line-lt11.false in
     let held = c.held_by.ensures ∙ ap₂ (λ f hands. held_by (replicate 52 no_seat) f spades hands) place.0 hands in
     is-line _ _ _ place.0 held low
-    (sym c.all_held.ensures ∙ c.if-not-all_held.false)
+    (sym c.are_seats.ensures ∙ c.if-not-are_seats.false)
     (sym c.is_deal_line.ensures ∙ c.if-not-is_deal_line.false)

@@ -1,10 +1,10 @@
--- `pbn_deal::deal::place_among` meets its contract. Assumes nothing.
+-- `pbn_deal::held::place_among` meets its contract. Assumes nothing.
 use Rattle.std.proofs.Common.{ℕ, eqb, rules}
 use borrow.Author.Tests.{tests}
 use Rattle.std.proofs.lemmas.Iterator.{YieldsList-from_slice}
 use Rattle.std.proofs.lemmas.Iterator.Search.{position_from_yields_List}
 use Rattle.pbn_deal.proofs.HeldCards.{placed}
-use Rattle.pbn_deal.proofs.deal.place_among.Goals as goal
+use Rattle.pbn_deal.proofs.held.place_among.Goals as goal
 
 pub returns : goal.returns
 returns c =

@@ -1,7 +1,7 @@
--- `pbn_deal::deal::with_rank` meets its contract. Assumes nothing.
+-- `pbn_deal::held::with_rank` meets its contract. Assumes nothing.
 use Rattle.std.proofs.Common.{◌≡◌, length, arith, rules}
 use Rattle.pbn_deal.proofs.HeldCards.{ranked, ranked_past}
-use Rattle.pbn_deal.proofs.deal.with_rank.Goals as goal
+use Rattle.pbn_deal.proofs.held.with_rank.Goals as goal
 
 pub returns-then-at-lt52 : goal.returns-then-at-lt52
 returns-then-at-lt52 c = ranked c.args.held _ _ c.place_among.ensures.0

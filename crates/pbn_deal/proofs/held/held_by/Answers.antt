@@ -1,10 +1,10 @@
--- `pbn_deal::deal::held_by` meets its contract. The loop's invariant: the bytes from `i` on make of what is held what all of them make. Assumes nothing.
+-- `pbn_deal::held::held_by` meets its contract. The loop's invariant: the bytes from `i` on make of what is held what all of them make. Assumes nothing.
 use Prim.Native.Nat.{◌+◌}
 use native.Mathlib.Omega.{arith}
 use mathlib.Core.Path.{refl, sym, ap, ◌∙◌}
 use lib.ListN.{drop}
 use Rattle.pbn_deal.proofs.HeldCards.{held_on, held_on_lem, held_all}
-use Rattle.pbn_deal.proofs.deal.held_by.Goals as goal
+use Rattle.pbn_deal.proofs.held.held_by.Goals as goal
 
 pub loop-b-init : goal.loop-b-init
 loop-b-init c = (c.requires, omega arith, refl)

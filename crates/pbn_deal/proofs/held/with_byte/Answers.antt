@@ -1,9 +1,9 @@
--- `pbn_deal::deal::with_byte` meets its contract. Assumes nothing.
+-- `pbn_deal::held::with_byte` meets its contract. Assumes nothing.
 use mathlib.Core.Path.{refl}
 use native.Mathlib.Omega.{arith}
 use Rattle.pbn_deal.proofs.HeldCards.{at_space, at_dot, at_rank, rank_bounds}
 use Rattle.laws.specs.Cards.{clockwise}
-use Rattle.pbn_deal.proofs.deal.with_byte.Goals as goal
+use Rattle.pbn_deal.proofs.held.with_byte.Goals as goal
 
 pub returns-then-b-eq32 : goal.returns-then-b-eq32
 unfolding clockwise

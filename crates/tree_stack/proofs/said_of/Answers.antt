@@ -1,8 +1,0 @@
--- `tree_stack::said_of` meets its contract. Assumes nothing.
-use Rattle.tree_stack.proofs.said_of.Goals as goal
-
-pub returns-in-Ok : goal.returns-in-Ok
-returns-in-Ok c = rw c.in-Ok.is
-
-pub returns-in-Err : goal.returns-in-Err
-returns-in-Err c = rw c.in-Err.is
