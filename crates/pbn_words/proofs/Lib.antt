@@ -2,3 +2,4 @@ pub mod SameBytes
 pub mod RowsRead
 pub mod TagLines
 pub mod BoardLines
+pub mod Searched

@@ -12,7 +12,7 @@ pub struct Row {
     pub numbers: [u8; 4],
 }
 
-// The numbers of a line's words, calls or cards, where there are one to four.
+// The numbers of a line's words, calls or cards, where there are one to four. The flag chooses: the clause (`row_on`) names it, and speaks of both.
 pub fn row_in(line: &[u8], cards: bool) -> Option<Row>
     ensures { result ≡ row_by (row_on cards line.now) }
 {

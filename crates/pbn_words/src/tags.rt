@@ -15,7 +15,6 @@ pub fn seat_letter(seat: usize) -> u8
 
 // The line of a seat's tag.
 fn is_seat_line(line: &[u8], tag: &[u8], seat: u8) -> bool
-    requires { seat < 4 }
     ensures { result ≡ same_bytes (seat_line tag.now seat) line.now }
 {
     if !line.starts_with(tag) {
@@ -28,10 +27,5 @@ fn is_seat_line(line: &[u8], tag: &[u8], seat: u8) -> bool
 pub fn seat_in(line: &[u8], tag: &[u8]) -> Option<u8>
     ensures { result ≡ if_read (number_of (seat_line tag.now) 4 line.now) }
 {
-    for seat in (0..4).rev() {
-        if is_seat_line(line, tag, seat) {
-            return Some(seat);
-        }
-    }
-    None
+    (0..4).rev().find(|seat| is_seat_line(line, tag, *seat))
 }

@@ -3,7 +3,7 @@ ghost use Rattle.std.specs.Prelude.{◌≡◌, ◌∷◌, ◌<◌};
 ghost use Rattle.laws.specs.Decimal.{digit};
 ghost use Rattle.laws.specs.PbnText.{letter_of, suit_letters, rank_letters, strain_word, call_word, card_word};
 ghost use Rattle.laws.specs.PbnReading.{same_bytes};
-ghost use Rattle.pbn_words.specs.WordNumbers.{if_read, word_of, words, word_in};
+ghost use Rattle.pbn_words.specs.WordNumbers.{if_read, word_in};
 
 const SUIT_LETTERS: [u8; 4] = [b'C', b'D', b'H', b'S'];
 
@@ -11,11 +11,11 @@ const RANK_LETTERS: [u8; 13] = [
     b'2', b'3', b'4', b'5', b'6', b'7', b'8', b'9', b'T', b'J', b'Q', b'K', b'A',
 ];
 
+// The letter of a suit; 0 for a number that is none, as `letter_of` of the Laws has it.
 fn suit_letter(suit: usize) -> u8
-    requires { suit < 4 }
     ensures { result ≡ letter_of suit_letters suit }
 {
-    SUIT_LETTERS[suit]
+    SUIT_LETTERS.get(suit).copied().unwrap_or(0)
 }
 
 // The letter of a rank; 0 for a number that is none, as `letter_of` of the Laws has it.
@@ -27,7 +27,7 @@ pub fn rank_letter(rank: usize) -> u8
 
 // The word of a bid.
 fn is_bid(word: &[u8], level: u8, strain: u8) -> bool
-    requires { (level < 10) × (strain < 5) }
+    requires { level < 200 }
     ensures { result ≡ same_bytes (digit level ∷ strain_word strain) word.now }
 {
     let first = b'0' + level;
@@ -39,7 +39,6 @@ fn is_bid(word: &[u8], level: u8, strain: u8) -> bool
 
 // The word of a call.
 fn is_call(word: &[u8], call: u8) -> bool
-    requires { call < 38 }
     ensures { result ≡ same_bytes (call_word call) word.now }
 {
     match call {
@@ -52,7 +51,6 @@ fn is_call(word: &[u8], call: u8) -> bool
 
 // The word of a card.
 fn is_card(word: &[u8], card: u8) -> bool
-    requires { card < 52 }
     ensures { result ≡ same_bytes (card_word card) word.now }
 {
     word == [
@@ -62,32 +60,12 @@ fn is_card(word: &[u8], card: u8) -> bool
     .as_slice()
 }
 
-// The word of a call, or of a card.
-fn is_word(word: &[u8], number: u8, cards: bool) -> bool
-    requires { number < words cards }
-    ensures { result ≡ same_bytes (word_of cards number) word.now }
-{
-    if cards {
-        return is_card(word, number);
-    }
-    is_call(word, number)
-}
-
-// How many words of calls, or of cards, there are.
-fn how_many(cards: bool) -> u8
-    ensures { result ≡ words cards }
-{
-    if cards { 52 } else { 38 }
-}
-
-// The call, or the card, whose word it is.
+// The call, or the card, whose word it is. A flag chooses, as the clause of `row_in` does, which speaks of both.
 pub(crate) fn number_in(word: &[u8], cards: bool) -> Option<u8>
     ensures { result ≡ if_read (word_in cards word.now) }
 {
-    for i in (0..how_many(cards)).rev() {
-        if is_word(word, i, cards) {
-            return Some(i);
-        }
+    if cards {
+        return (0..52).rev().find(|card| is_card(word, *card));
     }
-    None
+    (0..38).rev().find(|call| is_call(word, *call))
 }

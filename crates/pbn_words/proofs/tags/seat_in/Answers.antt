@@ -1,30 +1,17 @@
--- `pbn_words::tags::seat_in` meets its contract. The loop's invariant: the seat is looked for among those below `i` as among all. Assumes nothing.
-use native.Mathlib.Omega.{arith}
-use mathlib.Core.Path.{refl, sym, ap, ◌∙◌}
-use Rattle.pbn_words.specs.WordNumbers.{if_read}
-use Rattle.pbn_words.proofs.SameBytes.{found_here, not_here, nowhere}
+-- `pbn_words::tags::seat_in` meets its contract: the seats are looked through from the last. Assumes nothing.
+use Rattle.std.proofs.Common.{ℕ, rules, ◌∙◌, sym}
+use borrow.Author.Tests.{tests}
+use Rattle.std.proofs.lemmas.Iterator.Search.{find_from_yields_List}
+use Rattle.std.proofs.lemmas.Iterator.Adapters.{option_map_id}
+use Rattle.laws.specs.PbnText.{seat_line}
+use Rattle.laws.specs.PbnReading.{same_bytes}
+use Rattle.pbn_words.proofs.Searched.{counted_down, searched}
 use Rattle.pbn_words.proofs.tags.seat_in.Goals as goal
-
-pub loop-seat-init : goal.loop-seat-init
-loop-seat-init c = (omega arith, refl)
-
-pub is_seat_line-requires : goal.is_seat_line-requires
-is_seat_line-requires c = omega arith
-
-pub returns-then-is_seat_line : goal.returns-then-is_seat_line
-returns-then-is_seat_line c =
-    let l = c.loop-seat in
-    found_here _ _ l.seat (omega arith) (sym c.is_seat_line.ensures ∙ c.if-is_seat_line.true)
-    ∙ ap (if_read) (sym l.invariant.1)
-
-pub loop-seat-preserved : goal.loop-seat-preserved
-loop-seat-preserved c =
-    let l = c.loop-seat in (
-      omega arith,
-      l.invariant.1 ∙ not_here _ _ l.seat (omega arith) (sym c.is_seat_line.ensures ∙ c.if-is_seat_line.false),
-    )
 
 pub returns : goal.returns
 returns c =
-    let l = c.loop-seat in
-    nowhere _ _ l.seat (omega arith) ∙ ap (if_read) (sym l.invariant.1)
+    let a = c.args in
+    sym (option_map_id c.find.result)
+    ∙ find_from_yields_List (λ (k : ℕ). same_bytes (seat_line a.tag.now k) a.line.now) _ _ c.find.result c.find.ensures.ran
+    (counted_down c.rev.result 4 c.rev.ensures.source) (λ x b q k. search (rules, tests))
+    ∙ searched (seat_line a.tag.now) a.line.now 4

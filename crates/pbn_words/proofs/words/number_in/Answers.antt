@@ -1,33 +1,27 @@
--- `pbn_words::words::number_in` meets its contract. The loop's invariant: the number is looked for among those below `i` as among all. Assumes nothing.
-use native.Mathlib.Omega.{arith}
-use mathlib.Core.Path.{refl, sym, ap, ◌∙◌}
-use Rattle.pbn_words.specs.WordNumbers.{if_read, word_of}
-use Rattle.pbn_words.proofs.SameBytes.{found_here, not_here, nowhere}
+-- `pbn_words::words::number_in` meets its contract: the numbers are looked through from the highest. Assumes nothing.
+use Rattle.std.proofs.Common.{ℕ, rules, ◌∙◌, sym}
+use borrow.Author.Tests.{tests}
+use Rattle.std.proofs.lemmas.Iterator.Search.{find_from_yields_List}
+use Rattle.std.proofs.lemmas.Iterator.Adapters.{option_map_id}
+use Rattle.laws.specs.PbnText.{call_word, card_word}
+use Rattle.laws.specs.PbnReading.{same_bytes}
+use Rattle.pbn_words.proofs.Searched.{counted_down, searched}
 use Rattle.pbn_words.proofs.words.number_in.Goals as goal
 
-pub loop-i-init : goal.loop-i-init
-loop-i-init c = rw c.how_many-i.ensures (omega arith, refl)
-
-pub is_word-requires : goal.is_word-requires
-is_word-requires c = omega arith
-
-pub returns-then-is_word : goal.returns-then-is_word
-returns-then-is_word c =
-    let l = c.loop-i in
-    let a = c.args in
-    found_here (word_of a.cards) _ l.i (omega arith) (sym c.is_word.ensures ∙ c.if-is_word.true)
-    ∙ ap (if_read) (sym l.invariant.1)
-
-pub loop-i-preserved : goal.loop-i-preserved
-loop-i-preserved c =
-    let l = c.loop-i in
-    let a = c.args in (
-      omega arith,
-      l.invariant.1 ∙ not_here (word_of a.cards) _ l.i (omega arith) (sym c.is_word.ensures ∙ c.if-is_word.false),
-    )
+pub returns-then-cards : goal.returns-then-cards
+returns-then-cards c =
+    let word = c.args.word.now in
+    rw c.if-cards.true
+    (sym (option_map_id c.find.result)
+    ∙ find_from_yields_List (λ (k : ℕ). same_bytes (card_word k) word) _ _ c.find.result c.find.ensures.ran
+    (counted_down c.rev.result 52 c.rev.ensures.source) (λ x b q k. search (rules, tests))
+    ∙ searched card_word word 52)
 
 pub returns : goal.returns
 returns c =
-    let l = c.loop-i in
-    let a = c.args in
-    nowhere (word_of a.cards) _ l.i (omega arith) ∙ ap (if_read) (sym l.invariant.1)
+    let word = c.args.word.now in
+    rw c.if-cards.false
+    (sym (option_map_id c.find-2.result)
+    ∙ find_from_yields_List (λ (k : ℕ). same_bytes (call_word k) word) _ _ c.find-2.result c.find-2.ensures.ran
+    (counted_down c.rev-2.result 38 c.rev-2.ensures.source) (λ x b q k. search (rules, tests))
+    ∙ searched call_word word 38)
