@@ -1,9 +1,8 @@
 -- What an answer of the code tells of the numbers and readings that it stands for. Assumes nothing.
-use Rattle.std.specs.Prelude.{if◌then◌else◌}
-use Rattle.std.proofs.Common.{◌≡◌, refl, ℕ, Bool, true, false}
+use Rattle.std.proofs.Common.{◌≡◌, refl, ℕ, true, false}
 use borrow.Author.Tests.{eqb-true, eqb-false}
 use lib.Dec.{eqb}
-use Rattle.laws.specs.Refusals.{Answer, refused, answered, Placed, refused_at, given, accepted}
+use Rattle.laws.specs.Refusals.{refused, answered, refused_at, given, accepted}
 use Rattle.laws.specs.Reading.{Reading, Reading.refused as stopped, Reading.found as read-to}
 use Rattle.laws.specs.Refused.{answer_by, placed_by, placed_in}
 use Rattle.laws.proofs.Tests.{by_test}

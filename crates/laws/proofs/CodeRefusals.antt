@@ -13,8 +13,7 @@ use Rattle.laws.specs.Law50.{is_exposable}
 use Rattle.laws.specs.Law51.{is_open}
 use Rattle.laws.specs.CodeRefusal.{codes_full, exposure_refusal, choice_refusal, event_refusal}
 use Rattle.laws.specs.Kept.{NoneRefused}
-use Rattle.laws.proofs.Tests.{by_test, not_both}
-use Rattle.laws.proofs.CardRefusals.{numbered_by}
+use Rattle.laws.proofs.Tests.{not_both}
 
 -- a code with room for it that passes a test, by its number
 passes : (full test : Bool) (n : ℕ) → (n ≡ accepted → ⊥) → (if full then too_many_codes else if test then accepted else n) ≡ accepted

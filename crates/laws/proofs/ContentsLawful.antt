@@ -1,9 +1,9 @@
 -- Contents are accepted exactly when they are lawful; both fit their fields. Assumes nothing.
-use Prim.Native.Nat.{ℕ, zero, suc, ◌-◌, ◌≤◌, ◌<◌, min}
+use Prim.Native.Nat.{ℕ, zero, suc, ◌≤◌, ◌<◌}
 use native.Mathlib.Omega.{arith}
 use mathlib.Core.Path.{◌≡◌, refl, sym, ap, ◌∙◌}
 use mathlib.Core.Logic.{◌↔◌}
-use mathlib.Core.Bool.{true, false, not, ◌&&◌, ◌||◌}
+use mathlib.Core.Bool.{true, false, not, ◌||◌}
 use mathlib.Core.List.{List, [], ◌∷◌, reverse, reverse-reverse}
 use borrow.Author.Tests.{eqb-true, leb-true, ltb-false, not-false, not-true}
 use lib.Dec.{ltb, eqb}
@@ -12,7 +12,7 @@ use Rattle.laws.specs.Choice.{some}
 use Rattle.laws.specs.Refusals.{accepted, no_board_or_table, not_thirteen, no_claim_point, too_many_calls}
 use Rattle.laws.specs.Cards.{no_seat, cards_dealt, seat_without_thirteen}
 use Rattle.laws.specs.Law2.{dealer}
-use Rattle.laws.specs.Auction.{passed_out, trump_after, opening_after}
+use Rattle.laws.specs.Auction.{passed_out}
 use Rattle.laws.specs.CallRefusal.{call_refusal, call_place}
 use Rattle.laws.specs.Law44.{cards_played, tricks_left}
 use Rattle.laws.specs.Events.{Event, cards_of, cards_among}

@@ -24,7 +24,7 @@ use Rattle.laws.specs.Plays.{play_place}
 use Rattle.laws.specs.Law68.{Claim, none, agreed, at_claim_point, claimable}
 use Rattle.laws.specs.Record.{Parts}
 use Rattle.laws.specs.Reading.{Reading, Reading.refused, Reading.found, onward, refuse}
-use Rattle.laws.specs.Judge.{Outcome.refused as declined, Outcome.accepted as taken, outcome}
+use Rattle.laws.specs.Judge.{Outcome.refused as declined, outcome}
 use Rattle.laws.specs.Contents.{Given, take_heading, are_seats, take_deal, take_each, take_calls, take_items, take_cards, take_claim, take_parts, contents_of}
 use Rattle.laws.proofs.Tests.{by_test, or_left}
 use Rattle.laws.proofs.CallRefusals.{numbered_by, call-place-le}

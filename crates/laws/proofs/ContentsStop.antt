@@ -5,7 +5,7 @@ use mathlib.Core.Path.{◌≡◌, refl, sym, ◌∙◌}
 use mathlib.Core.Bool.{Bool, true, false, not, ◌&&◌, ◌||◌}
 use mathlib.Core.Logic.{◌⊎◌, inl}
 use mathlib.Core.List.{List, [], ◌∷◌, ◌++◌, append-nil, reverse, reverse_aux}
-use borrow.Author.Tests.{eqb-false, eq-eqb, ne_eqb, le-ltb, lt-ltb, le-leb, lt-leb}
+use borrow.Author.Tests.{eqb-false, eq-eqb, ne_eqb, le-ltb, lt-ltb, lt-leb}
 use lib.Dec.{ltb, eqb}
 use lib.ListN.{length, get_or, take, length-reverse, length-take}
 use Rattle.laws.specs.Choice.{some}

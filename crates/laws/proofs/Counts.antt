@@ -10,7 +10,7 @@ use borrow.Author.Tests.{eqb-true, eqb-false}
 use lib.Dec.{eqb}
 use lib.ListN.{length, get_or, drop}
 use lib.Seq.{drop-cons}
-use Rattle.laws.specs.Choice.{how_many, some, some_below}
+use Rattle.laws.specs.Choice.{how_many, some_below}
 use Rattle.laws.proofs.Tests.{by_test, not_both, and_left, and_right}
 
 module _ {A : Type 0} (test : A → Bool) where

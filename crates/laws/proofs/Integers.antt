@@ -1,12 +1,12 @@
 -- The size and the sign of a sum and of a difference of integers. Assumes nothing.
-use Prim.Native.Nat.{ℕ, zero, suc, ◌≤◌, ◌<◌, ◌+◌, ◌-◌}
+use Prim.Native.Nat.{ℕ, zero, suc, ◌≤◌, ◌+◌}
 use native.Mathlib.Omega.{arith}
 use mathlib.Core.Path.{◌≡◌, refl, sym, ap, ◌∙◌}
 use mathlib.Core.Bool.{true, false}
-use borrow.Author.Tests.{ltb-true, ltb-false, le-ltb, leb-true}
+use borrow.Author.Tests.{ltb-true, le-ltb, leb-true}
 use lib.Dec.{T, ltb}
 use lib.IntN.{ℤ, pos, negsuc, neg_ℤ, nat_abs, sub_ℕ, ◌+ℤ◌, ◌-ℤ◌, neg_ℤ-+ℤ, neg_ℤ-neg_ℤ, +ℤ_comm}
-use lib.Signed.{le_z, lt_z, mag, non_neg}
+use lib.Signed.{le_z, mag, non_neg}
 use Rattle.laws.proofs.Tests.{by_test, not_both}
 
 pub size_neg : (z : ℤ) → nat_abs (neg_ℤ z) ≡ nat_abs z

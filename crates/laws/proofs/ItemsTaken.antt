@@ -1,7 +1,7 @@
 -- What is taken of the items of a flat list: none is broken, each code has a card after it, and the numbers fit their fields. Items that may stand pass.
 -- Assumes nothing.
 use Rattle.std.specs.Prelude.{if◌then◌else◌}
-use Prim.Native.Nat.{ℕ, ◌+◌, ◌≤◌, ◌<◌, min}
+use Prim.Native.Nat.{ℕ, ◌+◌, ◌≤◌, min}
 use native.Mathlib.Omega.{arith}
 use mathlib.Core.Path.{◌≡◌, refl, sym, ap, ◌∙◌}
 use mathlib.Core.Logic.{◌⊎◌, ⊎_elim}
@@ -13,12 +13,10 @@ use lib.ListN.{length}
 use Rattle.laws.specs.Choice.{some, how_many}
 use Rattle.laws.specs.Refusals.{accepted, too_many_cards, too_many_codes, choice_not_open}
 use Rattle.laws.specs.Auction.{passed_out, trump_after, opening_after}
-use Rattle.laws.specs.Law44.{cards_played, playable}
-use Rattle.laws.specs.Law50.{is_exposable}
-use Rattle.laws.specs.Law51.{is_open}
+use Rattle.laws.specs.Law44.{cards_played}
 use Rattle.laws.specs.Events.{Event, played, exposed, choice, cards_of, cards_among, codes_of}
 use Rattle.laws.specs.CodeRefusal.{most_codes, codes_full, exposure_refusal, choice_refusal, event_refusal}
-use Rattle.laws.specs.FlatPlay.{Item, event, broken, items_of, is_card, cards_in, is_broken, events_among, is_misplaced, item_refusal, after_item, flat_of}
+use Rattle.laws.specs.FlatPlay.{Item, event, broken, items_of, is_card, cards_in, is_broken, events_among, is_misplaced, item_refusal, after_item}
 use Rattle.laws.specs.Reading.{Reading.found}
 use Rattle.laws.specs.Plays.{play_place, MayStand, EachStands, CardsFollow}
 use Rattle.laws.specs.Contents.{EachFits, take_items, take_cards}

@@ -3,16 +3,15 @@ use Rattle.std.specs.Prelude.{if◌then◌else◌}
 use Prim.Native.Nat.{ℕ, zero, suc, ◌+◌, ◌≤◌}
 use native.Mathlib.Omega.{arith}
 use mathlib.Core.Path.{◌≡◌, refl, sym, ap, ◌∙◌, subst}
-use mathlib.Core.Bool.{Bool, true, false, not}
+use mathlib.Core.Bool.{true, false, not}
 use mathlib.Core.List.{List, [], ◌∷◌, ◌++◌}
-use borrow.Author.Tests.{eqb-true, eqb-false, eq-eqb, ne_eqb}
 use lib.Dec.{ltb, eqb}
 use lib.IntN.{ℤ}
 use lib.ListN.{length}
 use Rattle.laws.specs.Choice.{how_many}
 use Rattle.laws.specs.Refusals.{Answer, refused, placed, accepted, two_boards, too_many_results, invalid_score}
 use Rattle.laws.specs.Law77.{valid_score}
-use Rattle.laws.specs.Law78.{same_score, occurrences}
+use Rattle.laws.specs.Law78.{occurrences}
 use Rattle.laws.specs.Tally.{Result, scores_of, on_deal, deal_of, Refusal, refusal, ◌or_else◌, deal_refusal}
 use Rattle.laws.specs.Tally.{score_refusal, fouled_refusal, boards_refusal, room_refusal}
 use Rattle.laws.specs.Tally.{given_refusal, add_refusal, merge_refusal, asked, leaves, Tree, fresh, add, merge, CallOf, last, in_add, in_first, in_second}

@@ -4,17 +4,17 @@ use Prim.Native.Nat.{ℕ, zero, suc, ◌+◌, ◌-◌, ◌*◌, ◌/◌, ◌%◌
 use native.Mathlib.Omega.{arith}
 use mathlib.Core.Path.{◌≡◌, refl, sym, ap, ap₂, ◌∙◌}
 use mathlib.Core.Bool.{Bool, true, false, not, ◌&&◌}
-use mathlib.Core.List.{List, [], ◌∷◌, ◌++◌, append_assoc, append-nil}
+use mathlib.Core.List.{List, [], ◌∷◌, ◌++◌, append_assoc}
 use borrow.Author.Tests.{eqb-true, eq-eqb, eqb-false, ltb-true, ltb-false, lt-ltb, le-ltb, not-true}
-use lib.Dec.{eqb, ltb, lit<, lit≤}
-use lib.ListN.{length, get_or, take, drop, set, replicate, length-set, length-append}
+use lib.Dec.{eqb, ltb, lit≤}
+use lib.ListN.{length, get_or, set, replicate, length-set, length-append}
 use lib.Seq.{get_or-set_same, get_or-set_other, ext_get_or, take_at}
 use Rattle.laws.specs.Choice.{some}
 use Rattle.laws.specs.Cards.{no_seat, clockwise, dealt_to, clubs, diamonds, hearts, spades}
 use Rattle.laws.specs.Contents.{are_seats}
 use Rattle.laws.specs.PbnText.{EachBelow, letter_of, seat_letters, rank_letters, space, dot, deal_tag, tag_end, ranks_held, hand_and, hands_and, deal_line}
 use Rattle.laws.specs.PbnReading.{same_bytes, place_among, held_by, first_in, hands_in, holders_in, is_deal_line}
-use Rattle.laws.proofs.Tests.{by_test, not_both, and_left, and_right, and_both, or_left, or_right}
+use Rattle.laws.proofs.Tests.{by_test, and_left, and_right, and_both, or_left, or_right}
 use Rattle.laws.proofs.Counts.{every_below, every_below_lem}
 use Rattle.laws.proofs.PbnOrder.{of-seat}
 use Rattle.laws.proofs.PbnWords.{same_true, same_self}

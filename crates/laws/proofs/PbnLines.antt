@@ -3,9 +3,9 @@
 use Rattle.std.specs.Prelude.{if◌then◌else◌}
 use Prim.Native.Nat.{ℕ, zero, suc, ◌+◌, ◌-◌, ◌*◌, ◌/◌, ◌%◌, ◌≤◌, ◌<◌}
 use native.Mathlib.Omega.{arith}
-use mathlib.Core.Path.{◌≡◌, refl, sym, ap, ap₂, ◌∙◌}
-use mathlib.Core.Bool.{Bool, true, false, not, ◌&&◌, ◌||◌}
-use mathlib.Core.List.{List, [], ◌∷◌, ◌++◌, map, append_assoc}
+use mathlib.Core.Path.{◌≡◌, refl, sym, ap, ◌∙◌}
+use mathlib.Core.Bool.{true, false, not}
+use mathlib.Core.List.{List, [], ◌∷◌, ◌++◌}
 use borrow.Author.Tests.{not-true, ne_eqb, ltb-false}
 use lib.Dec.{ltb, eqb, lit≤}
 use lib.ListN.{drop}
@@ -14,13 +14,13 @@ use Rattle.laws.specs.Cards.{clockwise, dealt_to, clubs, diamonds, hearts, spade
 use Rattle.laws.specs.Auction.{level_of, strain_of}
 use Rattle.laws.specs.Decimal.{zero_digit, digit, last_digits, decimal, value_after}
 use Rattle.laws.specs.Sheet.{newline}
-use Rattle.laws.specs.PbnText.{EachBelow, letter_of, seat_letters, rank_letters, space, dot, strain_word, call_word, card_word, auction_tag, play_tag, tag_end}
+use Rattle.laws.specs.PbnText.{EachBelow, letter_of, seat_letters, rank_letters, space, strain_word, call_word, card_word, auction_tag, play_tag, tag_end}
 use Rattle.laws.specs.PbnText.{board_line, seat_line, ranks_held, hand_and, hands_and, deal_line, joined_by, row_line}
 use Rattle.laws.specs.PbnReading.{Read, misses, reads, same_bytes, number_of}
 use Rattle.laws.proofs.Tests.{by_test, or_left, or_right}
 use Rattle.laws.proofs.Counts.{every_below, every_below_lem}
 use Rattle.laws.proofs.PbnOrder.{of-seat}
-use Rattle.laws.proofs.PbnWords.{Apart, apart_by, Free, AllFree, NoSpace}
+use Rattle.laws.proofs.PbnWords.{Apart, apart_by, Free, NoSpace}
 
 -- the number that is read; 0 where there is none
 abbrev read_or0 : Read ℕ → ℕ

@@ -1,12 +1,11 @@
 -- A text of the subset of Portable Bridge Notation is refused with 3, 4, 6 to 9, 12, 23, 32 or 33 before it is written, and a place below 1024: it has no
 -- mark, no code and no claim, and where Play stands it lists 52 cards. Assumes nothing.
-use Rattle.std.specs.Prelude.{if◌then◌else◌}
 use Prim.Native.Nat.{ℕ, ◌+◌, ◌≤◌, ◌<◌, min}
 use native.Mathlib.Omega.{arith}
 use mathlib.Core.Path.{◌≡◌, refl, sym, ap, ◌∙◌}
 use mathlib.Core.Bool.{Bool, true, false, not, ◌&&◌, ◌||◌}
-use mathlib.Core.List.{List, [], ◌∷◌, map, reverse}
-use borrow.Author.Tests.{eq-eqb, ne_eqb, le-leb, lt-leb, ltb-false, not-true, not-false}
+use mathlib.Core.List.{List, [], ◌∷◌, map}
+use borrow.Author.Tests.{ne_eqb, le-leb, lt-leb, ltb-false, not-true, not-false}
 use lib.Dec.{eqb, ltb, leb}
 use lib.ListN.{length}
 use Rattle.laws.specs.Choice.{some}
@@ -20,9 +19,8 @@ use Rattle.laws.specs.Law44.{cards_played, all_played, playable, to_play, has_pl
 use Rattle.laws.specs.CardRefusal.{card_refusal}
 use Rattle.laws.specs.Events.{Event, played, begins_code, cards_of}
 use Rattle.laws.specs.CodeRefusal.{event_refusal}
-use Rattle.laws.specs.FlatPlay.{Item, event, items_of, cards_in, is_misplaced, item_refusal, after_item}
+use Rattle.laws.specs.FlatPlay.{event, cards_in, is_misplaced, item_refusal, after_item}
 use Rattle.laws.specs.Plays.{play_place}
-use Rattle.laws.specs.Law68.{none}
 use Rattle.laws.specs.Record.{Parts}
 use Rattle.laws.specs.Lawful.{Lawful}
 use Rattle.laws.specs.Judge.{Outcome.refused as declined, Outcome.accepted as accepts, outcome}

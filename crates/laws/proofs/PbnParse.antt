@@ -1,16 +1,15 @@
 -- Reading a whole text of Portable Bridge Notation: the lines that are read, what was read where the reading ends, and that only the text of what was read is
 -- read so. Assumes nothing.
-use Rattle.std.specs.Prelude.{if◌then◌else◌}
-use Prim.Native.Nat.{ℕ, zero, suc, ◌+◌, ◌-◌, ◌*◌, ◌%◌, ◌≤◌, ◌<◌}
+use Prim.Native.Nat.{ℕ, zero, suc, ◌+◌, ◌≤◌, ◌<◌}
 use native.Mathlib.Omega.{arith}
 use mathlib.Core.Path.{◌≡◌, refl, sym, ap, ap₂, ◌∙◌}
 use mathlib.Core.Logic.{◌⊎◌, inl, inr, ⊎_elim}
-use mathlib.Core.Bool.{Bool, true, false}
+use mathlib.Core.Bool.{true, false}
 use mathlib.Core.List.{List, [], ◌∷◌, ◌++◌, append_assoc, append-nil}
 use lib.Dec.{lit≤, lit<}
-use lib.ListN.{length, take, replicate, length-append}
+use lib.ListN.{length, replicate}
 use Rattle.laws.specs.Sheet.{newline}
-use Rattle.laws.specs.PbnText.{Listed, absent, columns, Game, EachBelow, Listable, Sayable, game_lines, joined_by, ended, text}
+use Rattle.laws.specs.PbnText.{Game, EachBelow, Listable, Sayable, game_lines, joined_by, ended, text}
 use Rattle.laws.specs.PbnReading.{Read, misses, reads, parted_by, Stage, board, deal, auction, first_calls, calls, calls_over, cards, may_end, State, start}
 use Rattle.laws.specs.PbnReading.{line_in, Parsed, outside, game, end_in, after_line, parse_from, parse}
 use Rattle.laws.proofs.Tests.{by_test, not_both}

@@ -1,22 +1,21 @@
 -- Where a text of Portable Bridge Notation is refused: the line up to which no text of the subset agrees. Assumes nothing.
-use Rattle.std.specs.Prelude.{if◌then◌else◌}
-use Prim.Native.Nat.{ℕ, zero, suc, ◌+◌, ◌-◌, ◌*◌, ◌%◌, ◌≤◌, ◌<◌}
+use Prim.Native.Nat.{ℕ, zero, suc, ◌+◌, ◌-◌, ◌*◌, ◌≤◌, ◌<◌}
 use native.Mathlib.Omega.{arith}
-use mathlib.Core.Path.{◌≡◌, refl, sym, ap, ap₂, ◌∙◌}
-use mathlib.Core.Logic.{◌⊎◌, ⊎_elim}
-use mathlib.Core.Bool.{Bool, true, false}
+use mathlib.Core.Path.{◌≡◌, refl, sym, ap, ◌∙◌}
+use mathlib.Core.Logic.{⊎_elim}
+use mathlib.Core.Bool.{true, false}
 use mathlib.Core.List.{List, [], ◌∷◌, ◌++◌, map, append_assoc, append-nil, map-append}
 use lib.Dec.{eqb, lit≤, lit<}
 use lib.ListN.{length, take, drop, replicate, length-append, length-take, length-drop, length-replicate, take-append-drop}
 use lib.Seq.{take_at, take-take}
 use Rattle.laws.specs.Choice.{some}
 use Rattle.laws.specs.Sheet.{newline, before}
-use Rattle.laws.specs.PbnText.{Listed, absent, columns, Game, EachBelow, Listable, Sayable, call_word, card_word, auction_tag, play_tag}
-use Rattle.laws.specs.PbnText.{board_line, seat_line, deal_line, row_line, fours, call_lines, card_lines, play_lines, game_lines, ended, text}
+use Rattle.laws.specs.PbnText.{columns, Game, EachBelow, Sayable, call_word, card_word, auction_tag, play_tag}
+use Rattle.laws.specs.PbnText.{board_line, seat_line, deal_line, row_line, fours, call_lines, card_lines, game_lines, ended, text}
 use Rattle.laws.specs.PbnReading.{Read, misses, reads, parted_by, Stage, board, deal, auction, first_calls, calls, calls_over, cards, may_end, State, start}
 use Rattle.laws.specs.PbnReading.{with_calls, with_play, line_in, Parsed, outside, game, end_in, after_line, parse_from, parse, whole_lines, Agrees, StopsAt}
 use Rattle.laws.proofs.Tests.{by_test}
-use Rattle.laws.proofs.PbnWords.{Free, AllFree, some_part, parted_front}
+use Rattle.laws.proofs.PbnWords.{AllFree, some_part, parted_front}
 use Rattle.laws.proofs.PbnStages.{fours_append, each_append, Base, with_play_lem, Bare, Fine, said, Step, bare_lines, listed-lines}
 use Rattle.laws.proofs.PbnSteps.{calls-said}
 use Rattle.laws.proofs.PbnParse.{Ran, ran, start_fine, sayable, each-replicate, game-outside}

@@ -1,25 +1,22 @@
 -- What stands in a text of Portable Bridge Notation is checked as a record's contents are, the seats of the tags among them. Assumes nothing.
-use Prim.Native.Nat.{ℕ, zero, suc, ◌+◌, ◌≤◌, ◌<◌}
-use native.Mathlib.Omega.{arith}
-use mathlib.Core.Path.{◌≡◌, refl, sym, ap, ap₂, ◌∙◌}
-use mathlib.Core.Bool.{Bool, true, false, not}
-use mathlib.Core.List.{List, [], ◌∷◌, reverse, reverse_aux}
+use Prim.Native.Nat.{ℕ, ◌≤◌}
+use mathlib.Core.Path.{◌≡◌, refl, sym, ap, ◌∙◌}
+use mathlib.Core.Bool.{true, false, not}
+use mathlib.Core.List.{List, [], reverse}
 use borrow.Author.Tests.{eq-eqb, ne_eqb, eqb-true, ltb-false, not-false}
 use lib.Dec.{ltb, eqb}
 use lib.ListN.{length}
 use Rattle.laws.specs.Refusals.{too_many_calls, auction_unfinished, outside_subset}
 use Rattle.laws.specs.Law2.{dealer}
-use Rattle.laws.specs.Auction.{is_over, trump_after}
+use Rattle.laws.specs.Auction.{is_over}
 use Rattle.laws.specs.CallRefusal.{call_refusal, call_place}
-use Rattle.laws.specs.Events.{cards_of}
-use Rattle.laws.specs.Law68.{none}
 use Rattle.laws.specs.Record.{Parts}
-use Rattle.laws.specs.Reading.{Reading, Reading.refused, Reading.found, onward, refuse}
+use Rattle.laws.specs.Reading.{Reading, Reading.refused, Reading.found, onward}
 use Rattle.laws.specs.Judge.{outcome, Outcome.accepted}
 use Rattle.laws.specs.Lawful.{Lawful}
-use Rattle.laws.specs.Contents.{Given, take_heading, take_deal, take_each, take_calls, take_cards, take_claim, take_parts, contents_of}
+use Rattle.laws.specs.Contents.{take_heading, take_deal, take_each, take_calls, take_parts, contents_of}
 use Rattle.laws.specs.PbnText.{Game}
-use Rattle.laws.specs.Pbn.{play_line, play_stands, cards_listed, take_game, contents_in, TagsStand}
+use Rattle.laws.specs.Pbn.{play_line, play_stands, take_game, contents_in, TagsStand}
 use Rattle.laws.proofs.Readings.{first-of, first_test, test_is, test_stops}
 use Rattle.laws.proofs.ContentsLawful.{each-kept, accepted-fits, accepted-lawful}
 use Rattle.laws.proofs.ContentsStop.{each_passes, found-refused}

@@ -1,31 +1,29 @@
 -- The texts of Portable Bridge Notation that give a record are those of a record's lawful parts, and each gives the record of its parts. Assumes nothing.
-use Rattle.std.specs.Prelude.{if◌then◌else◌}
-use Prim.Native.Nat.{ℕ, zero, suc, ◌+◌, ◌-◌, ◌%◌, ◌≤◌, ◌<◌}
+use Prim.Native.Nat.{ℕ, zero, suc, ◌-◌, ◌≤◌, ◌<◌}
 use native.Mathlib.Nat.{mod-lt}
 use native.Mathlib.Omega.{arith}
 use mathlib.Core.Path.{◌≡◌, refl, sym, ap, ap₂, ◌∙◌}
-use mathlib.Core.Bool.{Bool, true, false, not, ◌&&◌}
-use mathlib.Core.List.{List, [], ◌∷◌, ◌++◌, reverse}
+use mathlib.Core.Bool.{true, false, not}
+use mathlib.Core.List.{List, [], ◌∷◌, reverse}
 use borrow.Author.Tests.{eq-eqb, eqb-true, not-true, leb-true, leb-false}
 use lib.Dec.{eqb, leb, lit<}
 use lib.ListN.{length, get_or, get_or-eq_default}
 use Rattle.laws.specs.Cards.{no_seat, clockwise, dealt_to}
 use Rattle.laws.specs.Law2.{dealer}
 use Rattle.laws.specs.Auction.{is_over, has_bid, last_bid, passes_in_a_row, passed_out, trump_after, opening_after}
-use Rattle.laws.specs.Law44.{cards_played, all_played, winner, to_play, holds, playable, is_played}
+use Rattle.laws.specs.Law44.{cards_played, all_played, winner, to_play, holds, playable}
 use Rattle.laws.specs.Events.{Event, played, exposed, choice, cards_of, cards_among, codes_of}
 use Rattle.laws.specs.FlatPlay.{flat_of}
 use Rattle.laws.specs.Plays.{MayStand, EachStands}
-use Rattle.laws.specs.Law68.{none}
 use Rattle.laws.specs.Record.{Parts}
 use Rattle.laws.specs.Lawful.{Lawful}
 use Rattle.laws.specs.Contents.{Given, given_of}
 use Rattle.laws.specs.PbnText.{Listed, absent, columns, Game, EachBelow, Listable, Sayable}
-use Rattle.laws.specs.PbnOrder.{places_to, relisted, order_from, columns_from, order_of_play, columns_of}
+use Rattle.laws.specs.PbnOrder.{places_to, relisted, order_from, columns_from}
 use Rattle.laws.specs.Pbn.{play_stands, cards_listed, contents_in, TagsStand, listed_of, game_of, Plain}
 use Rattle.laws.proofs.Tests.{by_test, and_left, and_right, not_both}
 use Rattle.laws.proofs.Plays.{cards-reverse}
-use Rattle.laws.proofs.PbnOrder.{of-seat, in_columns, in_order}
+use Rattle.laws.proofs.PbnOrder.{in_columns, in_order}
 
 -- ---- each number of a list
 pub each_from : (n : ℕ) (l : List ℕ) → ((k : ℕ) → k < length l → get_or l k 0 < n) → EachBelow n l

@@ -1,19 +1,19 @@
 -- Reading a text of Portable Bridge Notation line by line: each line that is read is one more of those that what was read says. Assumes nothing.
 use Rattle.std.specs.Prelude.{if◌then◌else◌}
-use Prim.Native.Nat.{ℕ, zero, suc, ◌+◌, ◌-◌, ◌*◌, ◌%◌, ◌≤◌, ◌<◌}
+use Prim.Native.Nat.{ℕ, zero, suc, ◌+◌, ◌%◌, ◌≤◌, ◌<◌}
 use native.Mathlib.Omega.{arith}
-use mathlib.Core.Path.{◌≡◌, refl, sym, ap, ap₂, ◌∙◌}
-use mathlib.Core.Bool.{Bool, true, false, not, ◌&&◌, ◌||◌}
-use mathlib.Core.List.{List, [], ◌∷◌, ◌++◌, map, append_assoc, append-nil, map-append}
+use mathlib.Core.Path.{◌≡◌, refl, sym, ap, ◌∙◌}
+use mathlib.Core.Bool.{true, false}
+use mathlib.Core.List.{List, [], ◌∷◌, ◌++◌, append_assoc}
 use borrow.Author.Tests.{eqb-true, ltb-false}
-use lib.Dec.{eqb, ltb, lit≤, lit<}
-use lib.ListN.{length, replicate, length-append}
+use lib.Dec.{eqb, ltb}
+use lib.ListN.{length, length-append}
 use Rattle.laws.specs.Decimal.{starts_with}
-use Rattle.laws.specs.PbnText.{Listed, absent, columns, Game, EachBelow, Sayable, call_word, card_word, auction_tag, play_tag}
-use Rattle.laws.specs.PbnText.{board_line, seat_line, deal_line, row_line, fours, call_lines, card_lines, play_lines, game_lines}
-use Rattle.laws.specs.PbnReading.{Read, misses, reads, on_read, number_of, row_in, first_in, holders_in, is_deal_line}
-use Rattle.laws.specs.PbnReading.{Stage, board, deal, auction, first_calls, calls, calls_over, cards, may_end, State, start}
-use Rattle.laws.specs.PbnReading.{with_board, with_deal, with_caller, with_calls, with_play, with_row, goes, calls_in, play_in, cards_in, board_in, line_in}
+use Rattle.laws.specs.PbnText.{absent, columns, Game, EachBelow, call_word, card_word, auction_tag, play_tag}
+use Rattle.laws.specs.PbnText.{board_line, seat_line, row_line, fours, call_lines, play_lines, game_lines}
+use Rattle.laws.specs.PbnReading.{reads, number_of, row_in, first_in, holders_in, is_deal_line}
+use Rattle.laws.specs.PbnReading.{Stage, board, deal, auction, first_calls, calls, calls_over, cards, State}
+use Rattle.laws.specs.PbnReading.{with_board, with_deal, with_caller, with_calls, with_play, with_row, calls_in, play_in, cards_in, board_in, line_in}
 use Rattle.laws.proofs.Tests.{by_test}
 use Rattle.laws.proofs.PbnWords.{misses-reads, reads_same, first_read, number_sound, row_sound}
 use Rattle.laws.proofs.PbnDeal.{deal_sound}

@@ -1,25 +1,23 @@
 -- Every text of Portable Bridge Notation of the subset is read, as what it is the text of. Assumes nothing.
 use Rattle.std.specs.Prelude.{if◌then◌else◌}
-use Prim.Native.Nat.{ℕ, zero, suc, ◌+◌, ◌-◌, ◌*◌, ◌≤◌, ◌<◌}
+use Prim.Native.Nat.{ℕ, zero, suc, ◌*◌, ◌≤◌, ◌<◌}
 use native.Mathlib.Omega.{arith}
 use mathlib.Core.Path.{◌≡◌, refl, sym, ap, ap₂, ◌∙◌}
-use mathlib.Core.Bool.{Bool, true, false, not}
+use mathlib.Core.Bool.{true, false, not}
 use mathlib.Core.List.{List, [], ◌∷◌, ◌++◌, map, append_assoc, append-nil}
 use borrow.Author.Tests.{eq-eqb, le-ltb, not-true}
-use lib.Dec.{eqb, ltb, lit≤}
+use lib.Dec.{lit≤}
 use lib.ListN.{length, length-append}
 use Rattle.laws.specs.Auction.{level_of, strain_of}
 use Rattle.laws.specs.Decimal.{starts_with}
 use Rattle.laws.specs.Sheet.{newline}
 use Rattle.laws.specs.PbnText.{Listed, absent, columns, Game, EachBelow, Listable, Sayable, space, strain_word, call_word, card_word, auction_tag, play_tag}
 use Rattle.laws.specs.PbnText.{board_line, seat_line, deal_line, joined_by, row_line, fours, call_lines, card_lines, play_lines, game_lines, ended, text}
-use Rattle.laws.specs.PbnReading.{Read, misses, reads, on_read, number_of, parted_by, row_in, first_in, holders_in, is_deal_line}
+use Rattle.laws.specs.PbnReading.{misses, reads, parted_by, first_in, holders_in}
 use Rattle.laws.specs.PbnReading.{Stage, board, deal, auction, first_calls, calls, calls_over, cards, may_end, State, start}
 use Rattle.laws.specs.PbnReading.{with_board, with_deal, with_caller, with_calls, with_play, with_row, goes, calls_in, play_in, cards_in, board_in, line_in}
-use Rattle.laws.specs.PbnReading.{Parsed, outside, game, end_in, after_line, parse_from, parse}
-use Rattle.laws.proofs.Tests.{by_test}
+use Rattle.laws.specs.PbnReading.{Parsed, game, end_in, parse_from, parse}
 use Rattle.laws.proofs.Counts.{every_below, every_below_lem}
-use Rattle.laws.proofs.PbnOrder.{of-seat}
 use Rattle.laws.proofs.PbnWords.{Free, AllFree, number-whole, row-whole, parted_front}
 use Rattle.laws.proofs.PbnLines.{calls-apart, cards-apart, auction-apart, play-apart, boards-apart, calls_spaceless, cards_spaceless}
 use Rattle.laws.proofs.PbnLines.{calls-newline, cards-newline, auction-newline, play-newline, board-newline, row-newline, deal-newline}

@@ -13,7 +13,7 @@ use Rattle.laws.specs.CardRefusal.{card_refusal}
 use Rattle.laws.specs.CodeRefusal.{most_codes, codes_full, event_refusal}
 use Rattle.laws.specs.Kept.{NoneRefused}
 use Rattle.laws.specs.Events.{Event, played, exposed, choice, begins_code, cards_of, cards_among, codes_of}
-use Rattle.laws.specs.Reading.{number_at, Reading, Reading.found, read}
+use Rattle.laws.specs.Reading.{number_at, Reading, Reading.found}
 use Rattle.laws.specs.Record.{event_fields, play_fields}
 use Rattle.laws.specs.Plays.{play_place, read_exposed, read_choice, read_code, read_plays, MayStand, EachStands, CardsFollow}
 use Rattle.laws.proofs.Tests.{by_test}

@@ -1,32 +1,30 @@
 -- Where a flat list of plays is refused: at the first item that its rule refuses, behind plays that may stand, and which items those are that no field can
 -- hold. Assumes nothing.
-use Rattle.std.specs.Prelude.{if◌then◌else◌}
-use Prim.Native.Nat.{ℕ, suc, ◌+◌, ◌≤◌, ◌<◌, min}
+use Prim.Native.Nat.{ℕ, ◌+◌, ◌≤◌, ◌<◌, min}
 use native.Mathlib.Omega.{arith}
-use mathlib.Core.Path.{◌≡◌, refl, sym, ap, ◌∙◌}
+use mathlib.Core.Path.{◌≡◌, refl, ◌∙◌}
 use mathlib.Core.Logic.{◌⊎◌, ⊎_elim}
-use mathlib.Core.Bool.{Bool, true, false, not, ◌&&◌, ◌||◌}
+use mathlib.Core.Bool.{Bool, true, false, ◌||◌}
 use mathlib.Core.List.{List, [], ◌∷◌, ◌++◌, reverse, reverse_aux}
 use borrow.Author.Tests.{ne_eqb, le-leb, lt-leb, leb-true, lt-ltb}
-use lib.Dec.{eqb, leb, ltb}
+use lib.Dec.{eqb, ltb}
 use lib.ListN.{length}
 use Rattle.laws.specs.Choice.{some, how_many}
-use Rattle.laws.specs.Refusals.{accepted, no_card, too_many_cards, not_exposable, choice_not_open, too_many_codes}
+use Rattle.laws.specs.Refusals.{accepted, too_many_cards, not_exposable, choice_not_open, too_many_codes}
 use Rattle.laws.specs.Law44.{cards_played}
 use Rattle.laws.specs.Auction.{passed_out, trump_after, opening_after}
-use Rattle.laws.specs.CardRefusal.{card_refusal}
-use Rattle.laws.specs.Events.{Event, forbid, played, exposed, choice, exposure_code, choice_code, begins_code, cards_of, cards_among, codes_of}
+use Rattle.laws.specs.Events.{Event, forbid, played, exposed, choice, exposure_code, begins_code, cards_of, cards_among, codes_of}
 use Rattle.laws.specs.Law50.{is_exposable}
 use Rattle.laws.specs.Law51.{is_open}
 use Rattle.laws.specs.CodeRefusal.{most_codes, codes_full, exposure_refusal, choice_refusal, event_refusal}
 use Rattle.laws.specs.FlatPlay.{Item, event, broken, code_item, last_item, items_of, is_card, cards_in, is_misplaced, item_refusal, flat_of}
-use Rattle.laws.specs.Plays.{MayStand, EachStands, CardsFollow}
+use Rattle.laws.specs.Plays.{EachStands, CardsFollow}
 use Rattle.laws.specs.Reading.{Reading.refused}
 use Rattle.laws.specs.Contents.{take_items, take_cards}
 use Rattle.laws.proofs.Tests.{by_test}
 use Rattle.laws.proofs.Readings.{test_stops}
 use Rattle.laws.proofs.Plays.{cards-reverse}
-use Rattle.laws.proofs.FlatPlay.{card-first, code_first}
+use Rattle.laws.proofs.FlatPlay.{code_first}
 use Rattle.laws.proofs.KeptCards.{defenders-card, exposed_defender}
 use Rattle.laws.proofs.KeptChoices.{opened, open_suit}
 use Rattle.laws.proofs.ContentsStop.{plays-pass}

@@ -1,5 +1,5 @@
 -- Each refusal has a number from 1 to 33. Assumes nothing.
-use Rattle.std.proofs.Common.{◌≡◌, ℕ, ◌≤◌, arith}
+use Rattle.std.proofs.Common.{◌≡◌, ◌≤◌, arith}
 use Rattle.laws.specs.Refusals.{accepted}
 use Rattle.laws.specs.Refused.{number}
 use Rattle.laws.specs.declared.Refusal.{Refusal}

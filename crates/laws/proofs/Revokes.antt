@@ -1,5 +1,5 @@
 -- The test of a revoke holds exactly when a seat held a card of the suit led and played another suit. Assumes nothing.
-use Prim.Native.Nat.{ℕ, ◌<◌}
+use Prim.Native.Nat.{ℕ}
 use mathlib.Core.Path.{◌≡◌}
 use mathlib.Core.Logic.{◌↔◌}
 use mathlib.Core.Bool.{Bool, true, not, ◌&&◌}

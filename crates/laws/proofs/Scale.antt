@@ -1,18 +1,17 @@
 -- IMPs by the scale of Law 78B: the scale rises, each entry is the least size worth its IMPs, and those of two scores turned round are the negation.
 -- Assumes nothing.
-use Rattle.std.specs.Prelude.{if◌then◌else◌}
 use Prim.Native.Nat.{ℕ, zero, suc, ◌≤◌, ◌<◌, ◌+◌, ◌-◌}
 use native.Mathlib.Numerals.{add-one}
 use native.Mathlib.Omega.{arith}
 use mathlib.Core.Path.{◌≡◌, refl, sym, ap, ◌∙◌}
-use mathlib.Core.Bool.{Bool, true, false, ◌&&◌}
+use mathlib.Core.Bool.{Bool, true, false}
 use mathlib.Core.List.{List, [], ◌∷◌}
 use borrow.Author.Tests.{eqb-true, ltb-true, leb-true, leb-false, le-leb}
 use lib.Dec.{leb, ltb, eqb}
 use lib.IntN.{ℤ, pos, negsuc, neg_ℤ, nat_abs, ◌-ℤ◌, neg_ℤ-neg_ℤ}
 use lib.ListN.{length}
 use Rattle.laws.specs.Choice.{how_many}
-use Rattle.laws.specs.Refusals.{Answer, refused, answered, invalid_score}
+use Rattle.laws.specs.Refusals.{refused, answered, invalid_score}
 use Rattle.laws.specs.Law77.{valid_score}
 use Rattle.laws.specs.Law78.{lower_ends, lower_end, imps_for_size, imps_of, imps, opposite}
 use Rattle.laws.proofs.Tests.{by_test}

@@ -3,7 +3,7 @@ use Rattle.std.specs.Prelude.{if◌then◌else◌}
 use Prim.Native.Nat.{ℕ, suc, ◌+◌, ◌≤◌}
 use native.Mathlib.Omega.{arith}
 use mathlib.Core.Path.{◌≡◌, refl, sym, ap, ◌∙◌}
-use mathlib.Core.Logic.{◌↔◌, ◌⊎◌, ⊎_elim}
+use mathlib.Core.Logic.{◌↔◌, ⊎_elim}
 use mathlib.Core.Bool.{Bool, true, false}
 use mathlib.Core.List.{List, [], ◌∷◌, Memᴰ}
 use borrow.Author.Tests.{eqb-true, leb-true}
@@ -14,7 +14,6 @@ use Rattle.laws.specs.Auction.{passed_out}
 use Rattle.laws.specs.Law77.{Stake, Items, items, sum_of_items, is_made, undertrick_points, declarer_score, ns_score, valid_score}
 use Rattle.laws.specs.Record.{Parts}
 use Rattle.laws.specs.Judgement.{calls_of, declarer_of, stake_of, after_of, score_of}
-use Rattle.laws.specs.Slip
 use Rattle.laws.specs.Slip.{Name, TRICKS, OVERTRICKS, UNDERTRICKS, PARTSCORE, GAME, SLAM, DOUBLING, in_order, gain, points_of, Item, is_nothing, items_among}
 use Rattle.laws.specs.Slip.{items_of, sum_of}
 use Rattle.laws.proofs.Tests.{by_test, not_both, and_left}

@@ -1,24 +1,22 @@
 -- The rules of tally calls: refusals one after the other, deals compared, and results of one deal. Assumes nothing.
-use Rattle.std.specs.Prelude.{if◌then◌else◌}
-use Prim.Native.Nat.{ℕ, zero, suc, ◌+◌, ◌≤◌, ◌<◌}
+use Prim.Native.Nat.{ℕ, suc, ◌+◌, ◌≤◌}
 use native.Mathlib.Omega.{arith}
 use mathlib.Core.Path.{◌≡◌, refl, sym, ap, ap₂, ◌∙◌}
 use mathlib.Core.Bool.{Bool, true, false, not, ◌&&◌, ◌||◌}
 use mathlib.Core.List.{List, [], ◌∷◌, ◌++◌}
-use borrow.Author.Tests.{eqb-true, eqb-false, eq-eqb, ne_eqb, lt-ltb, le-ltb, ltb-true, ltb-false, not-true, not-false}
+use borrow.Author.Tests.{eqb-true, eqb-false, eq-eqb, ne_eqb, le-ltb, ltb-false, not-true, not-false}
 use lib.Dec.{ltb, eqb}
 use lib.IntN.{ℤ}
-use lib.ListN.{length, get_or}
+use lib.ListN.{length}
 use Rattle.laws.specs.Choice.{how_many, some}
 use Rattle.laws.specs.Cards.{no_seat, cards_dealt, seat_without_thirteen}
 use Rattle.laws.specs.Law77.{valid_score}
-use Rattle.laws.specs.Reading.{Reading, Reading.refused, Reading.found, refuse}
-use Rattle.laws.specs.Refusals.{Answer, refused, answered, Placed, refused_at, given, placed}
+use Rattle.laws.specs.Reading.{Reading.found, refuse}
 use Rattle.laws.specs.Contents.{are_seats, take_deal}
-use Rattle.laws.specs.Tally.{Result, scores_of, on_deal, same_deal, fouled, no_deal, deal_of, Thirteen}
-use Rattle.laws.specs.Tally.{Refusal, refusal, refusal_if, ◌or_else◌, refusal_in, deal_refusal}
-use Rattle.laws.specs.Tally.{score_refusal, boards_refusal, fouled_refusal, room_refusal, given_refusal, add_refusal, merge_refusal, unless_refused, asked}
-use Rattle.laws.specs.Tally.{OneDeal, AllValid}
+use Rattle.laws.specs.Tally.{Result, scores_of, on_deal, same_deal, fouled, no_deal, Thirteen}
+use Rattle.laws.specs.Tally.{Refusal, refusal, refusal_if, ◌or_else◌, deal_refusal}
+use Rattle.laws.specs.Tally.{score_refusal, boards_refusal, fouled_refusal, room_refusal, given_refusal, add_refusal, merge_refusal}
+use Rattle.laws.specs.Tally.{OneDeal}
 use Rattle.laws.proofs.Tests.{by_test, and_left, and_right, not_both}
 use Rattle.laws.proofs.Sections.{none-short}
 use Rattle.laws.proofs.ContentsLawful.{each-seat}

@@ -1,6 +1,6 @@
 -- How the definitions count: by tests that are true or false.
 -- Assumes nothing.
-use Rattle.std.specs.Prelude.{ℕ, zero, suc, ◌+◌, Bool, true, false, ◌||◌, List, [], ◌∷◌, if◌then◌else◌}
+use Rattle.std.specs.Prelude.{ℕ, zero, suc, ◌+◌, Bool, false, ◌||◌, List, [], ◌∷◌, if◌then◌else◌}
 
 -- how many members of a list pass a test
 unfoldable pub how_many : {A : Type 0} → (A → Bool) → List A → ℕ

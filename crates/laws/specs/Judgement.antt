@@ -1,6 +1,6 @@
 -- The judgement of a record's parts: contract, tricks, revokes and score by the Laws, and the bytes that say so.
 -- Assumes nothing.
-use Rattle.std.specs.Prelude.{ℕ, suc, ◌+◌, ◌-◌, ◌*◌, ◌^◌, Bool, List, [], ◌∷◌, map, reverse, eqb, ℤ, pos, negsuc, length, if◌then◌else◌}
+use Rattle.std.specs.Prelude.{ℕ, suc, ◌+◌, ◌-◌, ◌*◌, ◌^◌, List, [], ◌∷◌, map, reverse, eqb, ℤ, pos, negsuc, length, if◌then◌else◌}
 use Rattle.laws.specs.Cards.{partner_of, side_of}
 use Rattle.laws.specs.Law2.{dealer, vulnerable}
 use Rattle.laws.specs.Auction.{Contract, contract, passed_out, trump_after, opening_after}

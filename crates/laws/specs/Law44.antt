@@ -2,7 +2,7 @@
 -- A trick too is written latest card first. `trump` is the contract's strain (notrump 4: no card is of it), `opening` the seat that leads
 -- to the first trick.
 -- Assumes nothing.
-use Rattle.std.specs.Prelude.{ℕ, ◌+◌, ◌-◌, ◌/◌, ◌%◌, max, Bool, not, ◌&&◌, List, [], ◌∷◌, ◌++◌, map, eqb, length, take, if◌then◌else◌}
+use Rattle.std.specs.Prelude.{ℕ, ◌-◌, ◌/◌, ◌%◌, max, Bool, not, ◌&&◌, List, [], ◌∷◌, ◌++◌, map, eqb, length, take, if◌then◌else◌}
 use Rattle.laws.specs.Choice.{some, how_many}
 use Rattle.laws.specs.Cards.{suit_of, clockwise, side_of, dealt_to}
 

@@ -3,7 +3,7 @@
 -- Assumes nothing.
 use Rattle.std.specs.Prelude.{ℕ, ◌+◌, ◌-◌, min, Bool, ◌&&◌, ◌||◌, List, [], ◌∷◌, eqb, drop, get_or, if◌then◌else◌}
 use Rattle.laws.specs.Choice.{some}
-use Rattle.laws.specs.Cards.{no_seat, partner_of, side_of, same_side}
+use Rattle.laws.specs.Cards.{no_seat, side_of}
 use Rattle.laws.specs.Law44.{tricks_won}
 use Rattle.laws.specs.LeadRevoke.{Counted}
 

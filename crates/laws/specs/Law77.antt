@@ -1,7 +1,7 @@
 -- Law 77: the score of a contract, item by item and as one number. Levels are 1 to 7, strains 0 to 4, doublings 0 to 2, tricks 0 to 13.
 -- Beyond: a strain over 4 counts as hearts and spades do, a doubling over 2 as redoubled, level 0 as the first trick of level 1.
 -- Assumes nothing.
-use Rattle.std.specs.Prelude.{ℕ, zero, suc, ◌+◌, ◌-◌, ◌*◌, ◌%◌, Bool, not, ◌&&◌, eqb, ltb, leb, ℤ, pos, neg_ℤ, nat_abs, ◌-ℤ◌, if◌then◌else◌}
+use Rattle.std.specs.Prelude.{ℕ, zero, suc, ◌+◌, ◌-◌, ◌*◌, ◌%◌, Bool, ◌&&◌, eqb, ltb, leb, ℤ, pos, neg_ℤ, nat_abs, ◌-ℤ◌, if◌then◌else◌}
 use Rattle.laws.specs.Cards.{notrump, side_of}
 
 -- what a contract is played for: the bid's level and strain, its doubling, and whether declarer's side is vulnerable

@@ -1,7 +1,7 @@
 -- Law 78: matchpoints (A) by comparison with every other result, and IMPs (B) by the scale. Scores are North-South's.
 -- Both answer a refusal where a score isn't valid.
 -- Assumes nothing.
-use Rattle.std.specs.Prelude.{ℕ, ◌+◌, ◌-◌, ◌*◌, Bool, true, false, not, ◌&&◌, List, [], ◌∷◌, eqb, leb, ℤ, pos, negsuc, neg_ℤ, nat_abs, ◌-ℤ◌, length, get_or, if◌then◌else◌}
+use Rattle.std.specs.Prelude.{ℕ, ◌+◌, ◌-◌, ◌*◌, Bool, false, not, ◌&&◌, List, [], ◌∷◌, eqb, leb, ℤ, pos, negsuc, neg_ℤ, nat_abs, ◌-ℤ◌, length, get_or, if◌then◌else◌}
 use Rattle.std.specs.Int.Signed.{lt_z}
 use Rattle.laws.specs.Choice.{how_many}
 use Rattle.laws.specs.Refusals.{Answer, refused, answered, invalid_score, score_not_in_tally}

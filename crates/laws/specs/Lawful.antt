@@ -1,6 +1,6 @@
 -- Which parts make a lawful record: its layout, deal, calls, cards and claim, each by the Laws on histories.
 -- Assumes nothing.
-use Rattle.std.specs.Prelude.{ℕ, ◌≤◌, ◌<◌, ◌%◌, ◌≡◌, true, false, List, [], reverse, length, get_or, take}
+use Rattle.std.specs.Prelude.{ℕ, ◌≤◌, ◌<◌, ◌≡◌, true, false, List, [], reverse, length, get_or, take}
 use Rattle.laws.specs.Cards.{cards_dealt}
 use Rattle.laws.specs.Law2.{dealer}
 use Rattle.laws.specs.Auction.{is_over, passed_out, allowed, trump_after, opening_after}

@@ -2,7 +2,7 @@
 -- contents of a record are, by the same checks in the same order, and among them the seats of the tags: Auction's directly after board and table, Play's
 -- directly after the calls.
 -- Assumes nothing.
-use Rattle.std.specs.Prelude.{ℕ, ◌+◌, ◌/◌, min, ◌≡◌, Bool, true, not, ◌&&◌, List, [], ◌∷◌, reverse, eqb, length, if◌then◌else◌}
+use Rattle.std.specs.Prelude.{ℕ, ◌+◌, ◌/◌, min, ◌≡◌, Bool, true, not, ◌&&◌, List, [], reverse, eqb, length, if◌then◌else◌}
 use Rattle.laws.specs.Refusals.{outside_subset}
 use Rattle.laws.specs.Law2.{dealer}
 use Rattle.laws.specs.Auction.{passed_out, trump_after, opening_after}

@@ -1,9 +1,9 @@
 -- The program that reads Portable Bridge Notation: what it prints of its input, which has the table's number on its first line and then a text. Bytes are ASCII
 -- codes.
 -- Assumes nothing.
-use Rattle.std.specs.Prelude.{ℕ, suc, Bool, not, ◌&&◌, List, [], ◌∷◌, ◌++◌, ltb, leb, eqb, length, drop, if◌then◌else◌}
+use Rattle.std.specs.Prelude.{ℕ, suc, Bool, not, ◌&&◌, List, [], ◌∷◌, ltb, leb, eqb, length, drop, if◌then◌else◌}
 use Rattle.laws.specs.Refusals.{outside_subset}
-use Rattle.laws.specs.Decimal.{zero_digit, starts_with, decimal, is_number, value}
+use Rattle.laws.specs.Decimal.{zero_digit, starts_with, is_number, value}
 use Rattle.laws.specs.Record.{encode}
 use Rattle.laws.specs.Judge.{Outcome, Outcome.refused, Outcome.accepted}
 use Rattle.laws.specs.Sheet.{newline}

@@ -1,14 +1,14 @@
 -- Portable Bridge Notation, read: what stands in a text of the subset, or the line where no text of the subset goes on as the text does.
 -- The text is cut at its newlines. A line is read as the number whose word or line it is, so that reading is the inverse of printing.
 -- Assumes nothing.
-use Rattle.std.specs.Prelude.{ℕ, zero, suc, ◌+◌, ◌-◌, ◌*◌, ◌≤◌, ◌<◌, min, ◌≡◌, Bool, true, false, ◌&&◌, List, [], ◌∷◌, ◌++◌, eqb, ltb, leb, length, get_or, take, drop, replicate, set, if◌then◌else◌}
+use Rattle.std.specs.Prelude.{ℕ, zero, suc, ◌+◌, ◌-◌, ◌*◌, ◌≤◌, ◌≡◌, Bool, true, false, ◌&&◌, List, [], ◌∷◌, ◌++◌, eqb, ltb, length, get_or, take, drop, replicate, set, if◌then◌else◌}
 use Rattle.laws.specs.Cards.{no_seat, clockwise, spades}
 use Rattle.laws.specs.Contents.{are_seats}
 use Rattle.laws.specs.Decimal.{starts_with}
 use Rattle.laws.specs.Sheet.{newline}
 use Rattle.laws.specs.Sheet as Sheet
-use Rattle.laws.specs.PbnText.{Listed, absent, columns, Game, letter_of, seat_letters, rank_letters, space, dot, call_word, card_word}
-use Rattle.laws.specs.PbnText.{deal_tag, auction_tag, play_tag, board_line, seat_line, deal_line, Sayable, ended, text}
+use Rattle.laws.specs.PbnText.{Listed, absent, columns, Game, seat_letters, rank_letters, space, dot, call_word, card_word}
+use Rattle.laws.specs.PbnText.{auction_tag, play_tag, board_line, seat_line, deal_line, Sayable, ended, text}
 
 -- what is read, or that nothing is
 pub data Read (A : Type 0) : Type 0 where

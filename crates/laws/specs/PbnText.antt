@@ -1,6 +1,6 @@
 -- Portable Bridge Notation: what stands in a text of the subset, and the text that says it. Bytes are ASCII codes.
 -- Assumes nothing.
-use Rattle.std.specs.Prelude.{ℕ, zero, suc, ◌+◌, ◌*◌, ◌%◌, ◌≤◌, ◌<◌, ◌≡◌, Bool, true, false, ◌||◌, List, [], ◌∷◌, ◌++◌, map, eqb, length, get_or, if◌then◌else◌}
+use Rattle.std.specs.Prelude.{ℕ, zero, suc, ◌+◌, ◌*◌, ◌%◌, ◌≤◌, ◌<◌, ◌≡◌, List, [], ◌∷◌, ◌++◌, map, eqb, length, get_or, if◌then◌else◌}
 use Rattle.laws.specs.Cards.{suit_of, dealt_to, clockwise, clubs, diamonds, hearts, spades, notrump}
 use Rattle.laws.specs.Auction.{pass, double, redouble, level_of, strain_of}
 use Rattle.laws.specs.Decimal.{digit, decimal}

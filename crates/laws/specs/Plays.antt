@@ -2,7 +2,7 @@
 -- card, and declarer's choice before a lead.
 -- Histories have the latest event first; the plays of a record stand in their order.
 -- Assumes nothing.
-use Rattle.std.specs.Prelude.{ℕ, zero, suc, ◌≤◌, ◌≡◌, Bool, true, not, List, [], ◌∷◌, eqb, if◌then◌else◌}
+use Rattle.std.specs.Prelude.{ℕ, zero, suc, ◌≤◌, ◌≡◌, true, not, List, [], ◌∷◌, eqb, if◌then◌else◌}
 use Rattle.laws.specs.Refusals.{accepted, too_many_codes}
 use Rattle.laws.specs.Law44.{cards_played, playable}
 use Rattle.laws.specs.CardRefusal.{card_refusal}

@@ -1,7 +1,7 @@
 -- Reading a record from its first bit on: what is read with the bit behind it, or a refusal with its number and place.
 -- Bit 0 is the most significant bit of the first byte. A reader is written in `do` notation, a line for each field and each refusal.
 -- Assumes nothing.
-use Rattle.std.specs.Prelude.{ℕ, zero, suc, ◌+◌, ◌-◌, ◌*◌, ◌/◌, ◌%◌, ◌^◌, Bool, true, false, not, ◌||◌, List, [], ◌∷◌, leb, eqb, length, get_or, if◌then◌else◌}
+use Rattle.std.specs.Prelude.{ℕ, zero, suc, ◌+◌, ◌-◌, ◌*◌, ◌/◌, ◌%◌, ◌^◌, Bool, not, ◌||◌, List, [], ◌∷◌, leb, eqb, length, get_or, if◌then◌else◌}
 use Rattle.laws.specs.Refusals.{accepted, record_ends, not_padding}
 
 infixl 10 ◌>>=◌

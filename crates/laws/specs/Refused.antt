@@ -11,7 +11,6 @@ use Rattle.laws.specs.declared.Refused.{Refused}
 use Rattle.laws.specs.Refusals.{Answer, refused, answered, Placed, refused_at, given, refusal_number, accepted}
 use Rattle.laws.specs.Refusals as Numbers
 use Rattle.laws.specs.Reading.{Reading}
-use Rattle.laws.specs.Reading as Reading
 
 -- the number of a refusal
 abbrev pub number : Refusal → ℕ

@@ -1,7 +1,7 @@
 -- The sheet (docs/RULES.md, 12): a text of scores, one a line, gives the table of Law 78A, or the first line that is refused. It knows no tally: the
 -- table is made of the list of scores alone. Bytes are ASCII codes.
 -- Assumes nothing.
-use Rattle.std.specs.Prelude.{ℕ, suc, ◌+◌, Bool, true, false, not, ◌&&◌, ◌||◌, List, [], ◌∷◌, ◌++◌, map, ltb, leb, eqb, ℤ, pos, neg_ℤ, length, drop, if◌then◌else◌}
+use Rattle.std.specs.Prelude.{ℕ, suc, Bool, not, ◌&&◌, ◌||◌, List, [], ◌∷◌, ◌++◌, map, ltb, leb, eqb, ℤ, pos, neg_ℤ, length, drop, if◌then◌else◌}
 use Rattle.std.specs.Int.Signed.{lt_z}
 use Rattle.laws.specs.Decimal.{zero_digit, minus, starts_with, decimal, signed_decimal, is_number, value}
 use Rattle.laws.specs.Law77.{valid_score}

@@ -1,5 +1,5 @@
 -- What the functions that read words answer. Assumes nothing.
-use Rattle.std.specs.Prelude.{ℕ, suc, ◌+◌, ◌-◌, ◌*◌, Bool, true, false, List, [], ◌∷◌, eqb, length, get_or, Option, Some, None, if◌then◌else◌}
+use Rattle.std.specs.Prelude.{ℕ, ◌+◌, ◌-◌, ◌*◌, Bool, true, false, List, eqb, length, get_or, Option, Some, None, if◌then◌else◌}
 use Rattle.laws.specs.PbnText.{call_word, card_word}
 use Rattle.laws.specs.PbnReading.{Read, misses, reads, number_of}
 

@@ -7,7 +7,6 @@ use Rattle.tally.specs.Tallies.{no_tally}
 use Rattle.tree_script.specs.declared.Call.{Call}
 use Rattle.tree_stack.specs.declared.Said.{Said}
 use Rattle.tree_stack.specs.Saying.{Saying, saying, Stepped}
-use Rattle.tree_stack.specs.Saying as Saying
 use Rattle.tree_run.specs.declared.Run.{Run}
 use Rattle.tree_run.specs.declared.Fed.{Fed}
 use Rattle.tree_script.specs.Calls.{call_on}

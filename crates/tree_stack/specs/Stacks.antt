@@ -16,7 +16,6 @@ use Rattle.tree_script.specs.declared.Call.TheVariants.{Fresh, Add, Merge, Match
 use Rattle.tree_stack.specs.Deals.{deal_numbered}
 use Rattle.tree_stack.specs.declared.Stack.{Stack}
 use Rattle.tree_stack.specs.Saying.{Saying, Stepped}
-use Rattle.tree_stack.specs.Saying as Saying
 
 -- the tally at a place of the stack; past the places of the stack, one that has none itself
 abbrev pub tally_at : Stack → ℕ → Tally

@@ -8,7 +8,20 @@ ghost use Rattle.percentages.specs.Cells.{entered, cell_answer, Numbered};
 ghost use Rattle.matchpoints.specs.Points.{points_answer};
 ghost use Rattle.tree_stack.specs.Deals.{suits, deal_numbered};
 ghost use Rattle.tree_stack.specs.Saying.{saying, stepped};
-ghost use Rattle.tree_stack.specs.Stacks.{top_of, stopped, landed, said_of, fresh_step, add_step, merge_step, matchpoints_step, said_cell, cell_step, award_step, step_of};
+ghost use Rattle.tree_stack.specs.Stacks.{
+  top_of,
+  stopped,
+  landed,
+  said_of,
+  fresh_step,
+  add_step,
+  merge_step,
+  matchpoints_step,
+  said_cell,
+  cell_step,
+  award_step,
+  step_of,
+};
 
 use deal::SUITS;
 use laws::Refused;

@@ -1,12 +1,10 @@
 -- `write_game` meets its contract: what is given to the writer is what stands in the text. Assumes nothing.
 use Rattle.std.specs.Prelude.{None, Ok}
-use Prim.Native.Nat.{◌≤◌}
 use native.Mathlib.Omega.{arith}
-use mathlib.Core.Path.{◌≡◌, refl, sym, ap, ◌∙◌}
+use mathlib.Core.Path.{◌≡◌, refl, ap, ◌∙◌}
 use mathlib.Core.List.{reverse}
 use borrow.Author.Rules.{rules}
 use lib.ListN.{length, take}
-use lib.Seq.{length-take-le}
 use Rattle.laws.specs.Auction.{trump_after}
 use Rattle.laws.specs.PbnText.{Game, Sayable}
 use Rattle.laws.specs.PbnReading.{game}

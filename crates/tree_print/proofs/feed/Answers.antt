@@ -1,6 +1,6 @@
 -- `tree_print::feed` meets its contract. Assumes nothing.
-use Rattle.std.proofs.Common.{◌≡◌, sym, ap, ◌∙◌}
-use Rattle.tree_run.specs.Runs.{Brought, taken_byte}
+use Rattle.std.proofs.Common.{sym, ap, ◌∙◌}
+use Rattle.tree_run.specs.Runs.{Brought}
 use Rattle.tree_print.proofs.Feeding.{fed_more, fed_all}
 use Rattle.tree_print.proofs.feed.Goals as goal
 

@@ -1,5 +1,5 @@
 -- `tree_script::read_call` meets its contract. Assumes nothing.
-use mathlib.Core.Path.{sym, ap, ◌∙◌}
+use mathlib.Core.Path.{ap, ◌∙◌}
 use Rattle.tree_script.specs.declared.Call.TheVariants.{Cell}
 use Rattle.tree_script.specs.Calls.{given_on, with_given, award_on, call_on, cell_word, award_word}
 use Rattle.decimal.proofs.Scores.{rest-is}

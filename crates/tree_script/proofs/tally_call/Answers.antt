@@ -1,5 +1,5 @@
 -- `tree_script::tally_call` meets its contract. Assumes nothing.
-use mathlib.Core.Path.{sym, ap, ◌∙◌}
+use mathlib.Core.Path.{ap, ◌∙◌}
 use Rattle.tree_script.specs.declared.Call.TheVariants.{Add, Matchpoints}
 use Rattle.tree_script.specs.Calls.{fresh_on, given_on, with_given, fresh_word, add_word, matchpoints_word, merge_word}
 use Rattle.decimal.proofs.Scores.{rest-is}
