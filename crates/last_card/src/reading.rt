@@ -105,8 +105,7 @@ fn holders(bytes: &[u8]) -> [u8; 52]
     row
 }
 
-// The deal, which stands behind board and table. `deal::take_places` asks besides whether each holder is a seat, which two bits always are: the judge has no
-// time for it.
+// The deal, which stands behind board and table. `deal::take_places` asks besides whether each holder is a seat, which two bits always are.
 pub(crate) fn read_deal(bytes: &[u8]) -> Result<Dealt, Refused>
     ensures { placed_of result ≡ deal_of (read_deal bytes.now 16) }
 {

@@ -22,8 +22,8 @@ pub struct Run {
     pub stopped: Option<NotPlayed>,
 }
 
-// The run of so many cards from a bit on, all of which lie whole within the bytes. A card is asked about and then played, which `Play::take` does in one:
-// with the position in a Result at each card the judge takes four parts in a hundred longer.
+// The run of so many cards from a bit on, all of which lie whole within the bytes. A card is asked about and then played, which `Play::take` does in one: with
+// the position in a Result at each card the judge takes two to three parts in a hundred longer, and docs/PERFORMANCE.md has it behind its time before.
 pub(crate) fn read_run(bytes: &[u8], first: Play, at: usize, count: u16) -> Run
     requires to { at < 65536 }
     requires whole { 6 * count ≤ 8 * length bytes.now - at }

@@ -53,7 +53,7 @@ pub(crate) fn read_text(text: &[u8]) -> Result<Text, u32>
     let mut t = start_text();
     let mut line: u32 = 1;
     let mut at: usize = 0;
-    // A turn goes from a line's start to the next one's: the lines of `split` do not tell whether a newline ends them, and the last has to have one.
+    // A turn goes from a line's start to the next one's: `split_inclusive` leaves the newline at a line's end, to be taken off again, and is no plainer.
     while at <= text.len() {
         let end = part_end(text, at, b'\n');
         if end == text.len() {

@@ -1,4 +1,4 @@
-// A run of a script whose answers are written as they come, and the top tally at its end. The texts are those that `sheet_text` puts into lent bytes.
+// A run of a script whose answers are written as they come, and the top tally at its end. The texts are those that `answer_text` puts into lent bytes.
 // An error is the writer's. It leaves the run as it was given, and some of the answers may be written.
 #![tactic(auto)]
 
@@ -61,8 +61,6 @@ pub fn finish<W: Write>(out: &mut W, run: Run) -> io::Result<Run>
     if last.over {
         return Ok(last);
     }
-    if let Some(t) = tree_stack::top(last.stack) {
-        show(out, t)?;
-    }
+    show(out, tree_run::top(last.stack))?;
     Ok(last)
 }

@@ -1,8 +1,9 @@
 -- A run of a script, byte by byte: what it leaves, and what each byte brings. Assumes nothing.
-use Rattle.std.specs.Prelude.{ℕ, Bool, true, false, eqb, replicate, Option, None, Some, if◌then◌else◌}
+use Rattle.std.specs.Prelude.{ℕ, ◌-◌, Bool, true, false, eqb, replicate, Option, None, Some, if◌then◌else◌}
 use Rattle.laws.specs.Sheet.{newline}
 use Rattle.script_line.specs.declared.Line.{Line}
 use Rattle.script_line.specs.Lines.{first_line, with_byte, next_line, too_long, text_of}
+use Rattle.tally.specs.declared.Tally.{Tally}
 use Rattle.tally.specs.Tallies.{no_tally}
 use Rattle.tree_script.specs.declared.Call.{Call}
 use Rattle.tree_stack.specs.declared.Said.{Said}
@@ -10,7 +11,8 @@ use Rattle.tree_stack.specs.Saying.{Saying, saying, Stepped}
 use Rattle.tree_run.specs.declared.Run.{Run}
 use Rattle.tree_run.specs.declared.Fed.{Fed}
 use Rattle.tree_script.specs.Calls.{call_on}
-use Rattle.tree_stack.specs.Stacks.{step_of}
+use Rattle.tree_stack.specs.declared.Stack.{Stack}
+use Rattle.tree_stack.specs.Stacks.{tally_at, lacks, step_of}
 
 -- before the first byte: an empty stack and an empty line
 unfoldable pub start_of : Run
@@ -66,3 +68,7 @@ taken_byte r b = if r.over then silently r else if eqb b newline then line_done 
 -- the end of the script: its last line may lack a newline
 unfoldable pub finished_of : Run → Brought
 finished_of r = if r.over then silently r else if eqb r.line.length 0 then silently r else line_done r
+
+-- the top tally of a stack; an all-zero one where it has none
+unfoldable pub top_of : Stack → Tally
+top_of s = if lacks s 1 then no_tally else tally_at s (s.used - 1)

@@ -3,9 +3,10 @@
 
 ghost use Rattle.std.specs.Prelude.{◌≡◌, None};
 ghost use Rattle.tree_stack.specs.Saying.{saying};
-ghost use Rattle.tree_run.specs.Runs.{start_of, is_ended, brought, call_in, line_done, taken_byte, finished_of};
+ghost use Rattle.tree_run.specs.Runs.{start_of, is_ended, brought, call_in, line_done, taken_byte, finished_of, top_of};
 
 use script_line::{Line, first_line, next_line, with_byte};
+use tally::Tally;
 use tree_script::{Call, read_call};
 use tree_stack::{Said, Stack, make_call};
 
@@ -107,4 +108,11 @@ pub fn finish(run: Run) -> Fed
         return silent(run);
     }
     line_done(run)
+}
+
+// The top tally of a stack; the all-zero one where it has none.
+pub fn top(s: Stack) -> Tally
+    ensures { result ≡ top_of s }
+{
+    tree_stack::top(s).unwrap_or(tally::empty(0, [0u8; 52]))
 }
