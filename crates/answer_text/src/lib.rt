@@ -2,12 +2,10 @@
 #![tactic(auto)]
 
 ghost use Rattle.std.specs.Prelude.{◌≡◌, ◌≤◌, ◌<◌, length};
-ghost use Rattle.laws.specs.Refused.{number};
 ghost use Rattle.answer_text.specs.Answers.{placed_text, refused_at_text, hex_digit, hex_digits, bits_text};
 ghost use Rattle.answer_text.specs.Answers.{said_text, entry_text, tally_text};
 ghost use Rattle.text.specs.Putting.{Put, written, length_within, left_in};
 
-use laws::Refused;
 use tally::Tally;
 use text::{
     lend, put_byte, put_bytes, put_decimal, put_field, put_pair, put_refusal, put_refused,
@@ -27,14 +25,23 @@ fn put_placed(out: &mut [u8], n: u8, place: u16) -> usize
 }
 
 // A refusal; its place is told where it is not 0.
-fn put_refused_at(out: &mut [u8], refused: Refused) -> usize
-    ensures { Put out.old 0 (refused_at_text (number refused.refusal) refused.place) out.new result }
+fn put_refused_at(out: &mut [u8], n: u8, place: u16) -> usize
+    ensures { Put out.old 0 (refused_at_text n place) out.new result }
 {
-    let n = refused.refusal.number();
-    if refused.place == 0 {
+    if place == 0 {
         return put_refused(out, n);
     }
-    put_placed(out, n, refused.place)
+    put_placed(out, n, place)
+}
+
+// Writes that a call is refused with a number, any of eight bits, and with any place to lent bytes. 34 bytes are enough.
+pub fn write_refused(n: u8, place: u16, out: &mut [u8]) -> Option<usize>
+    ensures answer { written result ≡ length_within (refused_at_text n place) (length out.old) }
+    ensures bytes { out.new ≡ left_in out.old (refused_at_text n place) }
+{
+    let mut text = [0u8; 34];
+    let size = put_refused_at(&mut text, n, place);
+    lend(&text[..size], out)
 }
 
 // A number below 16 as a hexadecimal digit.
@@ -73,7 +80,7 @@ fn put_said(out: &mut [u8], said: Said, line: u64) -> usize
 {
     match said {
         Said::Done => put_bytes(out, 0, b"ok\n"),
-        Said::Refused(refused) => put_refused_at(out, refused),
+        Said::Refused(refused) => put_refused_at(out, refused.refusal.number(), refused.place),
         Said::Points(ns, ew) => put_pair(out, ns, ew),
         Said::Played(bits) => put_bits(out, b"played ", bits),
         Said::Awarded(bits) => put_bits(out, b"awarded ", bits),

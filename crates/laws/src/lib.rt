@@ -2,6 +2,7 @@
 #![tactic(auto)]
 
 ghost use Rattle.std.specs.Prelude.{◌≡◌};
+ghost use Rattle.laws.specs.Refusals.{refusal_number};
 ghost use Rattle.laws.specs.Refused.{number, number_with_place};
 
 // Why something is refused.
@@ -101,10 +102,17 @@ pub struct Refused {
     pub place: u16,
 }
 
+// A number of a refusal, any of eight bits, and any place as one number: refusal × 1024 + place.
+pub fn refusal_number(refusal: u8, place: u16) -> u32
+    ensures { result ≡ refusal_number refusal place }
+{
+    u32::from(refusal) * 1024 + u32::from(place)
+}
+
 impl From<Refused> for u32 {
     ghost from_gives = { λ e n. n ≡ number_with_place e };
 
     fn from(refused: Refused) -> u32 {
-        u32::from(refused.refusal.number()) * 1024 + u32::from(refused.place)
+        refusal_number(refused.refusal.number(), refused.place)
     }
 }

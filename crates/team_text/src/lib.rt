@@ -3,6 +3,7 @@
 
 ghost use Rattle.std.specs.Prelude.{◌≡◌, ◌≤◌, length};
 ghost use Rattle.laws.specs.Decimal.{signed_decimal};
+ghost use Rattle.laws.specs.Refusals.{refused};
 ghost use Rattle.laws.specs.Sheet.{refusal};
 ghost use Rattle.score.specs.Units.{imp_answer};
 ghost use Rattle.text.specs.Putting.{Put, written, length_within, left_in};
@@ -42,6 +43,16 @@ pub fn write_board(answer: Result<Imps, Refusal>, out: &mut [u8]) -> Option<usiz
     let mut text = [0u8; 12];
     let n = put_board(&mut text, answer);
     lend(&text[..n], out)
+}
+
+// Writes that a board is refused with a number, any of eight bits, to lent bytes. 12 bytes are enough.
+pub fn write_refused(n: u8, out: &mut [u8]) -> Option<usize>
+    ensures answer { written result ≡ length_within (board_text (refused n)) (length out.old) }
+    ensures bytes { out.new ≡ left_in out.old (board_text (refused n)) }
+{
+    let mut text = [0u8; 12];
+    let size = put_refused(&mut text, n);
+    lend(&text[..size], out)
 }
 
 // Writes that a line cannot be read to lent bytes. 34 bytes are enough.

@@ -19,7 +19,8 @@ unfolding said_text
 returns-in-Refused c =
     let e = c.in-Refused.refused in
     let m : e.place < 65536 = search rules in
-    rw c.in-Refused.is (c.put_refused_at.ensures, refused_at_short (number e.refusal) e.place (omega (arith, number_most e.refusal)) m)
+    let short = refused_at_short (number e.refusal) e.place (omega (arith, number_most e.refusal)) m in
+    rw (c.in-Refused.is, ← c.number.ensures) (c.put_refused_at.ensures, rw c.number.ensures short)
 
 pub returns-in-Points : goal.returns-in-Points
 unfolding said_text refusal_line
