@@ -3,6 +3,7 @@ pub mod Lists
 pub mod Formed
 pub mod Places
 pub mod Refusing
+pub mod Given
 pub mod OfLists
 pub mod Shapes
 pub mod Tables

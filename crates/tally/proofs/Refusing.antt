@@ -12,12 +12,14 @@ use Rattle.laws.specs.Law77.{valid_score}
 use Rattle.laws.specs.Refusals.{Placed, refused_at, given, fouled_board}
 use Rattle.laws.specs.Refused.{number, placed_by}
 use Rattle.laws.specs.declared.Refused.{Refused}
-use Rattle.laws.specs.Tally.{on_deal, Refusal, refusal, refusal_if, ◌or_else◌, deal_refusal, score_refusal, fouled_refusal, given_refusal}
+use Rattle.laws.specs.Tally.{on_deal, Refusal, refusal, refusal_if, ◌or_else◌, score_refusal, fouled_refusal, given_refusal}
 use Rattle.laws.specs.Tally.{fresh_refusal}
 use Rattle.laws.proofs.Tests.{by_test}
 use Rattle.laws.proofs.TallyRules.{or_first, or_second, fouled_on}
 use Rattle.laws.proofs.RefusalNumbers.{number_not_none}
-use Rattle.tally.specs.Steps.{apart, ruled, given_by}
+use Rattle.std.specs.Prelude as Std
+use Rattle.deal.specs.declared.given.Dealt.{Dealt}
+use Rattle.tally.specs.Steps.{apart, ruled, given_by, dealt_by}
 
 -- ---- of a board
 pub board-zero : (board : ℕ) → board ≡ 0 → fresh_refusal board ≡ 3
@@ -93,29 +95,52 @@ pub fouled_lists : (results others : ℕ) (d : List ℕ) (l : List ℤ) (e : Lis
 unfolding apart fouled_refusal
 fouled_lists results others d l e m n k = rw (n, k, fouled_on d l e m)
 
--- ---- a score with its deal, one test after the other
+-- ---- a score with its deal
 module _ (carried : List ℕ) (results : ℕ) (s : ℤ) (deal : List ℕ) where
-  abbrev fouls : Refusal
-  fouls = refusal_if (apart results 1 carried deal) fouled_board
-
-  pub given_invalid : (e : Refused) → ruled e ≡ refusal 20 → valid_score s ≡ false → ruled e ≡ given_by carried results s deal
-  unfolding given_by score_refusal
-  given_invalid e q v = refused_first e (score_refusal s) _ (q ∙ rw v)
-
-  valid-passes : valid_score s ≡ true → (later : Refusal) → score_refusal s or_else later ≡ later
-  unfolding score_refusal
-  valid-passes v later = or_second (score_refusal s) later (rw v)
-
-  pub given_uneven : (e : Refused) → valid_score s ≡ true → ruled e ≡ deal_refusal deal → ruled e ≡ given_by carried results s deal
-  unfolding given_by
-  given_uneven e v q = refused_first e (deal_refusal deal) fouls q ∙ sym (valid-passes v _)
-
-  pub given_last : valid_score s ≡ true → (deal_refusal deal).number ≡ 0 → given_by carried results s deal ≡ fouls
-  unfolding given_by
-  given_last v z = valid-passes v _ ∙ or_second (deal_refusal deal) fouls z
-
   -- what they come to is the rules' refusal of a result that is given
   pub given_law : (scores : List ℤ) → results ≡ length scores
       → given_by carried results s deal ≡ given_refusal (on_deal carried scores) (record { score = s; deal = deal })
   unfolding given_by given_refusal
   given_law scores n = rw (fouled_lists results 1 carried scores deal (s ∷ []) n refl)
+
+-- ---- the same with the deal as it was taken
+module _ (carried : List ℕ) (results : ℕ) (s : ℤ) where
+  passes : valid_score s ≡ true → (later : Refusal) → score_refusal s or_else later ≡ later
+  unfolding score_refusal
+  passes v later = or_second (score_refusal s) later (rw v)
+
+  abbrev told : Refusal → Placed (List ℕ)
+  told r = refused_at r.number r.place
+
+  pub dealt_invalid : (e : Refused) (x : Std.Result Dealt Refused) → ruled e ≡ refusal 20 → valid_score s ≡ false
+      → refused_at (number e.refusal) e.place ≡ dealt_by carried results s x
+  unfolding dealt_by score_refusal
+  dealt_invalid e (Std.Ok d) q v = refused-as e _ d.holders (refused_first e (score_refusal s) _ (q ∙ rw v))
+  dealt_invalid e (Std.Err f) q v = ap told (refused_first e (score_refusal s) (ruled f) (q ∙ rw v))
+
+  pub dealt_uneven : (e : Refused) → valid_score s ≡ true → refused_at (number e.refusal) e.place ≡ dealt_by carried results s (Std.Err e)
+  unfolding dealt_by
+  dealt_uneven e v = ap told (sym (passes v (ruled e)))
+
+  pub dealt_fouls : (e : Refused) (d : Dealt) → valid_score s ≡ true → ruled e ≡ refusal_if (apart results 1 carried d.holders) fouled_board
+      → refused_at (number e.refusal) e.place ≡ dealt_by carried results s (Std.Ok d)
+  unfolding dealt_by
+  dealt_fouls e d v q = refused-as e _ d.holders (q ∙ sym (passes v _))
+
+  pub dealt_given : (d : Dealt) → valid_score s ≡ true → refusal 0 ≡ refusal_if (apart results 1 carried d.holders) fouled_board
+      → given d.holders ≡ dealt_by carried results s (Std.Ok d)
+  unfolding dealt_by
+  dealt_given d v q = given-as _ d.holders d.holders (no_refusal _ (q ∙ sym (passes v _))) refl
+
+  -- a refusal of the score, or of the deal behind it
+  pub score_or : (e : Refused) → (score_refusal s or_else ruled e).number ≡ 0 → ⊥
+  score_or e z =
+      by_test (eqb (score_refusal s).number 0)
+      (λ (q : eqb (score_refusal s).number 0 ≡ true).
+      number_not_none e.refusal (ap (λ (r : Refusal). r.number) (sym (or_second (score_refusal s) (ruled e) (eqb-true _ 0 q))) ∙ z))
+      (λ (q : eqb (score_refusal s).number 0 ≡ false).
+      let n = eqb-false (score_refusal s).number 0 q in
+      n (ap (λ (r : Refusal). r.number) (sym (or_first (score_refusal s) (ruled e) n)) ∙ z))
+
+pub refused-when : {A : Type 0} (r : Refusal) (a : A) → (r.number ≡ 0 → ⊥) → refused_at r.number r.place ≡ placed_by r.number r.place a
+refused-when r a h = rw (ne_eqb r.number 0 h)

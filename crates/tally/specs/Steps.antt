@@ -1,12 +1,13 @@
 -- What a check of a tally answers, and refusals one by one.
 -- Assumes nothing.
 use Rattle.std.specs.Prelude.{ℕ, Bool, not, ◌&&◌, List, eqb, ℤ, length, Option, Some, None, Result, Ok, Err, if◌then◌else◌}
-use Rattle.laws.specs.Refusals.{fouled_board}
-use Rattle.laws.specs.Refused.{number}
+use Rattle.laws.specs.Refusals.{Placed, refused_at, fouled_board}
+use Rattle.laws.specs.Refused.{number, placed_by}
 use Rattle.laws.specs.declared.Refusal.TheVariants.{MalformedTally}
 use Rattle.laws.specs.declared.Refused.{Refused}
 use Rattle.laws.specs.Tally.{same_deal, Refusal, refusal, refusal_if, score_refusal, deal_refusal, ◌or_else◌}
 use Rattle.laws.specs.Refusals.{accepted}
+use Rattle.deal.specs.declared.given.Dealt.{Dealt}
 use Rattle.tally.specs.declared.Size.{Size}
 use Rattle.tally.specs.declared.Tally.{Tally}
 use Rattle.tally.specs.Tallies.{entries_in, scores_in, well_formed}
@@ -45,3 +46,12 @@ held (Err e) = ruled e
 unfoldable pub given_by : List ℕ → ℕ → ℤ → List ℕ → Refusal
 given_by carried results score deal =
     score_refusal score or_else deal_refusal deal or_else refusal_if (apart results 1 carried deal) fouled_board
+
+-- the same with the deal as it was taken: its own refusal directly after 20, or its holders, where 28 is not said of them
+unfoldable pub dealt_by : List ℕ → ℕ → ℤ → Result Dealt Refused → Placed (List ℕ)
+dealt_by carried results score (Ok d) =
+    let r = score_refusal score or_else refusal_if (apart results 1 carried d.holders) fouled_board in
+    placed_by r.number r.place d.holders
+dealt_by carried results score (Err e) =
+    let r = score_refusal score or_else ruled e in
+    refused_at r.number r.place

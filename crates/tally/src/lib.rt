@@ -10,7 +10,9 @@ ghost use Rattle.tally.specs.Steps.{sized, check_of};
 use deal::take_places;
 use laws::{Refusal, Refused};
 use refusals::same_deal;
-pub use refusals::{boards_refusal, fouled_refusal, given_refusal, kept_deal, room_refusal};
+pub use refusals::{
+    boards_refusal, dealt_refusal, fouled_refusal, given_refusal, kept_deal, room_refusal,
+};
 use score::valid;
 
 // A board with the deal of its results, the holders of the 52 cards, and with its distinct scores, highest first, and the number of results of each; unused

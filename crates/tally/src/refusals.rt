@@ -3,9 +3,9 @@ ghost use Rattle.std.specs.Prelude.{◌≡◌};
 ghost use Rattle.laws.specs.Refusals.{fouled_board};
 ghost use Rattle.laws.specs.Refused.{placed_of, placed_by};
 ghost use Rattle.laws.specs.Tally.{same_deal, refusal_if, boards_refusal, room_refusal};
-ghost use Rattle.tally.specs.Steps.{apart, kept_deal, held, given_by};
+ghost use Rattle.tally.specs.Steps.{apart, kept_deal, held, given_by, dealt_by};
 
-use deal::take;
+use deal::{Dealt, take};
 use laws::{Refusal, Refused};
 use score::valid;
 
@@ -63,6 +63,23 @@ pub fn kept_deal(results: u8, holders: [u8; 52], holders2: [u8; 52]) -> [u8; 52]
     if results == 0 { holders2 } else { holders }
 }
 
+// The holders of a score's deal as it was taken; or 20 for the score, the refusal of the deal, or 28, beside so many results of the deal that a tally carries.
+pub fn dealt_refusal(
+    carried: [u8; 52],
+    results: u8,
+    score: i16,
+    dealt: Result<Dealt, Refused>,
+) -> Result<[u8; 52], Refused>
+    ensures { placed_of result ≡ dealt_by carried results score dealt }
+{
+    if !valid(score) {
+        return Err(Refusal::InvalidScore.at(0));
+    }
+    let taken = dealt?;
+    fouled_refusal(carried, results, taken.holders, 1)?;
+    Ok(taken.holders)
+}
+
 // The holders of a score's deal; or 20, 4 or 28 for the score with them, beside so many results of the deal that a tally carries.
 pub fn given_refusal(
     carried: [u8; 52],
@@ -73,10 +90,5 @@ pub fn given_refusal(
     ensures { placed_of result
         ≡ placed_by (given_by carried results score holders.now).number (given_by carried results score holders.now).place holders.now }
 {
-    if !valid(score) {
-        return Err(Refusal::InvalidScore.at(0));
-    }
-    let dealt = take(holders)?;
-    fouled_refusal(carried, results, dealt.holders, 1)?;
-    Ok(dealt.holders)
+    dealt_refusal(carried, results, score, take(holders))
 }
