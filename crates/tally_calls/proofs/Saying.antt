@@ -1,10 +1,11 @@
 -- What a call returns and leaves is what it says. Assumes nothing.
-use Prim.Native.Nat.{ℕ}
-use mathlib.Core.Path.{◌≡◌, subst, ap, refl}
+use Prim.Native.Nat.{ℕ, ◌≤◌, ◌<◌}
+use mathlib.Core.Path.{◌≡◌, ap, refl}
 use mathlib.Core.List.{List}
+use borrow.Author.Tests.{lt-ltb, le-ltb}
 use lib.ListN.{length}
 use Rattle.std.specs.Prelude.{Result, Ok, Err, MatchResult, IsOkAnd}
-use Rattle.laws.specs.Refusals.{Placed, refused_at, given}
+use Rattle.laws.specs.Refusals.{Placed, refused_at, given, refusal_number}
 use Rattle.laws.specs.Refused.{placed_of, number}
 use Rattle.laws.specs.declared.Refused.{Refused}
 use Rattle.tally_calls.specs.Calls.{number_of, buffer_left, in_room, spelled}
@@ -13,10 +14,17 @@ use Rattle.tally_calls.specs.Calls.{number_of, buffer_left, in_room, spelled}
 abbrev pub Says : Placed (List ℕ) → List ℕ → ℕ → List ℕ → Type 0
 Says said old number left = (number ≡ number_of said) × (left ≡ buffer_left said old)
 
--- what is put is what the call says
-pub says : (needed : ℕ) (old : List ℕ) {put said : Placed (List ℕ)} → put ≡ said → {number : ℕ} {left : List ℕ}
-    → Says (in_room needed (length old) put) old number left → Says (in_room needed (length old) said) old number left
-says needed old e {number} {left} s = subst (λ (p : Placed (List ℕ)). Says (in_room needed (length old) p) old number left) e s
+module _ (needed : ℕ) (said : Placed (List ℕ)) (old : List ℕ) where
+  -- a short buffer
+  pub says-short : length old < needed → {number : ℕ} → number ≡ refusal_number 1 0 → Says (in_room needed (length old) said) old number old
+  unfolding in_room buffer_left
+  says-short h e = rw (lt-ltb (length old) needed h) (e, refl)
+
+  -- one that is long enough
+  pub says-within : needed ≤ length old → {number : ℕ} {left : List ℕ} (put : Placed (List ℕ)) → put ≡ said → Says put old number left
+      → Says (in_room needed (length old) said) old number left
+  unfolding in_room
+  says-within h put e p = rw (le-ltb (length old) needed h, ← e) p
 
 -- an answer whose value is made bytes of is the answer spelled
 module _ {A B : Type 0} (bytes : B → List ℕ) (answer : Result A Refused → Placed B) (value : A → B) where

@@ -8,8 +8,8 @@ ghost use Rattle.std.specs.Prelude.{◌≡◌, length};
 ghost use Rattle.tally_calls.specs.Calls.{number_of, buffer_left, fresh_call, add_call, merge_call, matchpoints_call, award_call, cell_call, hundredths_call};
 ghost use Rattle.tally_calls.specs.Narrowed.{narrow_board, narrow_score};
 
-use putting::{cell_bytes, points_bytes, put, put_tally, shares_bytes};
-use tally_bytes::read;
+use putting::{cell_bytes, points_bytes, put, put_tally, shares_bytes, short};
+use tally_bytes::{TALLY_LENGTH, read};
 
 // A board of 8 bits; 0 for one over 127.
 fn narrow_board(board: u32) -> u8
@@ -39,6 +39,9 @@ pub fn tally_fresh(board: u32, out: &mut [u8]) -> u32
     ensures number { result ≡ number_of (fresh_call board (length out.old)) }
     ensures left { out.new ≡ buffer_left (fresh_call board (length out.old)) out.old }
 {
+    if out.len() < TALLY_LENGTH {
+        return short();
+    }
     put_tally(tally::fresh(narrow_board(board)), out)
 }
 
@@ -48,6 +51,9 @@ pub fn tally_add(tally: &[u8], score: i32, holders: &[u8], out: &mut [u8]) -> u3
     ensures left { out.new
         ≡ buffer_left (add_call tally.now score holders.now (length out.old)) out.old }
 {
+    if out.len() < TALLY_LENGTH {
+        return short();
+    }
     let answer = merging::add(read(tally), narrow_score(score), holders);
     put_tally(answer, out)
 }
@@ -58,6 +64,9 @@ pub fn tally_merge(a: &[u8], b: &[u8], out: &mut [u8]) -> u32
     ensures left { out.new
         ≡ buffer_left (merge_call a.now b.now (length out.old)) out.old }
 {
+    if out.len() < TALLY_LENGTH {
+        return short();
+    }
     put_tally(merging::merge(read(a), read(b)), out)
 }
 
@@ -67,6 +76,9 @@ pub fn tally_matchpoints(tally: &[u8], score: i32, holders: &[u8], points: &mut 
     ensures left { points.new
         ≡ buffer_left (matchpoints_call tally.now score holders.now (length points.old)) points.old }
 {
+    if points.len() < 4 {
+        return short();
+    }
     let answer = matchpoints::matchpoints(read(tally), narrow_score(score), holders);
     put(answer.map(points_bytes), points)
 }
@@ -76,6 +88,9 @@ pub fn tally_award(percent: u32, cell: &mut [u8]) -> u32
     ensures number { result ≡ number_of (award_call percent (length cell.old)) }
     ensures left { cell.new ≡ buffer_left (award_call percent (length cell.old)) cell.old }
 {
+    if cell.len() < 9 {
+        return short();
+    }
     put(percentages::award(percent).map(cell_bytes), cell)
 }
 
@@ -85,6 +100,9 @@ pub fn tally_cell(tally: &[u8], score: i32, holders: &[u8], cell: &mut [u8]) -> 
     ensures left { cell.new
         ≡ buffer_left (cell_call tally.now score holders.now (length cell.old)) cell.old }
 {
+    if cell.len() < 9 {
+        return short();
+    }
     let answer = percentages::cell_of(read(tally), narrow_score(score), holders);
     put(answer.map(cell_bytes), cell)
 }
@@ -95,6 +113,9 @@ pub fn tally_hundredths(tally: &[u8], score: i32, holders: &[u8], shares: &mut [
     ensures left { shares.new
         ≡ buffer_left (hundredths_call tally.now score holders.now (length shares.old)) shares.old }
 {
+    if shares.len() < 4 {
+        return short();
+    }
     let answer = hundredths::shares_of(read(tally), narrow_score(score), holders);
     put(answer.map(shares_bytes), shares)
 }

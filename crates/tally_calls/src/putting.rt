@@ -1,24 +1,22 @@
-// The answers of the calls put over the front of lent buffers, and the numbers returned; a buffer that is too short comes first.
-ghost use Rattle.std.specs.Prelude.{◌≡◌, not, ◌∷◌, T, length};
+// The answers of the calls put over the front of lent buffers that are long enough, and the numbers returned.
+ghost use Rattle.std.specs.Prelude.{◌≡◌, not, ◌∷◌, ◌≤◌, T, length};
 ghost use Rattle.std.specs.Float.{binary64};
 ghost use Rattle.std.specs.Float.Ieee.{is_nan, to_bits};
 ghost use Rattle.laws.specs.Record.{bytes_of};
 ghost use Rattle.laws.specs.Refusals.{given, refusal_number, short_buffer};
 ghost use Rattle.laws.specs.Refused.{placed_of};
-ghost use Rattle.tally.specs.InBytes.{tally_length};
 ghost use Rattle.tally.specs.Tallies.{tallied_of};
 ghost use Rattle.percentages.specs.Cells.{entered, Numbered};
-ghost use Rattle.tally_calls.specs.Calls.{number_of, buffer_left, in_room, tallied, two_each, cell_bytes};
+ghost use Rattle.tally_calls.specs.Calls.{number_of, buffer_left, tallied, two_each, cell_bytes};
 
 use hundredths::Shares;
 use laws::{Refusal, Refused};
 use matchpoints::BothSides;
 use percentages::Cell;
 use tally::Tally;
-use tally_bytes::TALLY_LENGTH;
 
 // The number of a buffer that is too short.
-fn short() -> u32
+pub(crate) fn short() -> u32
     ensures { result ≡ refusal_number short_buffer 0 }
 {
     u32::from(Refusal::ShortBuffer.at(0))
@@ -26,15 +24,13 @@ fn short() -> u32
 
 // The bytes of an answer.
 pub(crate) fn put<const N: usize>(answer: Result<[u8; N], Refused>, out: &mut [u8]) -> u32
-    ensures number { result ≡ number_of (in_room N (length out.old) (placed_of answer.entry)) }
-    ensures left { out.new ≡ buffer_left (in_room N (length out.old) (placed_of answer.entry)) out.old }
+    requires { N ≤ length out.old }
+    ensures number { result ≡ number_of (placed_of answer.entry) }
+    ensures left { out.new ≡ buffer_left (placed_of answer.entry) out.old }
 {
-    let Some(front) = out.first_chunk_mut::<N>() else {
-        return short();
-    };
     match answer {
         Ok(bytes) => {
-            *front = bytes;
+            out[..N].copy_from_slice(&bytes);
             0
         }
         Err(refused) => u32::from(refused),
@@ -43,12 +39,10 @@ pub(crate) fn put<const N: usize>(answer: Result<[u8; N], Refused>, out: &mut [u
 
 // The tally of an answer.
 pub(crate) fn put_tally(answer: Result<Tally, Refused>, out: &mut [u8]) -> u32
-    ensures number { result ≡ number_of (in_room tally_length (length out.old) (tallied (tallied_of answer))) }
-    ensures left { out.new ≡ buffer_left (in_room tally_length (length out.old) (tallied (tallied_of answer))) out.old }
+    requires { 398 ≤ length out.old }
+    ensures number { result ≡ number_of (tallied (tallied_of answer)) }
+    ensures left { out.new ≡ buffer_left (tallied (tallied_of answer)) out.old }
 {
-    if out.len() < TALLY_LENGTH {
-        return short();
-    }
     match answer {
         Ok(t) => {
             tally_bytes::write(t, out);
