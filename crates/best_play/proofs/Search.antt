@@ -19,6 +19,15 @@ module _ (side : ℕ) where
   abbrev pub worth_in : ℕ → Play → ℕ → ℕ
   worth_in left p c = gain_in side (step p c) + value_in side left (step p c)
 
+  -- what is told of the value by the side at turn, from a floor that is known
+  pub our_turn_lem : (left : ℕ) (p : Play) (high : ℕ) {b : Bool} {low floor r : ℕ} → b ≡ ours_in side p → b ≡ true → low ≡ floor
+      → r ≡ within low high (most_in side left p) → r ≡ within floor high (value_in side left p)
+  our_turn_lem left p high e t l f = f ∙ rw (l, ← e, t)
+
+  pub their_turn : (left : ℕ) (p : Play) (high : ℕ) {b : Bool} {low floor r : ℕ} → b ≡ ours_in side p → b ≡ false → low ≡ floor
+      → r ≡ within low high (least_in side left p) → r ≡ within floor high (value_in side left p)
+  their_turn left p high e t l f = f ∙ rw (l, ← e, t)
+
   -- one card, that may be played or not, with the numbers told from a floor to a ceiling
   module _ (left : ℕ) (p : Play) (c best floor ceiling : ℕ) where
     worth-is : {after : Play} {gained : ℕ} → after ≡ step p c → gained ≡ gain_in side after → gained + value_in side left after ≡ worth_in left p c

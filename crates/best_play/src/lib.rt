@@ -83,16 +83,15 @@ fn most(p: Play, side: u64, left: u8, window: Window) -> u16
         let gained = gain(after, side);
         let low = best.saturating_sub(gained);
         let high = ceiling - gained;
-        best = gained
-            + value(
-                after,
-                side,
-                left - 1,
-                Window {
-                    floor: low,
-                    ceiling: high,
-                },
-            );
+        let inner = Window {
+            floor: low,
+            ceiling: high,
+        };
+        if is_ours(after, side) {
+            best = gained + most(after, side, left - 1, inner);
+            continue;
+        }
+        best = gained + least(after, side, left - 1, inner);
     }
     best
 }
@@ -121,22 +120,20 @@ fn least(p: Play, side: u64, left: u8, window: Window) -> u16
         let gained = gain(after, side);
         let low = floor.saturating_sub(gained);
         let high = best - gained;
-        best = gained
-            + value(
-                after,
-                side,
-                left - 1,
-                Window {
-                    floor: low,
-                    ceiling: high,
-                },
-            );
+        let inner = Window {
+            floor: low,
+            ceiling: high,
+        };
+        if is_ours(after, side) {
+            best = gained + most(after, side, left - 1, inner);
+            continue;
+        }
+        best = gained + least(after, side, left - 1, inner);
     }
     best
 }
 
 // The most where a player of the side is at turn, and else the least.
-#[cycle(search)]
 fn value(p: Play, side: u64, left: u8, window: Window) -> u16
     ensures told { result ≡ within window.floor window.ceiling (value_in side left p) }
     ensures from { window.floor ≤ result }

@@ -1,8 +1,8 @@
--- `most`, `least` and `value` meet their contracts, by the cards left. Assumes nothing.
+-- `most` and `least` meet their contracts, by the cards left. Assumes nothing.
 use Rattle.std.proofs.Common.{◌≡◌, ◌-◌, ◌∙◌, ℕ, ap, arith}
 use Rattle.laws.specs.BestPlay.{greatest, smallest}
 use Rattle.best_play.specs.Search.{within, may_in}
-use Rattle.best_play.proofs.Search.{worth_in, more_with, more-without, less_with, less_without, most-none, least-none}
+use Rattle.best_play.proofs.Search.{worth_in, our_turn_lem, their_turn, more_with, more-without, less_with, less_without, most-none, least-none}
 use Rattle.best_play.proofs.Search.{most_starts, least_starts, most_stops, least_stops, most-all, least-all}
 use Rattle.best_play.proofs.+search.Goals as goal
 
@@ -29,15 +29,32 @@ least-loop-card-preserved-then-not-may_play t c =
       to = l.invariant.to;
     }
 
+pub least-loop-card-preserved-then-is_ours : goal.least-loop-card-preserved-then-is_ours
+least-loop-card-preserved-then-is_ours t c =
+    let a = c.args in
+    let l = c.loop-card in
+    let value =
+    our_turn_lem a.side (a.left - 1) _ (l.best - c.gain-gained.result)
+    c.is_ours.ensures c.if-is_ours.true c.saturating_sub-low.ensures c.most.ensures.told in
+    record {
+      told = less_with a.side (a.left - 1) a.p l.card l.best a.window.floor a.window.ceiling l.invariant.told c.may_play.ensures
+          c.if-not-may_play.false c.play-after.ensures c.gain-gained.ensures.gain c.gain-gained.ensures.one (omega (arith, l.invariant.from, c.if-best-floor.false)) l.invariant.to value;
+      from = omega (arith, c.most.ensures.from, c.saturating_sub-low.ensures, c.gain-gained.ensures.one, l.invariant.from, l.invariant.to);
+      to = omega (arith, c.most.ensures.to, c.gain-gained.ensures.one, l.invariant.from, l.invariant.to);
+    }
+
 pub least-loop-card-preserved : goal.least-loop-card-preserved
 least-loop-card-preserved t c =
     let a = c.args in
     let l = c.loop-card in
-    let value = rw c.saturating_sub-low.ensures at c.value.ensures.told in record {
-      told = less_with a.side (a.left - 1) a.p l.card l.best a.window.floor a.window.ceiling l.invariant.told c.may_play.ensures c.if-not-may_play.false c.play-after.ensures
-          c.gain-gained.ensures.gain c.gain-gained.ensures.one (omega (arith, l.invariant.from, c.if-best-floor.false)) l.invariant.to value;
-      from = omega (arith, c.value.ensures.from, c.saturating_sub-low.ensures, c.gain-gained.ensures.one, l.invariant.from, l.invariant.to);
-      to = omega (arith, c.value.ensures.to, c.gain-gained.ensures.one, l.invariant.from, l.invariant.to);
+    let value =
+    their_turn a.side (a.left - 1) _ (l.best - c.gain-gained.result)
+    c.is_ours.ensures c.if-is_ours.false c.saturating_sub-low.ensures c.least.ensures.told in
+    record {
+      told = less_with a.side (a.left - 1) a.p l.card l.best a.window.floor a.window.ceiling l.invariant.told c.may_play.ensures
+          c.if-not-may_play.false c.play-after.ensures c.gain-gained.ensures.gain c.gain-gained.ensures.one (omega (arith, l.invariant.from, c.if-best-floor.false)) l.invariant.to value;
+      from = omega (arith, c.least.ensures.from, c.saturating_sub-low.ensures, c.gain-gained.ensures.one, l.invariant.from, l.invariant.to);
+      to = omega (arith, c.least.ensures.to, c.gain-gained.ensures.one, l.invariant.from, l.invariant.to);
     }
 
 pub least-returns-clause-told : goal.least-returns-clause-told
@@ -70,15 +87,32 @@ most-loop-card-preserved-then-not-may_play t c =
       to = l.invariant.to;
     }
 
+pub most-loop-card-preserved-then-is_ours : goal.most-loop-card-preserved-then-is_ours
+most-loop-card-preserved-then-is_ours t c =
+    let a = c.args in
+    let l = c.loop-card in
+    let value =
+    our_turn_lem a.side (a.left - 1) _ (a.window.ceiling - c.gain-gained.result)
+    c.is_ours.ensures c.if-is_ours.true c.saturating_sub-low.ensures c.most.ensures.told in
+    record {
+      told = more_with a.side (a.left - 1) a.p l.card l.best a.window.floor a.window.ceiling l.invariant.told c.may_play.ensures
+          c.if-not-may_play.false c.play-after.ensures c.gain-gained.ensures.gain c.gain-gained.ensures.one (omega (arith, l.invariant.to, c.if-best-ceiling.false)) value;
+      from = omega (arith, c.most.ensures.from, c.saturating_sub-low.ensures, c.gain-gained.ensures.one, l.invariant.from, l.invariant.to);
+      to = omega (arith, c.most.ensures.to, c.gain-gained.ensures.one, l.invariant.from, l.invariant.to);
+    }
+
 pub most-loop-card-preserved : goal.most-loop-card-preserved
 most-loop-card-preserved t c =
     let a = c.args in
     let l = c.loop-card in
-    let value = rw c.saturating_sub-low.ensures at c.value.ensures.told in record {
-      told = more_with a.side (a.left - 1) a.p l.card l.best a.window.floor a.window.ceiling l.invariant.told c.may_play.ensures c.if-not-may_play.false c.play-after.ensures
-          c.gain-gained.ensures.gain c.gain-gained.ensures.one (omega (arith, l.invariant.to, c.if-best-ceiling.false)) value;
-      from = omega (arith, c.value.ensures.from, c.saturating_sub-low.ensures, c.gain-gained.ensures.one, l.invariant.from, l.invariant.to);
-      to = omega (arith, c.value.ensures.to, c.gain-gained.ensures.one, l.invariant.from, l.invariant.to);
+    let value =
+    their_turn a.side (a.left - 1) _ (a.window.ceiling - c.gain-gained.result)
+    c.is_ours.ensures c.if-is_ours.false c.saturating_sub-low.ensures c.least.ensures.told in
+    record {
+      told = more_with a.side (a.left - 1) a.p l.card l.best a.window.floor a.window.ceiling l.invariant.told c.may_play.ensures
+          c.if-not-may_play.false c.play-after.ensures c.gain-gained.ensures.gain c.gain-gained.ensures.one (omega (arith, l.invariant.to, c.if-best-ceiling.false)) value;
+      from = omega (arith, c.least.ensures.from, c.saturating_sub-low.ensures, c.gain-gained.ensures.one, l.invariant.from, l.invariant.to);
+      to = omega (arith, c.least.ensures.to, c.gain-gained.ensures.one, l.invariant.from, l.invariant.to);
     }
 
 pub most-returns-clause-told : goal.most-returns-clause-told

@@ -1,19 +1,15 @@
--- The cards left fall from `most` and `least` to `value`, which asks one of them with as many; a card more is tried at each turn of their loops.
--- Assumes nothing.
-use Rattle.std.proofs.Common.{◌≡◌, ◌+◌, ◌*◌, ◌-◌, ◌≤◌}
+-- The cards left fall at each call of `most` and `least`; a card more is tried at each turn of their loops. Assumes nothing.
+use Rattle.std.proofs.Common.{◌≡◌, ◌-◌, ◌≤◌}
 use Rattle.laws.specs.BestPlay.{greatest, smallest}
 use Rattle.best_play.specs.Search.{within, may_in}
 use Rattle.best_play.proofs.Search.{worth_in}
 use Rattle.best_play.proofs.+search.Given as goal
 
 abbrev pub decreases-least : goal.decreases-least
-decreases-least l = 2 * l.left
+decreases-least l = l.left
 
 abbrev pub decreases-most : goal.decreases-most
-decreases-most l = 2 * l.left
-
-abbrev pub decreases-value : goal.decreases-value
-decreases-value l = 2 * l.left + 1
+decreases-most l = l.left
 
 abbrev pub invariant-least-loop-card : goal.invariant-least-loop-card
 invariant-least-loop-card l = record {
