@@ -1,15 +1,15 @@
 -- Texts put one after the other. Assumes nothing.
 use Prim.Native.Nat.{ℕ, zero, suc, ◌+◌, ◌≤◌, ◌<◌}
+use native.Mathlib.Numerals.{add-one}
 use native.Mathlib.Omega.{arith}
 use mathlib.Core.Path.{◌≡◌, refl, sym, ap, ◌∙◌, subst}
 use mathlib.Core.Bool.{true, false}
-use mathlib.Core.List.{List, [], ◌∷◌, ◌++◌, append_assoc}
+use mathlib.Core.List.{List, [], ◌∷◌, ◌++◌}
 use borrow.Author.Tests.{le-leb, lt-leb, leb-true, leb-false}
 use lib.Dec.{leb}
-use borrow.Rule.Slice.PartMut.{put_mid}
 use Rattle.std.specs.Prelude.{min, ◌-◌}
-use lib.ListN.{length, take, drop, set, length-append, length-drop, take-append-drop}
-use lib.Seq.{sets, length-sets, sets-eq, length-take-le, take_at, take_all, drop-drop}
+use lib.ListN.{length, take, drop, get_or, set, length-append, length-drop, take-append-drop}
+use lib.Seq.{sets, length-sets, sets-eq, take-suc, length-take-le, take_at, take_all}
 use Rattle.laws.specs.Fitting.{fits}
 use Rattle.laws.proofs.Tests.{by_test}
 use Rattle.std.specs.Prelude.{Option, Some, None}
@@ -111,7 +111,13 @@ put_again p = record { place = p.place; bytes = refl; within = rw p.bytes p.with
 pub put_since : {o l m : List ℕ} {at n to k : ℕ} {s : List ℕ} → Put o at [] l n → Put l to s m k → Put o to s m k
 put_since {o} {l} {m} {at} {n} {to} {k} {s} p q = subst (λ (x : List ℕ). Put x to s m k) p.bytes q
 
--- ---- a text copied at once
+-- ---- a text put byte by byte, as far as there is room
+module _ (o bytes : List ℕ) (at i : ℕ) where
+  pub put_one : i < length bytes → set (sets o at (take i bytes)) (at + i) (get_or bytes i 0) ≡ sets o at (take (i + 1) bytes)
+  put_one h =
+      let n : length (take i bytes) ≡ i = length-take-le i bytes (omega arith) in
+      rw (add-one i, take-suc bytes i 0 h) (sym (sets_append o at (take i bytes) (get_or bytes i 0 ∷ []) ∙ rw n))
+
 module _ (o bytes : List ℕ) (at start n : ℕ) (from : start ≡ min at (length o)) (many : n ≡ min (length bytes) (length o - start)) where
   -- there is room for some of it, or for all
   put_room : at ≤ length o → sets o at (take n bytes) ≡ sets o at bytes
@@ -126,22 +132,17 @@ module _ (o bytes : List ℕ) (at start n : ℕ) (from : start ≡ min at (lengt
       sym (rw (take-append-drop n bytes, count) at whole
       ∙ sets-beyond (sets o at (take n bytes)) (at + n) (drop n bytes) (omega (arith, length-sets o at (take n bytes)))))
 
-  pub put_copied : put_mid start (start + n - start) o (take n bytes) ≡ sets o at bytes
-  put_copied =
+  pub put_whole : sets o start (take n bytes) ≡ sets o at bytes
+  put_whole =
       by_test (leb at (length o))
       (λ (q : leb at (length o) ≡ true).
       let within : at ≤ length o = leb-true _ _ q in
       let same : start ≡ at = omega arith in
-      let count : length (take n bytes) ≡ n = length-take-le n bytes (omega arith) in
-      let copied = sets-eq (take n bytes) o at (omega (arith, count)) in
-      let width : at + n - at ≡ n = omega arith in
-      rw (same, width, drop-drop) (sym (append_assoc (take at o) (take n bytes) (drop (at + n) o)) ∙ sym (rw count at copied) ∙ put_room within))
+      rw same (put_room within))
       (λ (q : leb at (length o) ≡ false).
       let past : length o < at = leb-false _ _ q in
-      let last : start ≡ length o = omega arith in
       let none : n ≡ 0 = omega arith in
-      let width : length o + 0 - length o ≡ 0 = omega arith in
-      rw (last, none, width) (take-append-drop (length o) o ∙ sym (sets-beyond o at bytes (omega arith))))
+      rw none (sym (sets-beyond o at bytes (omega arith))))
 
 -- from the first place: the text, and then the bytes that were after it
 pub put_front : (o l : List ℕ) (s : List ℕ) (n : ℕ) → Put o 0 s l n → length s ≤ length o → l ≡ s ++ drop (length s) o

@@ -14,7 +14,10 @@ pub fn put_bytes(out: &mut [u8], at: usize, bytes: &[u8]) -> usize
 {
     let start = at.min(out.len());
     let n = bytes.len().min(out.len() - start);
-    out[start..start + n].copy_from_slice(&bytes[..n]);
+    // Byte by byte: a slice of any length copied at once asks for `memmove` from outside the archive for C.
+    for i in 0..n {
+        out[start + i] = bytes[i];
+    }
     at.saturating_add(bytes.len())
 }
 
