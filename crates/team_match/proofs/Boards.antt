@@ -1,30 +1,50 @@
 -- The boards of a state: how many, and which, by the places that hold. Assumes nothing.
-use Prim.Native.Nat.{ℕ, zero, suc, ◌<◌, ◌+◌}
+use Prim.Native.Nat.{ℕ, zero, suc, ◌≤◌, ◌<◌, ◌+◌}
 use native.Mathlib.Nat.{add-zero, zero-add}
+use native.Mathlib.Numerals.{add-one}
 use native.Mathlib.Omega.{arith}
 use mathlib.Core.Path.{◌≡◌, refl, sym, ap, ◌∙◌, subst}
-use mathlib.Core.Bool.{Bool, true, false, ◌||◌, cond}
+use mathlib.Core.Bool.{Bool, true, false, ◌||◌}
 use mathlib.Core.List.{List, [], ◌∷◌}
 use borrow.Author.Tests.{eq-eqb, ne_eqb, eqb-true, eqb-false}
 use lib.Dec.{eqb}
-use lib.ListN.{length, get_or, set, replicate}
-use lib.Seq.{get_or-set_same, get_or-set_other}
-use Rattle.std.specs.List.{count_by}
-use Rattle.std.proofs.lemmas.List.Sums.{sum_by-cons}
+use lib.ListN.{length, get_or, drop, set, replicate}
+use lib.Seq.{drop-cons, get_or-set_same, get_or-set_other}
+use mir.Val.{bool_byte}
 use Rattle.laws.specs.Choice.{some}
 use Rattle.laws.specs.TeamMatch.{is_used}
 use Rattle.laws.proofs.Tests.{by_test}
 use Rattle.team_match.specs.Matches.{places_from}
 
-one_added : (n : ℕ) → 1 + n ≡ suc n
-one_added n = omega arith
+-- how many places hold from a place on
+abbrev pub count_from : List Bool → ℕ → ℕ
+count_from l i = length (places_from i (drop i l))
 
--- how many places hold
-pub held-places : (i : ℕ) (l : List Bool) → count_by (λ (place : Bool). place) l ≡ length (places_from i l)
+pub count_held : (l : List Bool) (i : ℕ) → i < length l → get_or l i false ≡ true → count_from l i ≡ suc (count_from l (i + 1))
 unfolding places_from
-held-places i [] = refl
-held-places i (true ∷ l) = sum_by-cons (λ (place : Bool). cond place 1 0) true l ∙ (one_added (count_by (λ (place : Bool). place) l) ∙ ap suc (held-places (suc i) l))
-held-places i (false ∷ l) = sum_by-cons (λ (place : Bool). cond place 1 0) false l ∙ (zero-add _ ∙ held-places (suc i) l)
+count_held l i h e = rw (add-one, drop-cons l i false h, e)
+
+pub count-not : (l : List Bool) (i : ℕ) → i < length l → get_or l i false ≡ false → count_from l i ≡ count_from l (i + 1)
+unfolding places_from
+count-not l i h e = rw (add-one, drop-cons l i false h, e)
+
+none-behind : (l : List Bool) (i k : ℕ) → length l ≤ i → length (places_from k (drop i l)) ≡ 0
+unfolding places_from
+none-behind [] zero k h = refl
+none-behind [] (suc i) k h = refl
+none-behind (b ∷ l) zero k h = absurd (omega arith)
+none-behind (b ∷ l) (suc i) k h = none-behind l i k (omega arith)
+
+pub count_end : (l : List Bool) (i : ℕ) → length l ≤ i → count_from l i ≡ 0
+count_end l i h = none-behind l i i h
+
+-- one place more: a place that holds counts as 1, and another as 0
+pub count_next : (l : List Bool) (i n b : ℕ) → i < length l → b ≡ bool_byte (get_or l i false) → n ≤ i → count_from l 0 ≡ n + count_from l i
+    → (n + b ≤ i + 1) × (count_from l 0 ≡ (n + b) + count_from l (i + 1))
+count_next l i n b h e m q =
+    by_test (get_or l i false)
+    (λ (t : get_or l i false ≡ true). let one : b ≡ 1 = rw t at e in (omega arith, omega (arith, q, count_held l i h t)))
+    (λ (t : get_or l i false ≡ false). let none : b ≡ 0 = rw t at e in (omega arith, omega (arith, q, count-not l i h t)))
 
 -- ---- which boards
 pub none_before : (b i : ℕ) (l : List Bool) → b < i → is_used b (places_from i l) ≡ false
