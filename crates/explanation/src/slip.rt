@@ -138,6 +138,9 @@ fn items_in(bits: u64) -> Items
 pub fn explain(bytes: &[u8]) -> Result<Items, Refused>
     ensures { placed_of result ≡ explained_of (judge_of bytes.now least_rooms) }
 {
-    let judged = judge(bytes)?;
-    Ok(items_in(judged.bits))
+    // A match, not `?`: a refused edit changes the place that is handed on.
+    match judge(bytes) {
+        Ok(judged) => Ok(items_in(judged.bits)),
+        Err(refused) => Err(refused),
+    }
 }
